@@ -1,0 +1,38 @@
+-- Document 01, 'Calls and refusal numbers': a call has rows, each with a number and what it is given for, and of the
+-- rows that apply the smallest number is given. A row is a number with the answer to 'does it apply to this input?'.
+-- 0 is no row's number: it stands for 'no row applies'.
+use Prim.Native.Nat.{ℕ, _≤_, _<_}
+use mathlib.Core.Bool.{Bool, true, false}
+use mathlib.Core.List.{List, [], _∷_}
+use mathlib.Core.Path.{_≡_}
+
+-- one row: its number, and whether it applies
+pub record Row : Type 0 where
+  pub number : ℕ
+  pub applies : Bool
+
+-- n where the test is met, else what follows
+abbrev pub orElse : Bool → ℕ → ℕ → ℕ
+orElse true n rest = n
+orElse false n rest = rest
+
+-- the number of the first row that applies, and 0 where none does
+unfoldable pub first : List Row → ℕ
+first [] = 0
+first (r ∷ rows) = orElse (r .applies) (r .number) (first rows)
+
+-- the rows stand in the order of their numbers, each above `low`
+pub data Ascending : ℕ → List Row → Type 0 where
+  none : {low : ℕ} → Ascending low []
+  more : {low : ℕ} {r : Row} {rows : List Row} → low < r .number → Ascending (r .number) rows → Ascending low (r ∷ rows)
+
+-- some row of the list that has the number n applies
+pub data Applies (n : ℕ) : List Row → Type 0 where
+  here : {r : Row} {rows : List Row} → r .number ≡ n → r .applies ≡ true → Applies n (r ∷ rows)
+  later : {r : Row} {rows : List Row} → Applies n rows → Applies n (r ∷ rows)
+
+-- n is what the document asks for: a row with the number n applies, and no row that applies has a smaller number;
+-- or n is 0 and no row applies
+pub data Given (rows : List Row) : ℕ → Type 0 where
+  refused : {n : ℕ} → Applies n rows → ((m : ℕ) → Applies m rows → n ≤ m) → Given rows n
+  accepted : ((m : ℕ) → Applies m rows → ⊥) → Given rows 0
