@@ -1,0 +1,55 @@
+-- The first row that applies is the smallest that applies, where the rows stand in the order of their numbers; and the
+-- document's words leave one number only.
+use Prim.Native.Nat.{ℕ, _≤_, _<_}
+use mathlib.Core.Bool.{Bool, true, false, false≢true}
+use mathlib.Core.List.{List, [], _∷_}
+use mathlib.Core.Path.{_≡_, refl, ap, sym, subst}
+use native.Mathlib.Omega.{arith}
+use native.Mathlib.Nat.{le-antisymm}
+use Rattle.refusal.specs.Rows.{Row, orElse, first, Ascending, none, more, Applies, here, later, Given, refused, accepted}
+
+-- every row of an ascending list that applies has a number above the bound
+above : {low : ℕ} {rows : List Row} → Ascending low rows → (m : ℕ) → Applies m rows → low < m
+above (more h t) m (here e a) = omega arith
+above (more h t) m (later w) =
+    let r = above t m w in
+    omega arith
+
+-- no row applies that is not the first, if the first does not and none of the rest does
+not-later : {n m : ℕ} {rows : List Row} → ((k : ℕ) → Applies k rows → ⊥) →
+    Applies m (record { number = n; applies = false } ∷ rows) → ⊥
+not-later no-row (here e a) = false≢true a
+not-later no-row (later w) = no-row _ w
+
+-- a row that applies and is not the first is one of the rest, if the first does not apply
+is-later : {n m : ℕ} {rows : List Row} → Applies m (record { number = n; applies = false } ∷ rows) → Applies m rows
+is-later (here e a) = absurd (false≢true a)
+is-later (later w) = w
+
+-- the number of a first row that applies is the least of all that apply
+least-first : {n : ℕ} {a : Bool} {rows : List Row} → Ascending n rows →
+    (m : ℕ) → Applies m (record { number = n; applies = a } ∷ rows) → n ≤ m
+least-first t m (here e a) = omega arith
+least-first t m (later w) =
+    let r = above t m w in
+    omega arith
+
+-- one row more in front, with the number n and the answer a
+step : (n : ℕ) (a : Bool) {rows : List Row} → Ascending n rows → {k : ℕ} → Given rows k →
+    Given (record { number = n; applies = a } ∷ rows) (orElse a n k)
+step n true t g = refused (here refl refl) (least-first t)
+step n false t (refused w least) = refused (later w) (λ m v. least m (is-later v))
+step n false t (accepted no-row) = accepted (λ m v. not-later no-row v)
+
+-- document 01: of the rows belonging to a call, the smallest number that applies is given
+pub smallest : {low : ℕ} {rows : List Row} → Ascending low rows → Given rows (first rows)
+unfolding first
+smallest none = accepted (λ m. elim [ ])
+smallest (more {r = r} h t) = step (r .number) (r .applies) t (smallest t)
+
+-- and no other number is
+pub one-number : {rows : List Row} {m n : ℕ} → Given rows m → Given rows n → m ≡ n
+one-number (refused a la) (refused b lb) = le-antisymm (la _ b) (lb _ a)
+one-number (refused a la) (accepted no-row) = absurd (no-row _ a)
+one-number (accepted no-row) (refused b lb) = absurd (no-row _ b)
+one-number (accepted p) (accepted q) = refl

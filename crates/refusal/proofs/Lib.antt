@@ -1,0 +1,2 @@
+-- What every call's proof cites about refusal numbers.
+pub mod Laws
