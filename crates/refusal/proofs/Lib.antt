@@ -1,2 +1,3 @@
--- What every call's proof cites about refusal numbers.
+-- What every call's proof cites about refusal numbers and answers.
+pub mod Answered
 pub mod Laws

@@ -1,0 +1,133 @@
+-- Laws of `sum`, `every` and `table`, each said once over the function or the test. Those that end in `-more` are for the
+-- next turn of a loop that counts up.
+use Prim.Native.Nat.{ℕ, zero, suc, _+_, _*_, _≤_, _<_}
+use mathlib.Core.Bool.{Bool, true, false, _&&_, not, true≢false}
+use mathlib.Core.List.{List, [], _∷_, _++_}
+use mathlib.Core.Path.{_≡_, refl, sym, ap, ap₂, subst, _∙_}
+use native.Mathlib.Numerals.{add-one}
+use native.Mathlib.Nat.{le-of-lt, suc-mul, mul-le-mul-left, add-zero}
+use native.Mathlib.Omega.{arith}
+use native.Mathlib.Decide.{decLt}
+use lib.ListN.{length, getD, set, length-append, length-set, List·getD-append}
+use lib.Seq.{ext-getD, getD-at, getD-set-same, getD-set-other}
+use Rattle.counting.specs.Below.{sum, every, table}
+
+-- a number below the next is below this one, or is it
+below-next : {P : ℕ → Type 0} {n : ℕ} → ((k : ℕ) → k < n → P k) → P n → (k : ℕ) → k < suc n → P k
+below-next {P} {n} h last k l = go (decLt k n)
+  where
+    go : Dec (k < n) → P k
+    go (yes less) = h k less
+    go (no more) =
+        let e : n ≡ k = omega arith in
+        subst P e last
+
+-- ---- sums
+
+pub sum-none : (f : ℕ → ℕ) → sum 0 f ≡ 0
+unfolding sum
+sum-none f = refl
+
+pub sum-more : (n : ℕ) (f : ℕ → ℕ) → sum (n + 1) f ≡ sum n f + f n
+unfolding sum
+sum-more n f = ap (λ (k : ℕ). sum k f) (add-one n)
+
+-- sums of functions that agree below n are equal
+pub sum-same : (n : ℕ) {f g : ℕ → ℕ} → ((k : ℕ) → k < n → f k ≡ g k) → sum n f ≡ sum n g
+unfolding sum
+sum-same zero h = refl
+sum-same (suc n) h = ap₂ (λ (a b : ℕ). a + b) (sum-same n (λ k l. h k (omega arith))) (h n (omega arith))
+
+-- a part of a sum is at most the whole
+pub term-le-sum : (n : ℕ) (f : ℕ → ℕ) (k : ℕ) → k < n → f k ≤ sum n f
+unfolding sum
+term-le-sum zero f k l = omega arith
+term-le-sum (suc n) f k l = below-next {P = λ k. f k ≤ sum n f + f n}
+    (λ k l.
+    let r = term-le-sum n f k l in
+    omega arith)
+    (omega arith) k l
+
+-- ---- tests
+
+pub every-none : (test : ℕ → Bool) → every 0 test ≡ true
+unfolding every
+every-none test = refl
+
+and-true : {a b : Bool} → a ≡ true → b ≡ true → (a && b) ≡ true
+and-true p q = ap₂ (λ (a b : Bool). a && b) p q
+
+left-of : (a b : Bool) → (a && b) ≡ true → a ≡ true
+left-of true b e = refl
+left-of false b e = e
+
+right-of : (a b : Bool) → (a && b) ≡ true → b ≡ true
+right-of true b e = e
+right-of false b e = absurd (true≢false (sym e))
+
+pub every-more : (n : ℕ) (test : ℕ → Bool) → every n test ≡ true → test n ≡ true → every (n + 1) test ≡ true
+unfolding every
+every-more n test h last = ap (λ (k : ℕ). every k test) (add-one n) ∙ and-true h last
+
+-- what `every` says, both ways
+pub every-at : (n : ℕ) (test : ℕ → Bool) → every n test ≡ true → (k : ℕ) → k < n → test k ≡ true
+unfolding every
+every-at zero test h k l = absurd (omega arith)
+every-at (suc n) test h k l =
+    below-next (every-at n test (left-of (every n test) (test n) h)) (right-of (every n test) (test n) h) k l
+
+pub every-all : (n : ℕ) (test : ℕ → Bool) → ((k : ℕ) → k < n → test k ≡ true) → every n test ≡ true
+unfolding every
+every-all zero test h = refl
+every-all (suc n) test h = and-true (every-all n test (λ k l. h k (omega arith))) (h n (omega arith))
+
+is-not-true : (a : Bool) → (a ≡ true → ⊥) → a ≡ false
+is-not-true true h = absurd (h refl)
+is-not-true false h = refl
+
+-- one number that does not meet the test is enough
+pub every-but : (n : ℕ) (test : ℕ → Bool) (k : ℕ) → k < n → test k ≡ false → every n test ≡ false
+every-but n test k l e = is-not-true (every n test) (λ h. true≢false (sym (every-at n test h k l) ∙ e))
+
+pub every-same : (n : ℕ) {p q : ℕ → Bool} → ((k : ℕ) → k < n → p k ≡ q k) → every n p ≡ every n q
+unfolding every
+every-same zero h = refl
+every-same (suc n) h = ap₂ (λ (a b : Bool). a && b) (every-same n (λ k l. h k (omega arith))) (h n (omega arith))
+
+-- ---- tables
+
+module _ {A : Type 0} where
+  pub table-none : (f : ℕ → A) → table 0 f ≡ []
+  unfolding table
+  table-none f = refl
+
+  pub length-table : (n : ℕ) (f : ℕ → A) → length (table n f) ≡ n
+  unfolding table
+  length-table zero f = refl
+  length-table (suc n) f = length-append (table n f) (f n ∷ []) ∙ ap (λ (k : ℕ). k + 1) (length-table n f) ∙ add-one n
+
+  pub table-at : (n : ℕ) (f : ℕ → A) (d : A) (k : ℕ) → k < n → getD (table n f) k d ≡ f k
+  unfolding table
+  table-at zero f d k l = absurd (omega arith)
+  table-at (suc n) f d k l = below-next {P = λ k. getD (table n f ++ (f n ∷ [])) k d ≡ f k}
+      (λ k l.
+      let e = length-table n f in
+      List·getD-append (table n f) (f n ∷ []) d k (omega arith) ∙ table-at n f d k l)
+      (getD-at (table n f) (f n) [] d n (length-table n f)) k l
+
+  -- a list of n elements, each of them f's, is the table
+  pub table-is : (n : ℕ) (f : ℕ → A) (d : A) (l : List A) → length l ≡ n → ((k : ℕ) → k < n → getD l k d ≡ f k) → l ≡ table n f
+  table-is n f d l e h =
+      ext-getD d l (table n f) (e ∙ sym (length-table n f)) (λ k less. h k (omega arith) ∙ sym (table-at n f d k (omega arith)))
+
+  pub table-same : (n : ℕ) (f g : ℕ → A) (d : A) → ((k : ℕ) → k < n → f k ≡ g k) → table n f ≡ table n g
+  table-same n f g d h = table-is n g d (table n f) (length-table n f) (λ k l. table-at n f d k l ∙ h k l)
+
+  -- a loop that fills a list from the front: one more place holds f's
+  pub filled-more : (f : ℕ → A) (d : A) (l : List A) (i : ℕ) → i < length l →
+      ((k : ℕ) → k < i → getD l k d ≡ f k) → (k : ℕ) → k < i + 1 → getD (set l i (f i)) k d ≡ f k
+  filled-more f d l i less h k small = subst (λ (j : ℕ). k < j → getD (set l i (f i)) k d ≡ f k) (sym (add-one i))
+      (λ m. below-next {P = λ k. getD (set l i (f i)) k d ≡ f k}
+      (λ k m. getD-set-other l i k (f i) d (omega arith) ∙ h k m)
+      (getD-set-same l i (f i) d less) k m)
+      small
