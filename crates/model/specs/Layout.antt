@@ -1,0 +1,82 @@
+-- Document 01, 'The model file': the layout, said once for reading and writing. `fieldsOf` takes the fields out of a file,
+-- `byteAt` says which byte stands where in the file of a model, and `fileOf` is that file.
+use Prim.Native.Nat.{ℕ, zero, suc, _+_, _-_, _*_, _/_, _%_}
+use mathlib.Core.Bool.{Bool, cond}
+use mathlib.Core.List.{List, [], _∷_}
+use lib.Dec.{ltb}
+use lib.ListN.{getD}
+use Rattle.counting.specs.Below.{table}
+use Rattle.block.specs.Block.{byteOf, lowByte, highByte, two, four, checkOf}
+use Rattle.model.specs.declared.Model.{Model}
+
+-- ---- the fields of a model
+
+-- the label mask of state s, and the weight from state s to state t; 0 for a state that the record has no room for
+abbrev pub maskOf : Model → ℕ → ℕ
+maskOf m s = getD (m .masks) s 0
+
+abbrev pub weightOf : Model → ℕ → ℕ → ℕ
+weightOf m s t = getD (getD (m .weights .rows) s []) t 0
+
+-- ---- the fields as they stand in a file
+
+-- the number of two bytes from byte j of block i, and of four
+abbrev pub twoAt : List ℕ → ℕ → ℕ → ℕ
+twoAt file i j = two (byteOf file i j) (byteOf file i (j + 1))
+
+abbrev pub fourAt : List ℕ → ℕ → ℕ → ℕ
+fourAt file i j = four (byteOf file i j) (byteOf file i (j + 1)) (byteOf file i (j + 2)) (byteOf file i (j + 3))
+
+-- two bytes a state from byte 8 of block 0: its label mask
+abbrev pub maskAt : List ℕ → ℕ → ℕ
+maskAt file s = twoAt file 0 (8 + 2 * s)
+
+-- state s stands in block 1 + s / 7, in 64 bytes from 2 + 64 × (s mod 7): 32 weights of two bytes, column t the weight from s to t
+abbrev pub weightAt : List ℕ → ℕ → ℕ → ℕ
+weightAt file s t = twoAt file (1 + s / 7) (2 + 64 * (s % 7) + 2 * t)
+
+-- byte 1 is N, byte 2 is A, bytes 4..7 are D
+unfoldable pub fieldsOf : List ℕ → Model
+fieldsOf file = record {
+  n = byteOf file 0 1;
+  a = byteOf file 0 2;
+  d = fourAt file 0 4;
+  masks = table 32 (maskAt file);
+  weights = record { rows = table 32 (λ s. table 32 (weightAt file s)) };
+}
+
+-- ---- the file of a model
+
+-- byte 0 or 1 of a number of two bytes: the low one, then the high one
+abbrev pub byteOfTwo : ℕ → ℕ → ℕ
+byteOfTwo x k = cond (ltb k 1) (lowByte x) (highByte x)
+
+-- block 0: byte 0 is 1, byte 1 is N, byte 2 is A, byte 3 is 0, bytes 4..7 are D, two bytes a state from byte 8 are its
+-- mask; the rest is zero (there is no state from 32 on, so its mask is 0)
+unfoldable pub headByte : Model → ℕ → ℕ
+headByte m j =
+    getD (1 ∷ m .n ∷ m .a ∷ 0 ∷ lowByte (m .d) ∷ highByte (m .d) ∷ lowByte (m .d / 65536) ∷ highByte (m .d / 65536) ∷ []) j
+    (byteOfTwo (maskOf m ((j - 8) / 2)) ((j - 8) % 2))
+
+-- block i, for i = 1, 2, ..: byte 0 is 2, byte 1 is i; then the rows of seven states, 64 bytes each; bytes 450..509 are zero
+unfoldable pub rowByte : Model → ℕ → ℕ → ℕ
+rowByte m i j =
+    getD (2 ∷ i ∷ []) j
+    (cond (ltb j 450) (byteOfTwo (weightOf m (7 * (i - 1) + (j - 2) / 64) ((j - 2) % 64 / 2)) ((j - 2) % 2)) 0)
+
+-- byte j of block i, j below 510
+unfoldable pub contentByte : Model → ℕ → ℕ → ℕ
+contentByte m zero j = headByte m j
+contentByte m (suc i) j = rowByte m (suc i) j
+
+-- bytes 510 and 511 hold the block's check, low byte first
+unfoldable pub byteAt : Model → ℕ → ℕ → ℕ
+byteAt m i j = cond (ltb j 510) (contentByte m i j) (byteOfTwo (checkOf (contentByte m i)) (j - 510))
+
+-- blocks in all: 1 + N / 7 rounded up
+abbrev pub blocks : ℕ → ℕ
+blocks n = 1 + (n + 6) / 7
+
+-- the file of a model
+unfoldable pub fileOf : Model → List ℕ
+fileOf m = table (512 * blocks (m .n)) (λ k. byteAt m (k / 512) (k % 512))
