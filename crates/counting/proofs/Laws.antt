@@ -123,11 +123,29 @@ module _ {A : Type 0} where
   pub table-same : (n : ℕ) (f g : ℕ → A) (d : A) → ((k : ℕ) → k < n → f k ≡ g k) → table n f ≡ table n g
   table-same n f g d h = table-is n g d (table n f) (length-table n f) (λ k l. table-at n f d k l ∙ h k l)
 
-  -- a loop that fills a list from the front: one more place holds f's
-  pub filled-more : (f : ℕ → A) (d : A) (l : List A) (i : ℕ) → i < length l →
-      ((k : ℕ) → k < i → getD l k d ≡ f k) → (k : ℕ) → k < i + 1 → getD (set l i (f i)) k d ≡ f k
-  filled-more f d l i less h k small = subst (λ (j : ℕ). k < j → getD (set l i (f i)) k d ≡ f k) (sym (add-one i))
-      (λ m. below-next {P = λ k. getD (set l i (f i)) k d ≡ f k}
-      (λ k m. getD-set-other l i k (f i) d (omega arith) ∙ h k m)
-      (getD-set-same l i (f i) d less) k m)
-      small
+-- ---- a loop that fills a list from the front, one store a turn
+
+-- of n places the first i hold f's values
+pub record Filled {A : Type 0} (n : ℕ) (f : ℕ → A) (d : A) (i : ℕ) (l : List A) : Type 0 where
+  pub upTo : i ≤ n
+  pub long : length l ≡ n
+  pub each : (k : ℕ) → k < i → getD l k d ≡ f k
+
+module _ {A : Type 0} {n : ℕ} {f : ℕ → A} {d : A} where
+  pub filled-none : {l : List A} → length l ≡ n → Filled n f d 0 l
+  filled-none e = record { upTo = omega arith; long = e; each = λ k less. absurd (omega arith) }
+
+  pub filled-next : {i : ℕ} {l : List A} {v : A} → Filled n f d i l → i < n → v ≡ f i → Filled n f d (i + 1) (set l i v)
+  filled-next {i} {l} {v} h less e = record {
+    upTo = omega arith;
+    long = length-set l i v ∙ h .long;
+    each = λ k small. below-next {P = λ k. getD (set l i v) k d ≡ f k}
+        (λ k m. getD-set-other l i k v d (omega arith) ∙ h .each k m)
+        (getD-set-same l i v d
+        (let long = h .long in
+        omega arith) ∙ e)
+        k (omega arith);
+  }
+
+  pub filled-all : {i : ℕ} {l : List A} → Filled n f d i l → n ≤ i → l ≡ table n f
+  filled-all {i} {l} h done = table-is n f d l (h .long) (λ k less. h .each k (omega arith))

@@ -1,8 +1,10 @@
 // The model file of document 01, read and written. The layout is said once, in specs/Layout; the rows in specs/Rows.
+mod fields;
 mod matrix;
+
 ghost use mathlib.Core.Path.{_≡_};
-use refusal::Outcome;
 use matrix::Weights;
+use refusal::Outcome;
 
 // A model as its file says it: N states, A labels, D, a label mask for each state, and the weight from each state to
 // each. The record can hold what no file can: such a record is refused by write_model.

@@ -1,0 +1,89 @@
+// The fields as they stand in a file: bytes past its end read as 0.
+ghost use mathlib.Core.Path.{_≡_};
+ghost use Prim.Native.Nat.{_+_, _*_, _<_};
+ghost use lib.ListN.{getD};
+ghost use Rattle.counting.specs.Below.{table};
+ghost use Rattle.block.specs.Block.{two, four};
+ghost use Rattle.model.specs.Layout.{maskAt, weightAt, fieldsOf};
+use crate::Model;
+use crate::matrix;
+use block::byte_at;
+use block::two_of;
+
+// The number of two bytes from a place of the file.
+fn two_at(file: &[u8], at: usize) -> u16
+    requires { ⌜ at < 4096 ⌝ }
+    ensures { λ r. ⌜ r ≡ two (getD (now (file .entry)) at 0) (getD (now (file .entry)) (at + 1) 0) ⌝ }
+{
+    two_of(byte_at(file, at), byte_at(file, at + 1))
+}
+
+// A number of two bytes as a wider one.
+pub fn wide16(x: u16) -> u32
+    ensures { λ r. ⌜ (r ≡ x) × (r < 65536) ⌝ }
+{
+    x as u32
+}
+
+// The number of four bytes, from the numbers of its two halves.
+fn four_of(low: u16, high: u16) -> u32
+    ensures { λ r. ⌜ r ≡ low + 65536 * high ⌝ }
+{
+    wide16(low) + 65536 * wide16(high)
+}
+
+// The label masks of the states.
+fn masks_at(file: &[u8]) -> [u16; 32]
+    ensures { λ r. ⌜ r ≡ table 32 (maskAt (now (file .entry))) ⌝ }
+{
+    let mut masks = [0u16; 32];
+    let mut s: usize = 0;
+    while s < 32 {
+        masks[s] = two_at(file, 8 + 2 * s);
+        s += 1;
+    }
+    masks
+}
+
+// The row of one state: its weight to each state.
+fn row_at(file: &[u8], s: usize) -> [u16; 32]
+    requires { ⌜ s < 32 ⌝ }
+    ensures { λ r. ⌜ r ≡ table 32 (weightAt (now (file .entry)) s) ⌝ }
+{
+    let at = 512 * (1 + s / 7) + (2 + 64 * (s % 7));
+    let mut row = [0u16; 32];
+    let mut t: usize = 0;
+    while t < 32 {
+        row[t] = two_at(file, at + 2 * t);
+        t += 1;
+    }
+    row
+}
+
+// The weight matrix: the row of each state.
+fn weights_at(file: &[u8]) -> [[u16; 32]; 32]
+    ensures { λ r. ⌜ r ≡ table 32 (λ s. table 32 (weightAt (now (file .entry)) s)) ⌝ }
+{
+    let mut rows = [[0u16; 32]; 32];
+    let mut s: usize = 0;
+    while s < 32 {
+        rows[s] = row_at(file, s);
+        s += 1;
+    }
+    rows
+}
+
+// All the fields of a file.
+pub fn fields_of(file: &[u8]) -> Model
+    ensures { λ r. ⌜ r ≡ fieldsOf (now (file .entry)) ⌝ }
+{
+    let masks = masks_at(file);
+    let weights = matrix::holding(weights_at(file));
+    Model {
+        n: byte_at(file, 1),
+        a: byte_at(file, 2),
+        d: four_of(two_at(file, 4), two_at(file, 6)),
+        masks: masks,
+        weights: weights,
+    }
+}
