@@ -38,6 +38,12 @@ unfolding sum
 sum-same zero h = refl
 sum-same (suc n) h = ap₂ (λ (a b : ℕ). a + b) (sum-same n (λ k l. h k (omega arith))) (h n (omega arith))
 
+-- a sum of zeros is zero
+pub sum-zero : (n : ℕ) {f : ℕ → ℕ} → ((k : ℕ) → k < n → f k ≡ 0) → sum n f ≡ 0
+unfolding sum
+sum-zero zero h = refl
+sum-zero (suc n) h = ap₂ (λ (a b : ℕ). a + b) (sum-zero n (λ k l. h k (omega arith))) (h n (omega arith))
+
 -- a part of a sum is at most the whole
 pub term-le-sum : (n : ℕ) (f : ℕ → ℕ) (k : ℕ) → k < n → f k ≤ sum n f
 unfolding sum
@@ -93,6 +99,28 @@ pub every-same : (n : ℕ) {p q : ℕ → Bool} → ((k : ℕ) → k < n → p k
 unfolding every
 every-same zero h = refl
 every-same (suc n) h = ap₂ (λ (a b : Bool). a && b) (every-same n (λ k l. h k (omega arith))) (h n (omega arith))
+
+-- ---- a loop that tests one number after another and leaves at the first that fails
+
+-- of the numbers below n the first i meet the test
+pub record Passed (n : ℕ) (test : ℕ → Bool) (i : ℕ) : Type 0 where
+  pub upTo : i ≤ n
+  pub met : every i test ≡ true
+
+module _ {n : ℕ} {test : ℕ → Bool} where
+  pub passed-none : Passed n test 0
+  passed-none = record { upTo = omega arith; met = every-none test }
+
+  pub passed-next : {i : ℕ} → Passed n test i → i < n → test i ≡ true → Passed n test (i + 1)
+  passed-next {i} h less e = record { upTo = omega arith; met = every-more i test (h .met) e }
+
+  pub passed-all : {i : ℕ} → Passed n test i → n ≤ i → true ≡ every n test
+  passed-all {i} h done =
+      let e : i ≡ n = omega arith in
+      sym (rw e at (h .met))
+
+  pub failed-at : {i : ℕ} → Passed n test i → i < n → test i ≡ false → false ≡ every n test
+  failed-at {i} h less e = sym (every-but n test i less e)
 
 -- ---- tables
 

@@ -41,7 +41,7 @@ rowRight m s = eqb (sum 32 (weightOf m s)) (m .d)
 
 -- the row of every state below N adds up to D
 unfoldable pub rowsRight : Model → Bool
-rowsRight m = every (m .n) (rowRight m)
+rowsRight m = every 32 (λ s. leb (m .n) s || rowRight m s)
 
 -- ---- the rows of a model file
 

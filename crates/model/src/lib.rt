@@ -1,6 +1,7 @@
 // The model file of document 01, read and written. The layout is said once, in specs/Layout; the rows in specs/Rows.
 mod fields;
 mod matrix;
+mod rules;
 
 ghost use mathlib.Core.Path.{_≡_};
 use matrix::Weights;

@@ -1,0 +1,32 @@
+-- `model::rules::rows_right` meets its contract, of the matrix that the model carries.
+use borrow.Author.Needs.{needs}
+use Prim.Native.Nat.{ℕ}
+use mathlib.Core.List.{List, []}
+use mathlib.Core.Path.{ap, _∙_}
+use lib.Dec.{leb, eqb}
+use mathlib.Core.Bool.{_||_}
+use lib.ListN.{getD}
+use Rattle.counting.specs.Below.{sum, every}
+use Rattle.model.specs.Rows.{rowsRight}
+use Rattle.model.proofs.rules.rows_right.Statement.{statement}
+use Rattle.model.proofs.rules.rows_right.Tie as tie
+
+rows-of-requires : tie.Need-rows-of-requires
+rows-of-requires c κs = search needs
+
+cast-rows-add-up : tie.Need-cast-rows-add-up
+cast-rows-add-up c = search needs
+
+rows-add-up-requires : tie.Need-rows-add-up-requires
+rows-add-up-requires c κs = search needs
+
+returns : tie.Need-returns
+unfolding rowsRight
+returns c =
+    let m = c .before .before .before .args .m in
+    c .rows-add-up .ensures ∙
+    ap (λ (rows : List (List ℕ)). every 32 (λ s. leb (m .n) s || eqb (sum 32 (λ t. getD (getD rows s []) t 0)) (m .d))) (c .before .before .rows-of .ensures)
+
+pub rows-right-spec : {M : Type 1} → statement M
+rows-right-spec =
+    tie.close (tie.spec rows-of-requires cast-rows-add-up rows-add-up-requires returns)

@@ -1,0 +1,139 @@
+// What the layout asks of a model's fields: rows 4 and 5 of document 01's table, of a record.
+ghost use mathlib.Core.Path.{_≡_};
+ghost use mathlib.Core.Bool.{_&&_, _||_};
+ghost use Prim.Native.Nat.{_+_, _*_, _^_, _<_, _≤_};
+ghost use lib.ListN.{getD};
+ghost use mathlib.Core.List.{[]};
+ghost use lib.Dec.{leb, ltb, eqb};
+ghost use Rattle.counting.specs.Below.{sum, every};
+ghost use Rattle.model.specs.Rows.{within, fieldsRight, rowsRight};
+use crate::Model;
+use crate::fields::wide16;
+use crate::matrix;
+
+// N is 1..32 states, A is 1..16 labels, D is 1..65,535.
+fn numbers_right(n: u8, a: u8, d: u32) -> bool
+    ensures { λ r. ⌜ r ≡ (within 1 32 n && within 1 16 a && within 1 65535 d) ⌝ }
+{
+    let states = (1 <= n) & (n <= 32);
+    let labels = (1 <= a) & (a <= 16);
+    let total = (1 <= d) & (d <= 65535);
+    states & labels & total
+}
+
+// Whether a mask has its bits A and up zero.
+fn mask_fits(mask: u16, a: u8) -> bool
+    ensures { λ r. ⌜ r ≡ ltb mask (2 ^ a) ⌝ }
+{
+    if 16 <= a {
+        true
+    } else {
+        wide16(mask) < 1u32 << a
+    }
+}
+
+// Whether state s may have this mask.
+fn mask_right(s: usize, n: usize, a: u8, mask: u16) -> bool
+    ensures { λ r. ⌜ r ≡ (ltb s n && ltb mask (2 ^ a) || eqb mask 0) ⌝ }
+{
+    (s < n) & mask_fits(mask, a) | (mask == 0)
+}
+
+// Whether every state's mask is right.
+fn masks_right(n: usize, a: u8, masks: &[u16; 32]) -> bool
+    ensures { λ r. ⌜ r ≡ every 32 (λ s. ltb s n && ltb (getD (now (masks .entry)) s 0) (2 ^ a) || eqb (getD (now (masks .entry)) s 0) 0) ⌝ }
+{
+    let mut s: usize = 0;
+    while s < 32 {
+        if !mask_right(s, n, a, masks[s]) {
+            return false;
+        }
+        s += 1;
+    }
+    true
+}
+
+// Whether a row is zero from a column on.
+fn zero_from(row: &[u16; 32], from: usize) -> bool
+    ensures { λ r. ⌜ r ≡ every 32 (λ t. ltb t from || eqb (getD (now (row .entry)) t 0) 0) ⌝ }
+{
+    let mut t: usize = 0;
+    while t < 32 {
+        if !((t < from) | (row[t] == 0)) {
+            return false;
+        }
+        t += 1;
+    }
+    true
+}
+
+// Whether the row of state s is zero from column N on, and for a state from N on all of it.
+fn row_ends(row: &[u16; 32], s: usize, n: usize) -> bool
+    ensures { λ r. ⌜ r ≡ every 32 (λ t. ltb s n && ltb t n || eqb (getD (now (row .entry)) t 0) 0) ⌝ }
+{
+    if s < n {
+        zero_from(row, n)
+    } else {
+        zero_from(row, 0)
+    }
+}
+
+// Whether columns and rows from N on are zero.
+fn weights_right(n: usize, rows: &[[u16; 32]; 32]) -> bool
+    ensures { λ r. ⌜ r ≡ every 32 (λ s. every 32 (λ t. ltb s n && ltb t n || eqb (getD (getD (now (rows .entry)) s []) t 0) 0)) ⌝ }
+{
+    let mut s: usize = 0;
+    while s < 32 {
+        if !row_ends(&rows[s], s, n) {
+            return false;
+        }
+        s += 1;
+    }
+    true
+}
+
+// What the layout asks of all the fields: row 4 of a record.
+pub fn fields_right(m: Model) -> bool
+    ensures { λ r. ⌜ r ≡ fieldsRight m ⌝ }
+{
+    let masks = m.masks;
+    let rows = matrix::rows_of(m.weights);
+    let n = m.n as usize;
+    numbers_right(m.n, m.a, m.d) & masks_right(n, m.a, &masks) & weights_right(n, &rows)
+}
+
+// The sum of a row.
+pub fn row_sum(row: &[u16; 32]) -> u32
+    ensures { λ r. ⌜ (r ≡ sum 32 (λ t. getD (now (row .entry)) t 0)) × (r < 2097152) ⌝ }
+{
+    let mut total: u32 = 0;
+    let mut t: usize = 0;
+    while t < 32 {
+        total += wide16(row[t]);
+        t += 1;
+    }
+    total
+}
+
+// Whether the row of every state below N adds up to D.
+fn rows_add_up(rows: [[u16; 32]; 32], n: usize, d: u32) -> bool
+    ensures { λ r. ⌜ r ≡ every 32 (λ s. leb n s || eqb (sum 32 (λ t. getD (getD rows s []) t 0)) d) ⌝ }
+{
+    let mut s: usize = 0;
+    while s < 32 {
+        let row = rows[s];
+        if !((n <= s) | (row_sum(&row) == d)) {
+            return false;
+        }
+        s += 1;
+    }
+    true
+}
+
+// Row 5 of a record.
+pub fn rows_right(m: Model) -> bool
+    ensures { λ r. ⌜ r ≡ rowsRight m ⌝ }
+{
+    let rows = matrix::rows_of(m.weights);
+    rows_add_up(rows, m.n as usize, m.d)
+}
