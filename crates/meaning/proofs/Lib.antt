@@ -1,0 +1,2 @@
+-- The theorems about the definitions of specs/, which the other crates' proofs cite.
+pub mod Examples
