@@ -1,2 +1,6 @@
 -- The theorems about the definitions of specs/, which the other crates' proofs cite.
 pub mod Examples
+pub mod Sums
+pub mod Tests
+pub mod Runs
+pub mod Steps

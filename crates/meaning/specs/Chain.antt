@@ -3,7 +3,7 @@ use Prim.Native.Nat.{ℕ, zero, suc, _*_, _^_, _<_}
 use mathlib.Core.Bool.{Bool}
 use mathlib.Core.List.{List, [], _∷_, map}
 use mathlib.Core.Path.{_≡_}
-use Rattle.meaning.specs.Lists.{below, total, lists}
+use Rattle.meaning.specs.Lists.{below, total, lists, Each}
 
 -- A Markov chain with whole-number weights: N states, numbered from 0; the sum D of each state's weights; the weight
 -- from a state to a state; whether a label, numbered from 0, is a state's label.
@@ -22,9 +22,8 @@ abbrev pub Tuple : Type 0
 Tuple = List ℕ
 
 -- the tuple consists of n states of a chain with N states
-pub data Inside (N : ℕ) : ℕ → Tuple → Type 0 where
-  empty : Inside N zero []
-  join : {n s : ℕ} {ss : Tuple} → s < N → Inside N n ss → Inside N (suc n) (s ∷ ss)
+abbrev pub Inside : ℕ → ℕ → Tuple → Type 0
+Inside N n s = Each (λ t. t < N) n s
 
 -- all tuples of n states, variable 1 counting most in their order
 unfoldable pub tuples : Chain → ℕ → List Tuple
