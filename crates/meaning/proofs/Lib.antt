@@ -4,3 +4,4 @@ pub mod Sums
 pub mod Tests
 pub mod Runs
 pub mod Steps
+pub mod Until

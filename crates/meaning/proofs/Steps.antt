@@ -63,6 +63,13 @@ module _ (c : Chain) (sound : Sound c) where
   unfolding step
   step-constant n x {s} i = total-scale-right x (joint c s) (tuples c n) ∙ ap (λ (y : ℕ). y * x) (joint-total i)
 
+  -- a step of D^(n × k) is D^(n × (k + 1))
+  pub step-denominator : (n k : ℕ) {s : Tuple} → Inside (c .N) n s → step c n (λ t. c .D ^ (n * k)) s ≡ c .D ^ (n * suc k)
+  step-denominator n k i =
+      step-constant n (c .D ^ (n * k)) i ∙
+      sym (pow-add (c .D) n (n * k)) ∙
+      ap (λ (x : ℕ). c .D ^ x) (add-comm n (n * k) ∙ sym (mul-suc n k))
+
   -- the weights of all runs of k steps from a tuple add up to D^(n × k)
   pub runs-total : (n k : ℕ) {s : Tuple} → Inside (c .N) n s → total (runWeight c) (runs c n k s) ≡ c .D ^ (n * k)
   unfolding runWeight
@@ -71,9 +78,7 @@ module _ (c : Chain) (sound : Sound c) where
   runs-total n (suc k) {s} i =
       total-runs-step c n (runWeight c) (runWeight c) k s (λ t m r. refl) ∙
       step-same c n _ (λ t. c .D ^ (n * k)) (λ t m. runs-total n k m) s ∙
-      step-constant n (c .D ^ (n * k)) i ∙
-      sym (pow-add (c .D) n (n * k)) ∙
-      ap (λ (x : ℕ). c .D ^ x) (add-comm n (n * k) ∙ sym (mul-suc n k))
+      step-denominator n k i
 
 -- the runs taken weigh no more than all
 taken-le : (b : Bool) (x : ℕ) → cond b x 0 ≤ x

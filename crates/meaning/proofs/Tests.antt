@@ -93,6 +93,12 @@ module _ {A B : Type 0} where
   some-map test g [] = refl
   some-map test g (x ∷ xs) = ap (λ b. test (g x) || b) (some-map test g xs)
 
+-- a condition within two others, taken to the front
+pub and-front : (a b x y : Bool) → (a && (b && (x && y))) ≡ (x && (a && (b && y)))
+and-front true true x y = refl
+and-front true false x y = sym (and-false x)
+and-front false b x y = sym (and-false x)
+
 -- the members of `below n` are the numbers below n
 pub below-member : (n : ℕ) {i : ℕ} → List·Memᴰ i (below n) → i < n
 unfolding below
@@ -121,3 +127,12 @@ pub below-front : (n : ℕ) → below (suc n) ≡ 0 ∷ map suc (below n)
 unfolding below
 below-front zero = refl
 below-front (suc n) = ap (λ l. l ++ (suc n ∷ [])) (below-front n) ∙ ap (λ l. 0 ∷ l) (sym (map-append suc (below n) (n ∷ [])))
+
+-- so a test of all of them is one of 0 and one of those after it
+pub every-below : (test : ℕ → Bool) (n : ℕ) → every test (below (suc n)) ≡ (test 0 && every (λ i. test (suc i)) (below n))
+unfolding every
+every-below test n = ap (every test) (below-front n) ∙ ap (λ b. test 0 && b) (every-map test suc (below n))
+
+pub some-below : (test : ℕ → Bool) (n : ℕ) → some test (below (suc n)) ≡ (test 0 || some (λ i. test (suc i)) (below n))
+unfolding some
+some-below test n = ap (some test) (below-front n) ∙ ap (λ b. test 0 || b) (some-map test suc (below n))
