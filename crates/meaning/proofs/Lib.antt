@@ -5,3 +5,5 @@ pub mod Tests
 pub mod Runs
 pub mod Steps
 pub mod Until
+pub mod Single
+pub mod Merging

@@ -4,7 +4,7 @@ use Prim.Native.Nat.{ℕ, zero, suc, _+_, _*_, _^_, _≤_, _<_}
 use mathlib.Core.Bool.{Bool, true, false, cond}
 use mathlib.Core.List.{List, [], _∷_, map, List·Memᴰ}
 use mathlib.Core.Path.{_≡_, refl, sym, ap, ap₂, _∙_, subst}
-use native.Mathlib.Nat.{mul-assoc, mul-comm, mul-one, mul-zero, mul-suc, pow-zero, pow-suc, pow-succ', add-comm, le-of-eq, le-trans}
+use native.Mathlib.Nat.{mul-assoc, mul-comm, mul-one, mul-zero, mul-suc, one-mul, pow-zero, pow-suc, pow-succ', add-comm, le-of-eq, le-trans}
 use native.Mathlib.Omega.{arith}
 use lib.ListN.{getD}
 use lib.Pow.{pow-add}
@@ -19,12 +19,28 @@ use Rattle.meaning.proofs.Runs.{tuples-inside}
 unfoldable pub step : Chain → ℕ → (Tuple → ℕ) → Tuple → ℕ
 step c n f s = total (λ t. joint c s t * f t) (tuples c n)
 
+-- a step of no variables
+pub step-none : (c : Chain) (f : Tuple → ℕ) (s : Tuple) → step c 0 f [] ≡ f []
+unfolding step tuples joint
+step-none c f s = total-lists-zero (λ t. 1 * f t) (below (c .N)) ∙ one-mul (f [])
+
 module _ (c : Chain) (n : ℕ) where
   -- functions that agree inside the chain have the same step
   pub step-same : (f g : Tuple → ℕ) → ((t : Tuple) → Inside (c .N) n t → f t ≡ g t) → (s : Tuple) → step c n f s ≡ step c n g s
   unfolding step
   step-same f g h s =
       total-same _ _ (tuples c n) (λ t m. ap (λ (x : ℕ). joint c s t * x) (h t (tuples-inside c n m)))
+
+  -- a step of n + 1 variables: over the first variable's state, then over the others'
+  pub step-first : (f : Tuple → ℕ) (s : ℕ) (ss : Tuple) →
+      step c (suc n) f (s ∷ ss) ≡ total (λ t. c .weight s t * step c n (λ ts. f (t ∷ ts)) ss) (below (c .N))
+  unfolding step joint tuples
+  step-first f s ss =
+      total-lists (λ t. joint c (s ∷ ss) t * f t) (below (c .N)) n ∙
+      total-same _ _ (below (c .N))
+      (λ t m.
+      total-same _ _ (lists (below (c .N)) n) (λ ts w. mul-assoc (c .weight s t) (joint c ss ts) (f (t ∷ ts))) ∙
+      total-scale (c .weight s t) (λ ts. joint c ss ts * f (t ∷ ts)) (lists (below (c .N)) n))
 
   -- over the one run of no steps
   pub total-runs-zero : (F : Run → ℕ) (s : Tuple) → total F (runs c n 0 s) ≡ F (s ∷ [])

@@ -22,13 +22,13 @@ pub record Stable (c : Chain) (group : ℕ → ℕ) (M : ℕ) : Type 0 where
   pub weights : (s t : ℕ) → s < c .N → t < c .N → group s ≡ group t → (h : ℕ) → h < M →
       weightInto c group s h ≡ weightInto c group t h
 
--- m is the merged chain: it has M states and D as before; group g has its members' labels and, into h, a member's
--- total weight into h
-pub record Merged (c : Chain) (group : ℕ → ℕ) (M : ℕ) (m : Chain) : Type 0 where
-  pub states : m .N ≡ M
+-- m is a merged chain of c: its states are the groups and D is as before; group g has its members' labels and, into h,
+-- a member's total weight into h
+pub record Merged (c : Chain) (group : ℕ → ℕ) (m : Chain) : Type 0 where
+  pub grouping : Grouping c group (m .N)
   pub sameD : m .D ≡ c .D
   pub labels : (s : ℕ) → s < c .N → (l : ℕ) → m .label l (group s) ≡ c .label l s
-  pub weights : (s : ℕ) → s < c .N → (h : ℕ) → h < M → m .weight (group s) h ≡ weightInto c group s h
+  pub weights : (s : ℕ) → s < c .N → (h : ℕ) → h < m .N → m .weight (group s) h ≡ weightInto c group s h
 
 -- a member of the group g: the first state, from 0 on, that has it (0 where none has)
 unfoldable pub member : (ℕ → ℕ) → ℕ → List ℕ → ℕ
