@@ -7,3 +7,6 @@ pub mod Steps
 pub mod Until
 pub mod Single
 pub mod Merging
+pub mod Magnitude
+pub mod Bounds
+pub mod Laws

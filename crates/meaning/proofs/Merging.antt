@@ -4,7 +4,7 @@ use Prim.Native.Nat.{ℕ, zero, suc, _+_, _*_, _^_, _≤_, _<_}
 use mathlib.Core.Bool.{Bool, true, false, cond, not, _&&_}
 use mathlib.Core.List.{List, [], _∷_, map, List·Memᴰ, List·Memᴰ·head, List·Memᴰ·tail, List·Memᴰ·not-nil, List·Memᴰ·cases-cons}
 use mathlib.Core.Logic.{_⊎_, inl, inr}
-use mathlib.Core.Path.{_≡_, refl, sym, ap, ap₂, _∙_, subst}
+use mathlib.Core.Path.{_≡_, refl, sym, ap, ap₂, _∙_}
 use native.Mathlib.Decide.{ℕ-discrete}
 use native.Mathlib.Nat.{mul-one, not-suc-le-zero}
 use native.Mathlib.Omega.{arith}
@@ -12,12 +12,12 @@ use borrow.Author.Tests.{eqb-true, eqb-false, eq-eqb, ne-eqb}
 use lib.Dec.{eqb}
 use lib.IntN.{pos}
 use lib.ListN.{length}
-use Rattle.meaning.specs.Lists.{below, every, some, total, Each, nothing, further}
-use Rattle.meaning.specs.Chain.{Chain, Sound, Tuple, Inside, tuples, joint, Run, runWeight, runs}
+use Rattle.meaning.specs.Lists.{below, every, some, total, nothing, further}
+use Rattle.meaning.specs.Chain.{Chain, Sound, Tuple, Inside}
 use Rattle.meaning.specs.Tree.{Formula, always, labelled, negation, both, compare}
 use Rattle.meaning.specs.Tree.{Expression, probability, constant, sum, difference, product}
 use Rattle.meaning.specs.Tree.{Path, next, until, Letter, forAll, exists}
-use Rattle.meaning.specs.Meaning.{untilTakes, nextTakes, takenWeight, denominator, hasLabel, Fraction, addF, subF, mulF, compared, holds, value, numerator, ranged, verdict}
+use Rattle.meaning.specs.Meaning.{denominator, hasLabel, addF, subF, mulF, compared, holds, value, numerator, ranged, verdict}
 use Rattle.meaning.specs.Size.{exceeds}
 use Rattle.meaning.specs.Merging.{weightInto, Grouping, Stable, Merged, member, merged}
 use Rattle.meaning.proofs.Sums.{total-same, total-zero, total-scale, total-scale-right, total-swap, total-below}

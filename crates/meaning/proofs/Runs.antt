@@ -1,11 +1,11 @@
 -- The list of all runs is what it is said to be: it has every run of k steps from the tuple and no run twice. So a
 -- total over it counts each run once.
 use Prim.Native.Nat.{ℕ, zero, suc, _^_, _<_, _*_}
-use mathlib.Core.List.{List, [], _∷_, _++_, map, flatMap, List·Memᴰ, List·Memᴰ·head, List·Memᴰ·tail, List·Memᴰ·not-nil, List·Memᴰ·cases-cons, List·Memᴰ·append-cases, List·Memᴰ·eq-of-singleton, Memᴰ·append-left, Memᴰ·append-right, Memᴰ·cast, Memᴰ·map, Memᴰ·of-map, head-eq-of-cons-eq, tail-eq-of-cons-eq}
+use mathlib.Core.List.{List, [], _∷_, _++_, map, flatMap, List·Memᴰ, List·Memᴰ·head, List·Memᴰ·tail, List·Memᴰ·not-nil, List·Memᴰ·append-cases, List·Memᴰ·eq-of-singleton, Memᴰ·append-left, Memᴰ·append-right, Memᴰ·cast, Memᴰ·map, Memᴰ·of-map, head-eq-of-cons-eq, tail-eq-of-cons-eq}
 use mathlib.Core.Logic.{⊎-elim}
-use mathlib.Core.Path.{_≡_, refl, sym, ap, ap₂, _∙_, subst}
+use mathlib.Core.Path.{_≡_, refl, sym, ap, _∙_, subst}
 use native.Mathlib.Omega.{arith}
-use native.Mathlib.Nat.{pow-zero, pow-succ', suc-mul, mul-comm}
+use native.Mathlib.Nat.{pow-zero, pow-succ'}
 use lib.ListN.{length, length-append, length-map}
 use Rattle.meaning.specs.Lists.{below, lists, Each, nothing, further, Distinct, nobody, another}
 use Rattle.meaning.specs.Chain.{Chain, Tuple, Inside, tuples, T, Run, runs}

@@ -1,12 +1,12 @@
 -- A joint step is a step of one variable after another: n × N products a tuple and not T.
-use Prim.Native.Nat.{ℕ, zero, suc, _+_, _*_, _≤_, _<_}
-use mathlib.Core.List.{List, [], _∷_}
-use mathlib.Core.Path.{_≡_, refl, sym, ap, ap₂, _∙_, fun-ext}
+use Prim.Native.Nat.{ℕ, zero, suc, _*_, _<_}
+use mathlib.Core.List.{[], _∷_}
+use mathlib.Core.Path.{_≡_, refl, sym, ap, _∙_, fun-ext}
 use native.Mathlib.Nat.{not-suc-le-zero}
 use native.Mathlib.Omega.{arith}
 use lib.ListN.{length, getD, set}
-use Rattle.meaning.specs.Lists.{below, total, lists, Each, nothing, further}
-use Rattle.meaning.specs.Chain.{Chain, Tuple, Inside, tuples, joint}
+use Rattle.meaning.specs.Lists.{below, total, nothing, further}
+use Rattle.meaning.specs.Chain.{Chain, Tuple, Inside}
 use Rattle.meaning.proofs.Sums.{total-same}
 use Rattle.meaning.proofs.Steps.{step, step-none, step-first}
 

@@ -1,16 +1,15 @@
 -- One joint step, and what it makes of runs: the weights of all runs from a tuple add up to the denominator, a next is
 -- one step, a run taken is counted with its whole weight.
-use Prim.Native.Nat.{ℕ, zero, suc, _+_, _*_, _^_, _≤_, _<_}
+use Prim.Native.Nat.{ℕ, zero, suc, _*_, _^_, _≤_}
 use mathlib.Core.Bool.{Bool, true, false, cond}
-use mathlib.Core.List.{List, [], _∷_, map, List·Memᴰ}
-use mathlib.Core.Path.{_≡_, refl, sym, ap, ap₂, _∙_, subst}
-use native.Mathlib.Nat.{mul-assoc, mul-comm, mul-one, mul-zero, mul-suc, one-mul, pow-zero, pow-suc, pow-succ', add-comm, le-of-eq, le-trans}
+use mathlib.Core.List.{[], _∷_}
+use mathlib.Core.Path.{_≡_, refl, sym, ap, _∙_, subst}
+use native.Mathlib.Nat.{mul-assoc, mul-one, mul-zero, mul-suc, one-mul, pow-zero, pow-succ', add-comm, le-of-eq, le-trans}
 use native.Mathlib.Omega.{arith}
-use lib.ListN.{getD}
 use lib.Pow.{pow-add}
-use Rattle.meaning.specs.Lists.{below, total, lists, Each, nothing, further}
+use Rattle.meaning.specs.Lists.{below, total, lists, nothing, further}
 use Rattle.meaning.specs.Chain.{Chain, Sound, Tuple, Inside, tuples, joint, Run, runWeight, runs}
-use Rattle.meaning.specs.Tree.{Formula, Path, next, until}
+use Rattle.meaning.specs.Tree.{Path, next, until}
 use Rattle.meaning.specs.Meaning.{position, nextTakes, takenWeight, denominator, holds, numerator}
 use Rattle.meaning.proofs.Sums.{total-same, total-le, total-map, total-lists, total-lists-zero, total-scale, total-scale-right, cond-scale}
 use Rattle.meaning.proofs.Runs.{tuples-inside}

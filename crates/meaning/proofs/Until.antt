@@ -1,18 +1,19 @@
 -- What 'until takes' means, and the numerator of an until as a table that goes back in time, one joint step a layer.
-use Prim.Native.Nat.{ℕ, zero, suc, _+_, _*_, _-_, _^_, _≤_, _<_}
+use Prim.Native.Nat.{ℕ, zero, suc, _*_, _-_, _^_, _≤_, _<_}
 use mathlib.Core.Bool.{Bool, true, false, cond, _&&_, _||_, and-true, or-false}
-use mathlib.Core.List.{List, [], _∷_, List·Memᴰ}
+use mathlib.Core.List.{[], _∷_}
 use mathlib.Core.Logic.{_↔_}
-use mathlib.Core.Path.{_≡_, refl, sym, ap, ap₂, _∙_, subst}
-use native.Mathlib.Nat.{pow-zero, mul-zero, sub-self, sub-zero, le-refl}
+use mathlib.Core.Path.{_≡_, refl, sym, ap, ap₂, _∙_}
+use native.Mathlib.Nat.{mul-zero}
 use native.Mathlib.Omega.{arith}
 use borrow.Author.Tests.{leb-true, le-leb, lt-leb}
 use lib.Dec.{leb, leb·zero, leb·suc-zero, leb·suc-suc}
 use Rattle.meaning.specs.Lists.{below, every, some, total}
 use Rattle.meaning.specs.Chain.{Chain, Sound, Tuple, Inside, joint, Run, runWeight, runs}
-use Rattle.meaning.specs.Meaning.{position, untilTakes, takenWeight}
+use Rattle.meaning.specs.Tree.{Formula, next, until}
+use Rattle.meaning.specs.Meaning.{position, untilTakes, takenWeight, holds, numerator}
 use Rattle.meaning.proofs.Sums.{cond-scale, total-zero}
-use Rattle.meaning.proofs.Steps.{step, step-same, step-constant, step-denominator, total-runs-zero, total-runs-step, runs-total}
+use Rattle.meaning.proofs.Steps.{step, step-same, step-constant, step-denominator, total-runs-zero, total-runs-step, runs-total, next-step}
 use Rattle.meaning.proofs.Tests.{and-left, and-right, and-both, and-front, every-means, every-below, some-found, some-there, some-front, some-below, below-member, below-has}
 
 -- there is a j as document 01 asks for
@@ -197,3 +198,14 @@ module _ (c : Chain) (n : ℕ) (first second : Tuple → Bool) (k1 k2 : ℕ) whe
       until-table c sound n first second k1 k2 i ∙
       ap (λ k. table c n first second k k2 s) (omega arith) ∙
       sym (layer-table k2 (omega arith) s)
+
+-- a path's numerator, as it is computed: one step for next, k2 layers for until
+pub numerator-next : (f : Formula) (c : Chain) (n : ℕ) (s : Tuple) →
+    numerator (next f) c n s ≡ step c n (λ t. cond (holds f c n t) 1 0) s
+unfolding numerator
+numerator-next f c n s = next-step (λ t. holds f c n t) c n s
+
+pub numerator-until : (k1 k2 : ℕ) (f g : Formula) (c : Chain) → Sound c → (n : ℕ) {s : Tuple} → Inside (c .N) n s →
+    numerator (until k1 k2 f g) c n s ≡ layer c n (λ t. holds f c n t) (λ t. holds g c n t) k1 k2 k2 s
+unfolding numerator
+numerator-until k1 k2 f g c sound n i = until-layer c n (λ t. holds f c n t) (λ t. holds g c n t) k1 k2 sound i

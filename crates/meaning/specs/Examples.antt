@@ -1,14 +1,14 @@
 -- Document 01, 'Examples on both sides': M1, M2 and the lines marked *, as claims. Each claim's text stands above it.
-use Prim.Native.Nat.{ℕ, _+_}
+use Prim.Native.Nat.{ℕ}
 use mathlib.Core.Bool.{Bool, true, false, _&&_, Bool·beq}
 use mathlib.Core.List.{List, [], _∷_}
 use lib.Dec.{eqb}
 use lib.ListN.{getD, length}
 use Rattle.meaning.specs.Lists.{below, every}
 use Rattle.meaning.specs.Chain.{Chain, Tuple}
-use Rattle.meaning.specs.Tree.{Relation, less, atMost, equal, atLeast, greater}
+use Rattle.meaning.specs.Tree.{atMost, equal}
 use Rattle.meaning.specs.Tree.{Formula, always, labelled, negation, both, compare}
-use Rattle.meaning.specs.Tree.{Expression, probability, constant, sum, difference, product}
+use Rattle.meaning.specs.Tree.{Expression, probability, constant, difference}
 use Rattle.meaning.specs.Tree.{Path, next, until, Letter, forAll, exists}
 use Rattle.meaning.specs.Meaning.{numerator, denominator, verdict}
 use Rattle.meaning.specs.Merging.{merged}

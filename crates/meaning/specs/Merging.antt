@@ -1,6 +1,6 @@
 -- Groupings and merged chains: document 00, demand 3, and document 01, 'Calls and refusal numbers'.
 use Prim.Native.Nat.{ℕ, _<_}
-use mathlib.Core.Bool.{Bool, cond}
+use mathlib.Core.Bool.{cond}
 use mathlib.Core.List.{List, [], _∷_}
 use mathlib.Core.Path.{_≡_}
 use lib.Dec.{eqb}

@@ -1,6 +1,6 @@
 -- The size rule: document 01, 'Meaning', last paragraph. It speaks of n, D and the tree alone.
 use Prim.Native.Nat.{ℕ, _+_, _*_, _^_}
-use mathlib.Core.Bool.{Bool, true, false, _||_}
+use mathlib.Core.Bool.{Bool, false, _||_}
 use lib.Dec.{ltb}
 use Rattle.meaning.specs.Tree.{Formula, always, labelled, negation, both, compare}
 use Rattle.meaning.specs.Tree.{Expression, probability, constant, sum, difference, product}
