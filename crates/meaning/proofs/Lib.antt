@@ -10,3 +10,4 @@ pub mod Merging
 pub mod Magnitude
 pub mod Bounds
 pub mod Laws
+pub mod Numbers
