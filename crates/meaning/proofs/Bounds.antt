@@ -11,7 +11,8 @@ use Rattle.meaning.specs.Chain.{Chain, Sound, Tuple, Inside}
 use Rattle.meaning.specs.Tree.{Relation, compare}
 use Rattle.meaning.specs.Tree.{Expression, probability, constant, sum, difference, product}
 use Rattle.meaning.specs.Meaning.{Fraction, addF, subF, mulF, value}
-use Rattle.meaning.specs.Size.{Size, addS, mulS, size, tooLarge, largeSize, largeCross, exceeds, exceedsIn, exceedsFrom}
+use Rattle.meaning.specs.Size.{Size, addS, mulS, size, tooLarge, largeSize, largeCross, exceeds, exceedsIn}
+use Rattle.meaning.specs.Size.{exceedsFrom}
 use Rattle.meaning.proofs.Magnitude.{abs-mul, abs-add, abs-diff}
 use Rattle.meaning.proofs.Steps.{numerator-le}
 use Rattle.meaning.proofs.Tests.{or-left, or-right}
@@ -22,7 +23,8 @@ pub record Within (x : Fraction) (z : Size) : Type 0 where
   pub top : natAbs (x .top) ≤ z .m
 
 -- a numerator times the other's denominator: a cross product
-pub cross-within : {x y : Fraction} {v w : Size} → Within x v → Within y w → natAbs (x .top *ℤ pos (y .bottom)) ≤ v .m * w .d
+pub cross-within : {x y : Fraction} {v w : Size} → Within x v → Within y w →
+    natAbs (x .top *ℤ pos (y .bottom)) ≤ v .m * w .d
 cross-within {x} {y} {v} {w} p q =
     le-trans (le-of-eq (abs-mul (x .top) (pos (y .bottom)))) (mul-le-mul (p .top) (le-of-eq (q .bottom)))
 
@@ -81,10 +83,12 @@ unfolding exceedsIn
 own-size (probability p) D n e = or-right (exceedsFrom p D n) (largeSize (size (probability p) D n)) e
 own-size (constant a b) D n e = e
 own-size (sum a b) D n e = or-right (exceedsIn a D n || exceedsIn b D n) (largeSize (size (sum a b) D n)) e
-own-size (difference a b) D n e = or-right (exceedsIn a D n || exceedsIn b D n) (largeSize (size (difference a b) D n)) e
+own-size (difference a b) D n e =
+    or-right (exceedsIn a D n || exceedsIn b D n) (largeSize (size (difference a b) D n)) e
 own-size (product a b) D n e = or-right (exceedsIn a D n || exceedsIn b D n) (largeSize (size (product a b) D n)) e
 
-pub size-fits : (a : Expression) (D n : ℕ) → exceedsIn a D n ≡ false → (size a D n .d ≤ 2 ^ 62) × (size a D n .m ≤ 2 ^ 62)
+pub size-fits : (a : Expression) (D n : ℕ) → exceedsIn a D n ≡ false →
+    (size a D n .d ≤ 2 ^ 62) × (size a D n .m ≤ 2 ^ 62)
 unfolding largeSize
 size-fits a D n e = two-fit (size a D n .d) (size a D n .m) (own-size a D n e)
 

@@ -13,9 +13,10 @@ use lib.Signed.{leZ, ltZ, leZ-yes, ltZ-yes, _≤ℤ_, _<ℤ_}
 use Rattle.meaning.specs.Lists.{below}
 use Rattle.meaning.specs.Chain.{Chain, Tuple}
 use Rattle.meaning.specs.Tree.{less, atMost, equal, atLeast, greater, Letter, forAll, exists}
-use Rattle.meaning.specs.Meaning.{hasLabel, related, ranged}
+use Rattle.meaning.specs.Meaning.{hasLabel, related, ranges, ranged}
 use Rattle.meaning.proofs.Magnitude.{leZ-both, leZ-self}
-use Rattle.meaning.proofs.Tests.{and-left, and-right, and-both, every-means, some-found, some-there, below-member, below-has}
+use Rattle.meaning.proofs.Tests.{and-left, and-right, and-both, every-means, some-found, some-there}
+use Rattle.meaning.proofs.Tests.{below-member, below-has}
 
 -- label l of variable i + 1 is that of the state in place i, counted from 0
 pub hasLabel-at : (c : Chain) (l i : ℕ) (s : Tuple) → i < length s → hasLabel c l (suc i) s ≡ c .label l (getD s i 0)
@@ -54,7 +55,7 @@ module _ (c : Chain) (letters : List Letter) (meets : Tuple → Bool) where
   -- `A`: for every state the rest holds
   pub forAll-means : (ranged c (forAll ∷ letters) meets ≡ true) ↔
       ((s : ℕ) → s < c .N → ranged c letters (λ ss. meets (s ∷ ss)) ≡ true)
-  unfolding ranged
+  unfolding ranged ranges
   forAll-means =
       let r = every-means (λ s. ranged c letters (λ ss. meets (s ∷ ss))) (below (c .N)) in
       (λ e s i. r .0 e s (below-has (c .N) i), λ h. r .1 (λ s m. h s (below-member (c .N) m)))
@@ -62,10 +63,12 @@ module _ (c : Chain) (letters : List Letter) (meets : Tuple → Bool) where
   -- `E`: for some state the rest holds
   pub exists-means : (ranged c (exists ∷ letters) meets ≡ true) ↔
       ((s : ℕ) × (s < c .N) × (ranged c letters (λ ss. meets (s ∷ ss)) ≡ true))
-  unfolding ranged
+  unfolding ranged ranges
   exists-means = (
     λ e.
         let q = some-found (λ s. ranged c letters (λ ss. meets (s ∷ ss))) (below (c .N)) e in
         (q .0, below-member (c .N) (q .1), q .2),
-    λ q. some-there (λ s. ranged c letters (λ ss. meets (s ∷ ss))) (below (c .N)) (q .0) (below-has (c .N) (q .1)) (q .2),
+    λ q.
+        some-there (λ s. ranged c letters (λ ss. meets (s ∷ ss))) (below (c .N)) (q .0)
+        (below-has (c .N) (q .1)) (q .2),
   )

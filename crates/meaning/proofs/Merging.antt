@@ -2,11 +2,12 @@
 -- numerator and denominator, at a tuple and at the tuple of its groups, and every sentence the same verdict.
 use Prim.Native.Nat.{ℕ, zero, suc, _+_, _*_, _^_, _≤_, _<_}
 use mathlib.Core.Bool.{Bool, true, false, cond, not, _&&_}
-use mathlib.Core.List.{List, [], _∷_, map, List·Memᴰ, List·Memᴰ·head, List·Memᴰ·tail, List·Memᴰ·not-nil, List·Memᴰ·cases-cons}
+use mathlib.Core.List.{List, [], _∷_, map, List·Memᴰ, List·Memᴰ·head, List·Memᴰ·tail, List·Memᴰ·not-nil}
+use mathlib.Core.List.{List·Memᴰ·cases-cons}
 use mathlib.Core.Logic.{_⊎_, inl, inr}
 use mathlib.Core.Path.{_≡_, refl, sym, ap, ap₂, _∙_}
 use native.Mathlib.Decide.{ℕ-discrete}
-use native.Mathlib.Nat.{mul-one, not-suc-le-zero}
+use native.Mathlib.Nat.{mul-one, not-suc-le-zero, le-trans, le-of-eq}
 use native.Mathlib.Omega.{arith}
 use borrow.Author.Tests.{eqb-true, eqb-false, eq-eqb, ne-eqb}
 use lib.Dec.{eqb}
@@ -17,10 +18,11 @@ use Rattle.meaning.specs.Chain.{Chain, Sound, Tuple, Inside}
 use Rattle.meaning.specs.Tree.{Formula, always, labelled, negation, both, compare}
 use Rattle.meaning.specs.Tree.{Expression, probability, constant, sum, difference, product}
 use Rattle.meaning.specs.Tree.{Path, next, until, Letter, forAll, exists}
-use Rattle.meaning.specs.Meaning.{denominator, hasLabel, addF, subF, mulF, compared, holds, value, numerator, ranged, verdict}
+use Rattle.meaning.specs.Meaning.{denominator, hasLabel, addF, subF, mulF, compared, holds, value, numerator}
+use Rattle.meaning.specs.Meaning.{ranges, ranged, verdict}
 use Rattle.meaning.specs.Size.{exceeds}
 use Rattle.meaning.specs.Merging.{weightInto, Grouping, Stable, Merged, member, merged}
-use Rattle.meaning.proofs.Sums.{total-same, total-zero, total-scale, total-scale-right, total-swap, total-below}
+use Rattle.meaning.proofs.Sums.{total-same, total-le, total-member, total-zero, total-scale, total-scale-right, total-swap, total-below}
 use Rattle.meaning.proofs.Tests.{same-answer, every-means, some-found, some-there, below-member, below-has}
 use Rattle.meaning.proofs.Steps.{step, step-same, step-none, step-first, next-step}
 use Rattle.meaning.proofs.Until.{table, until-table}
@@ -71,6 +73,33 @@ module _ (c : Chain) (group : ℕ → ℕ) where
       total-scale (c .weight s t) (λ h. cond (eqb (group t) h) (f h) 0) (below M) ∙
       ap (λ (x : ℕ). c .weight s t * x) (pick f (group t) M (grouping .inside t (below-member (c .N) m)))))
 
+-- as many ones as numbers
+total-ones : (n : ℕ) → total (λ i. 1) (below n) ≡ n
+unfolding below total
+total-ones zero = refl
+total-ones (suc n) =
+    let r = total-ones n in
+    let e = total-below (λ i. 1) n in
+    omega arith
+
+-- there are no more groups than states
+pub groups-at-most : (c : Chain) (group : ℕ → ℕ) (M : ℕ) → Grouping c group M → M ≤ c .N
+groups-at-most c group M grouping =
+    let ones = total-ones M in
+    let each =
+    total-le (λ h. 1) (λ h. total (λ t. cond (eqb (group t) h) 1 0) (below (c .N))) (below M)
+    (λ h w.
+    let u = grouping .used h (below-member M w) in
+    le-trans
+    (le-of-eq (sym (ap (λ b. cond b 1 0) (eq-eqb (group (u .0)) h (u .2)))))
+    (total-member (λ t. cond (eqb (group t) h) 1 0) (below-has (c .N) (u .1)))) in
+    let turned = total-swap (λ h t. cond (eqb (group t) h) 1 0) (below M) (below (c .N)) in
+    let all =
+    total-same (λ t. total (λ h. cond (eqb (group t) h) 1 0) (below M)) (λ t. 1) (below (c .N))
+    (λ t w. pick (λ h. 1) (group t) M (grouping .inside t (below-member (c .N) w))) in
+    let states = total-ones (c .N) in
+    omega arith
+
 module _ (c : Chain) (group : ℕ → ℕ) (m : Chain) (merge : Merged c group m) where
   -- one state's step on the chain, and that of its group on the merged chain
   one-merged : (f : ℕ → ℕ) {s : ℕ} → s < c .N →
@@ -85,7 +114,8 @@ module _ (c : Chain) (group : ℕ → ℕ) (m : Chain) (merge : Merged c group m
   unfolding Sound
   sound-merged sound g i =
       let q = merge .grouping .used g i in
-      total-same _ _ (below (m .N)) (λ h w. ap (λ x. m .weight x h) (sym (q .2)) ∙ sym (mul-one (m .weight (group (q .0)) h))) ∙
+      total-same _ _ (below (m .N))
+      (λ h w. ap (λ x. m .weight x h) (sym (q .2)) ∙ sym (mul-one (m .weight (group (q .0)) h))) ∙
       sym (one-merged (λ h. 1) (q .1)) ∙
       total-same _ _ (below (c .N)) (λ t w. mul-one (c .weight (q .0) t)) ∙
       sound (q .0) (q .1) ∙
@@ -102,7 +132,8 @@ module _ (c : Chain) (group : ℕ → ℕ) (m : Chain) (merge : Merged c group m
   step-merged nothing f = step-none c (λ t. f (map group t)) [] ∙ sym (step-none m f [])
   step-merged (further {n = n} {x = s} {xs = ss} h i) f =
       step-first c n (λ t. f (map group t)) s ss ∙
-      total-same _ _ (below (c .N)) (λ t w. ap (λ (x : ℕ). c .weight s t * x) (step-merged i (λ ts. f (group t ∷ ts)))) ∙
+      total-same _ _ (below (c .N))
+      (λ t w. ap (λ (x : ℕ). c .weight s t * x) (step-merged i (λ ts. f (group t ∷ ts)))) ∙
       one-merged (λ g. step m n (λ ts. f (g ∷ ts)) (map group ss)) h ∙
       sym (step-first m n f (group s) (map group ss))
 
@@ -146,14 +177,16 @@ module _ (c : Chain) (group : ℕ → ℕ) (m : Chain) (merge : Merged c group m
     mutual
       unfolding holds
 
-      pub holds-merged : (f : Formula) (n : ℕ) {s : Tuple} → Inside (c .N) n s → holds f c n s ≡ holds f m n (map group s)
+      pub holds-merged : (f : Formula) (n : ℕ) {s : Tuple} → Inside (c .N) n s →
+          holds f c n s ≡ holds f m n (map group s)
       holds-merged always n i = refl
       holds-merged (labelled l v) n i = label-merged l v i
       holds-merged (negation f) n i = ap not (holds-merged f n i)
       holds-merged (both f g) n i = ap₂ _&&_ (holds-merged f n i) (holds-merged g n i)
       holds-merged (compare r a b) n i = ap₂ (compared r) (value-merged a n i) (value-merged b n i)
 
-      pub value-merged : (a : Expression) (n : ℕ) {s : Tuple} → Inside (c .N) n s → value a c n s ≡ value a m n (map group s)
+      pub value-merged : (a : Expression) (n : ℕ) {s : Tuple} → Inside (c .N) n s →
+          value a c n s ≡ value a m n (map group s)
       value-merged (probability p) n i =
           λ j. record { top = pos (numerator-merged p n i j); bottom = denominator-merged p n j }
       value-merged (constant a b) n i = refl
@@ -161,7 +194,8 @@ module _ (c : Chain) (group : ℕ → ℕ) (m : Chain) (merge : Merged c group m
       value-merged (difference a b) n i = ap₂ subF (value-merged a n i) (value-merged b n i)
       value-merged (product a b) n i = ap₂ mulF (value-merged a n i) (value-merged b n i)
 
-      pub numerator-merged : (p : Path) (n : ℕ) {s : Tuple} → Inside (c .N) n s → numerator p c n s ≡ numerator p m n (map group s)
+      pub numerator-merged : (p : Path) (n : ℕ) {s : Tuple} → Inside (c .N) n s →
+          numerator p c n s ≡ numerator p m n (map group s)
       numerator-merged (next f) n {s} i =
           next-step (λ t. holds f c n t) c n s ∙
           step-agree _ (λ t. cond (holds f m n t) 1 0) (λ t w. ap (λ b. cond b 1 0) (holds-merged f n w)) i ∙
@@ -173,7 +207,8 @@ module _ (c : Chain) (group : ℕ → ℕ) (m : Chain) (merge : Merged c group m
           sym (until-table m (sound-merged sound) n (λ t. holds f m n t) (λ t. holds g m n t) k1 k2 (groups-inside i))
 
   -- a test of all states, and of all groups
-  every-merged : (p q : ℕ → Bool) → ((s : ℕ) → s < c .N → p s ≡ q (group s)) → every p (below (c .N)) ≡ every q (below (m .N))
+  every-merged : (p q : ℕ → Bool) → ((s : ℕ) → s < c .N → p s ≡ q (group s)) →
+      every p (below (c .N)) ≡ every q (below (m .N))
   every-merged p q h =
       same-answer _ _
       (λ e.
@@ -187,30 +222,38 @@ module _ (c : Chain) (group : ℕ → ℕ) (m : Chain) (merge : Merged c group m
       let i = below-member (c .N) w in
       h s i ∙ every-means q (below (m .N)) .0 e (group s) (below-has (m .N) (merge .grouping .inside s i))))
 
-  some-merged : (p q : ℕ → Bool) → ((s : ℕ) → s < c .N → p s ≡ q (group s)) → some p (below (c .N)) ≡ some q (below (m .N))
+  some-merged : (p q : ℕ → Bool) → ((s : ℕ) → s < c .N → p s ≡ q (group s)) →
+      some p (below (c .N)) ≡ some q (below (m .N))
   some-merged p q h =
       same-answer _ _
       (λ e.
       let u = some-found p (below (c .N)) e in
       let i = below-member (c .N) (u .1) in
-      some-there q (below (m .N)) (group (u .0)) (below-has (m .N) (merge .grouping .inside (u .0) i)) (sym (h (u .0) i) ∙ u .2))
+      some-there q (below (m .N)) (group (u .0)) (below-has (m .N) (merge .grouping .inside (u .0) i))
+      (sym (h (u .0) i) ∙ u .2))
       (λ e.
       let v = some-found q (below (m .N)) e in
       let u = merge .grouping .used (v .0) (below-member (m .N) (v .1)) in
       some-there p (below (c .N)) (u .0) (below-has (c .N) (u .1)) (h (u .0) (u .1) ∙ ap q (u .2) ∙ v .2))
+
+  ranges-merged : (letter : Letter) (p q : ℕ → Bool) → ((s : ℕ) → s < c .N → p s ≡ q (group s)) →
+      ranges letter p (below (c .N)) ≡ ranges letter q (below (m .N))
+  unfolding ranges
+  ranges-merged forAll p q h = every-merged p q h
+  ranges-merged exists p q h = some-merged p q h
 
   -- a prefix over tests that agree
   ranged-merged : (letters : List Letter) (p q : Tuple → Bool) →
       ((s : Tuple) → Inside (c .N) (length letters) s → p s ≡ q (map group s)) → ranged c letters p ≡ ranged m letters q
   unfolding ranged
   ranged-merged [] p q h = h [] nothing
-  ranged-merged (forAll ∷ letters) p q h =
-      every-merged _ _ (λ s i. ranged-merged letters (λ ss. p (s ∷ ss)) (λ gs. q (group s ∷ gs)) (λ ss w. h (s ∷ ss) (further i w)))
-  ranged-merged (exists ∷ letters) p q h =
-      some-merged _ _ (λ s i. ranged-merged letters (λ ss. p (s ∷ ss)) (λ gs. q (group s ∷ gs)) (λ ss w. h (s ∷ ss) (further i w)))
+  ranged-merged (letter ∷ letters) p q h =
+      ranges-merged letter _ (λ g. ranged m letters (λ gs. q (g ∷ gs)))
+      (λ s i. ranged-merged letters (λ ss. p (s ∷ ss)) (λ gs. q (group s ∷ gs)) (λ ss w. h (s ∷ ss) (further i w)))
 
   -- every sentence has the same verdict
-  pub verdict-merged : Sound c → (letters : List Letter) (body : Formula) → verdict c letters body ≡ verdict m letters body
+  pub verdict-merged : Sound c → (letters : List Letter) (body : Formula) →
+      verdict c letters body ≡ verdict m letters body
   unfolding verdict
   verdict-merged sound letters body =
       ranged-merged letters (holds body c (length letters)) (holds body m (length letters))
@@ -246,7 +289,8 @@ module _ (group : ℕ → ℕ) (g : ℕ) where
           (r .0, List·Memᴰ·tail (r .1))
 
 -- a stable grouping has a merged chain: that of the first members
-pub merged-is : (c : Chain) (group : ℕ → ℕ) (M : ℕ) → Grouping c group M → Stable c group M → Merged c group (merged c group M)
+pub merged-is : (c : Chain) (group : ℕ → ℕ) (M : ℕ) → Grouping c group M → Stable c group M →
+    Merged c group (merged c group M)
 unfolding merged
 merged-is c group M grouping stable =
     record {

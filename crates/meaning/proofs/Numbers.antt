@@ -2,7 +2,8 @@
 use Prim.Native.Nat.{ℕ, zero, suc, _+_, _*_, _-_, _/_, _%_, _^_, _<_}
 use mathlib.Core.List.{List, [], _∷_}
 use mathlib.Core.Path.{_≡_, refl, ap, ap₂, _∙_}
-use native.Mathlib.Nat.{pow-zero, pow-succ', div-lt-iff-lt-mul, div-add-mod', mod-lt, mul-zero, not-suc-le-zero, suc-sub-suc}
+use native.Mathlib.Nat.{pow-zero, pow-succ', div-lt-iff-lt-mul, div-add-mod', mod-lt, mul-zero, not-suc-le-zero}
+use native.Mathlib.Nat.{suc-sub-suc}
 use native.Mathlib.Numerals.{sub-one}
 use native.Mathlib.Omega.{arith}
 use lib.Arith.{digits-lt, digits-div, digits-mod}
@@ -91,5 +92,6 @@ module _ (N : ℕ) where
   number-set (suc i) t (s ∷ ss) h =
       let r = number-set i t ss (omega arith) in
       let l : N ^ length (set ss i t) ≡ N ^ length ss = ap (λ (x : ℕ). N ^ x) (length-set ss i t) in
-      let e : N ^ (suc (length ss) - suc (suc i)) ≡ N ^ (length ss - suc i) = ap (λ (x : ℕ). N ^ x) (suc-sub-suc (length ss) (suc i)) in
+      let d = suc-sub-suc (length ss) (suc i) in
+      let e : N ^ (suc (length ss) - suc (suc i)) ≡ N ^ (length ss - suc i) = ap (λ (x : ℕ). N ^ x) d in
       omega (arith, ap (λ (x : ℕ). s * x) l, ap (λ (x : ℕ). getD ss i 0 * x) e, ap (λ (x : ℕ). t * x) e)

@@ -1,7 +1,9 @@
 -- The list of all runs is what it is said to be: it has every run of k steps from the tuple and no run twice. So a
 -- total over it counts each run once.
 use Prim.Native.Nat.{ℕ, zero, suc, _^_, _<_, _*_}
-use mathlib.Core.List.{List, [], _∷_, _++_, map, flatMap, List·Memᴰ, List·Memᴰ·head, List·Memᴰ·tail, List·Memᴰ·not-nil, List·Memᴰ·append-cases, List·Memᴰ·eq-of-singleton, Memᴰ·append-left, Memᴰ·append-right, Memᴰ·cast, Memᴰ·map, Memᴰ·of-map, head-eq-of-cons-eq, tail-eq-of-cons-eq}
+use mathlib.Core.List.{List, [], _∷_, _++_, map, flatMap, List·Memᴰ, List·Memᴰ·head, List·Memᴰ·tail, List·Memᴰ·not-nil}
+use mathlib.Core.List.{List·Memᴰ·append-cases, List·Memᴰ·eq-of-singleton, Memᴰ·append-left, Memᴰ·append-right}
+use mathlib.Core.List.{Memᴰ·cast, Memᴰ·map, Memᴰ·of-map, head-eq-of-cons-eq, tail-eq-of-cons-eq}
 use mathlib.Core.Logic.{⊎-elim}
 use mathlib.Core.Path.{_≡_, refl, sym, ap, _∙_, subst}
 use native.Mathlib.Omega.{arith}
@@ -13,7 +15,8 @@ use Rattle.meaning.proofs.Tests.{below-member, below-has}
 
 module _ {A B : Type 0} where
   -- a member of one of many lists, and back
-  flat-member : (g : A → List B) (xs : List A) {y : B} → List·Memᴰ y (flatMap g xs) → (x : A) × List·Memᴰ x xs × List·Memᴰ y (g x)
+  flat-member : (g : A → List B) (xs : List A) {y : B} → List·Memᴰ y (flatMap g xs) →
+      (x : A) × List·Memᴰ x xs × List·Memᴰ y (g x)
   unfolding flatMap
   flat-member g [] m = absurd (List·Memᴰ·not-nil m)
   flat-member g (x ∷ xs) m =
@@ -24,7 +27,8 @@ module _ {A B : Type 0} where
       (r .0, List·Memᴰ·tail (r .1), r .2))
       (List·Memᴰ·append-cases (g x) m)
 
-  flat-has : (g : A → List B) {xs : List A} {x : A} {y : B} → List·Memᴰ x xs → List·Memᴰ y (g x) → List·Memᴰ y (flatMap g xs)
+  flat-has : (g : A → List B) {xs : List A} {x : A} {y : B} → List·Memᴰ x xs → List·Memᴰ y (g x) →
+      List·Memᴰ y (flatMap g xs)
   unfolding flatMap
   flat-has g {y = y} (List·Memᴰ·head {x = z} {xs = zs} e) m =
       Memᴰ·append-left (flatMap g zs) (subst (λ w. List·Memᴰ y (g w)) e m)

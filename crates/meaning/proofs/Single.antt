@@ -32,7 +32,8 @@ module _ (c : Chain) where
   stepOne-at (suc i) f (s ∷ ss) h = stepOne-at i (λ ts. f (s ∷ ts)) ss (omega arith)
 
   -- functions that agree have the same step
-  pub stepOne-same : (i : ℕ) (f g : Tuple → ℕ) → ((t : Tuple) → f t ≡ g t) → (s : Tuple) → stepOne c i f s ≡ stepOne c i g s
+  pub stepOne-same : (i : ℕ) (f g : Tuple → ℕ) → ((t : Tuple) → f t ≡ g t) →
+      (s : Tuple) → stepOne c i f s ≡ stepOne c i g s
   stepOne-same i f g h s = ap (λ x. stepOne c i x s) (fun-ext h)
 
   -- steps of later variables do not see the first

@@ -4,14 +4,16 @@ use Prim.Native.Nat.{ℕ, zero, suc, _*_, _^_, _≤_}
 use mathlib.Core.Bool.{Bool, true, false, cond}
 use mathlib.Core.List.{[], _∷_}
 use mathlib.Core.Path.{_≡_, refl, sym, ap, _∙_, subst}
-use native.Mathlib.Nat.{mul-assoc, mul-one, mul-zero, mul-suc, one-mul, pow-zero, pow-succ', add-comm, le-of-eq, le-trans}
+use native.Mathlib.Nat.{mul-assoc, mul-one, mul-zero, mul-suc, one-mul, pow-zero, pow-succ', add-comm, le-of-eq}
+use native.Mathlib.Nat.{le-trans}
 use native.Mathlib.Omega.{arith}
 use lib.Pow.{pow-add}
 use Rattle.meaning.specs.Lists.{below, total, lists, nothing, further}
 use Rattle.meaning.specs.Chain.{Chain, Sound, Tuple, Inside, tuples, joint, Run, runWeight, runs}
 use Rattle.meaning.specs.Tree.{Path, next, until}
 use Rattle.meaning.specs.Meaning.{position, nextTakes, takenWeight, denominator, holds, numerator}
-use Rattle.meaning.proofs.Sums.{total-same, total-le, total-map, total-lists, total-lists-zero, total-scale, total-scale-right, cond-scale}
+use Rattle.meaning.proofs.Sums.{total-same, total-le, total-map, total-lists, total-lists-zero, total-scale}
+use Rattle.meaning.proofs.Sums.{total-scale-right, cond-scale}
 use Rattle.meaning.proofs.Runs.{tuples-inside}
 
 -- one joint step of a function on tuples: the total, over all tuples, of the joint weight times the function there
@@ -25,7 +27,8 @@ step-none c f s = total-lists-zero (λ t. 1 * f t) (below (c .N)) ∙ one-mul (f
 
 module _ (c : Chain) (n : ℕ) where
   -- functions that agree inside the chain have the same step
-  pub step-same : (f g : Tuple → ℕ) → ((t : Tuple) → Inside (c .N) n t → f t ≡ g t) → (s : Tuple) → step c n f s ≡ step c n g s
+  pub step-same : (f g : Tuple → ℕ) → ((t : Tuple) → Inside (c .N) n t → f t ≡ g t) →
+      (s : Tuple) → step c n f s ≡ step c n g s
   unfolding step
   step-same f g h s =
       total-same _ _ (tuples c n) (λ t m. ap (λ (x : ℕ). joint c s t * x) (h t (tuples-inside c n m)))
@@ -46,7 +49,7 @@ module _ (c : Chain) (n : ℕ) where
   unfolding runs
   total-runs-zero F s = total-map F (λ r. s ∷ r) (lists (tuples c n) 0) ∙ total-lists-zero (λ r. F (s ∷ r)) (tuples c n)
 
-  -- over the runs of k + 1 steps, where the first step's joint weight is a factor: a step of the total over what follows
+  -- over the runs of k + 1 steps, where the first joint weight is a factor: a step of the total over what follows
   pub total-runs-step : (F G : Run → ℕ) (k : ℕ) (s : Tuple) →
       ((t : Tuple) → Inside (c .N) n t → (r : Run) → F (s ∷ (t ∷ r)) ≡ joint c s t * G (t ∷ r)) →
       total F (runs c n (suc k) s) ≡ step c n (λ t. total G (runs c n k t)) s
@@ -68,7 +71,9 @@ module _ (c : Chain) (sound : Sound c) where
   joint-total (further {n = n} {x = s} {xs = ss} h i) =
       total-lists (joint c (s ∷ ss)) (below (c .N)) n ∙
       total-same _ (λ t. c .weight s t * c .D ^ n) (below (c .N))
-      (λ t m. total-scale (c .weight s t) (joint c ss) (lists (below (c .N)) n) ∙ ap (λ (x : ℕ). c .weight s t * x) (joint-total i)) ∙
+      (λ t m.
+      total-scale (c .weight s t) (joint c ss) (lists (below (c .N)) n) ∙
+      ap (λ (x : ℕ). c .weight s t * x) (joint-total i)) ∙
       total-scale-right (c .D ^ n) (c .weight s) (below (c .N)) ∙
       ap (λ (x : ℕ). x * c .D ^ n) (sound s h) ∙
       sym (pow-succ' (c .D) n)
@@ -79,7 +84,8 @@ module _ (c : Chain) (sound : Sound c) where
   step-constant n x {s} i = total-scale-right x (joint c s) (tuples c n) ∙ ap (λ (y : ℕ). y * x) (joint-total i)
 
   -- a step of D^(n × k) is D^(n × (k + 1))
-  pub step-denominator : (n k : ℕ) {s : Tuple} → Inside (c .N) n s → step c n (λ t. c .D ^ (n * k)) s ≡ c .D ^ (n * suc k)
+  pub step-denominator : (n k : ℕ) {s : Tuple} → Inside (c .N) n s →
+      step c n (λ t. c .D ^ (n * k)) s ≡ c .D ^ (n * suc k)
   step-denominator n k i =
       step-constant n (c .D ^ (n * k)) i ∙
       sym (pow-add (c .D) n (n * k)) ∙

@@ -34,6 +34,16 @@ module _ {A : Type 0} where
       let e = h x (List·Memᴰ·head refl) in
       omega arith
 
+  -- one term is no larger than the total
+  pub total-member : (f : A → ℕ) {x : A} {xs : List A} → List·Memᴰ x xs → f x ≤ total f xs
+  unfolding total
+  total-member f {x} (List·Memᴰ·head {x = y} {xs = ys} e) =
+      let p : f x ≡ f y = ap f e in
+      omega arith
+  total-member f (List·Memᴰ·tail m) =
+      let r = total-member f m in
+      omega arith
+
   -- a total of nothing
   pub total-zero : (xs : List A) → total (λ x. 0) xs ≡ 0
   unfolding total
@@ -61,7 +71,9 @@ module _ {A : Type 0} where
   -- a common factor on the right
   pub total-scale-right : (k : ℕ) (f : A → ℕ) (xs : List A) → total (λ x. f x * k) xs ≡ total f xs * k
   total-scale-right k f xs =
-      total-same (λ x. f x * k) (λ x. k * f x) xs (λ x m. mul-comm (f x) k) ∙ total-scale k f xs ∙ mul-comm k (total f xs)
+      total-same (λ x. f x * k) (λ x. k * f x) xs (λ x m. mul-comm (f x) k) ∙
+      total-scale k f xs ∙
+      mul-comm k (total f xs)
 
 module _ {A B : Type 0} where
   -- the order of two totals

@@ -1,7 +1,9 @@
 -- The laws of `every`, `some` and `below`: what the answers mean, and how they are taken apart.
 use Prim.Native.Nat.{ℕ, zero, suc, _<_}
 use mathlib.Core.Bool.{Bool, true, false, _&&_, _||_, true≢false, false≢true, or-true, and-false, and-or-distrib-left}
-use mathlib.Core.List.{List, [], _∷_, _++_, map, map-append, List·Memᴰ, List·Memᴰ·head, List·Memᴰ·tail, List·Memᴰ·not-nil, List·Memᴰ·cases-cons, List·Memᴰ·append-cases, List·Memᴰ·eq-of-singleton, Memᴰ·append-left, Memᴰ·append-right}
+use mathlib.Core.List.{List, [], _∷_, _++_, map, map-append, List·Memᴰ, List·Memᴰ·head, List·Memᴰ·tail}
+use mathlib.Core.List.{List·Memᴰ·not-nil, List·Memᴰ·cases-cons, List·Memᴰ·append-cases, List·Memᴰ·eq-of-singleton}
+use mathlib.Core.List.{Memᴰ·append-left, Memᴰ·append-right}
 use mathlib.Core.Logic.{⊎-elim, _↔_}
 use mathlib.Core.Path.{_≡_, refl, sym, ap, ap₂, _∙_}
 use native.Mathlib.Decide.{ℕ-discrete}
@@ -29,7 +31,8 @@ and-both {a = a} {b = b} p q = ap₂ _&&_ p q
 
 module _ {A : Type 0} where
   -- `every` is true exactly if each member meets the test
-  pub every-means : (test : A → Bool) (xs : List A) → (every test xs ≡ true) ↔ ((x : A) → List·Memᴰ x xs → test x ≡ true)
+  pub every-means : (test : A → Bool) (xs : List A) →
+      (every test xs ≡ true) ↔ ((x : A) → List·Memᴰ x xs → test x ≡ true)
   unfolding every
   every-means test [] = (λ e x m. absurd (List·Memᴰ·not-nil m), λ h. refl)
   every-means test (x ∷ xs) =
@@ -76,7 +79,8 @@ module _ {A : Type 0} where
       ap₂ _||_ (h x (List·Memᴰ·head refl)) (some-same p q xs (λ y m. h y (List·Memᴰ·tail m)))
 
   -- a condition that does not look at the member goes in front of `some`
-  pub some-front : (b : Bool) (p q : A → Bool) (xs : List A) → ((x : A) → p x ≡ (b && q x)) → some p xs ≡ (b && some q xs)
+  pub some-front : (b : Bool) (p q : A → Bool) (xs : List A) → ((x : A) → p x ≡ (b && q x)) →
+      some p xs ≡ (b && some q xs)
   unfolding some
   some-front b p q [] h = sym (and-false b)
   some-front b p q (x ∷ xs) h = ap₂ _||_ (h x) (some-front b p q xs h) ∙ sym (and-or-distrib-left b (q x) (some q xs))
@@ -135,13 +139,16 @@ below-has (suc n) {i} h = place (ℕ-discrete i n) (below-has n)
 pub below-front : (n : ℕ) → below (suc n) ≡ 0 ∷ map suc (below n)
 unfolding below
 below-front zero = refl
-below-front (suc n) = ap (λ l. l ++ (suc n ∷ [])) (below-front n) ∙ ap (λ l. 0 ∷ l) (sym (map-append suc (below n) (n ∷ [])))
+below-front (suc n) =
+    ap (λ l. l ++ (suc n ∷ [])) (below-front n) ∙ ap (λ l. 0 ∷ l) (sym (map-append suc (below n) (n ∷ [])))
 
 -- so a test of all of them is one of 0 and one of those after it
-pub every-below : (test : ℕ → Bool) (n : ℕ) → every test (below (suc n)) ≡ (test 0 && every (λ i. test (suc i)) (below n))
+pub every-below : (test : ℕ → Bool) (n : ℕ) →
+    every test (below (suc n)) ≡ (test 0 && every (λ i. test (suc i)) (below n))
 unfolding every
 every-below test n = ap (every test) (below-front n) ∙ ap (λ b. test 0 && b) (every-map test suc (below n))
 
-pub some-below : (test : ℕ → Bool) (n : ℕ) → some test (below (suc n)) ≡ (test 0 || some (λ i. test (suc i)) (below n))
+pub some-below : (test : ℕ → Bool) (n : ℕ) →
+    some test (below (suc n)) ≡ (test 0 || some (λ i. test (suc i)) (below n))
 unfolding some
 some-below test n = ap (some test) (below-front n) ∙ ap (λ b. test 0 || b) (some-map test suc (below n))

@@ -13,8 +13,10 @@ use Rattle.meaning.specs.Chain.{Chain, Sound, Tuple, Inside, joint, Run,
 use Rattle.meaning.specs.Tree.{Formula, next, until}
 use Rattle.meaning.specs.Meaning.{position, untilTakes, takenWeight, holds, numerator}
 use Rattle.meaning.proofs.Sums.{cond-scale, total-zero}
-use Rattle.meaning.proofs.Steps.{step, step-same, step-constant, step-denominator, total-runs-zero, total-runs-step, runs-total, next-step}
-use Rattle.meaning.proofs.Tests.{and-left, and-right, and-both, and-front, every-means, every-below, some-found, some-there, some-front, some-below, below-member, below-has}
+use Rattle.meaning.proofs.Steps.{step, step-same, step-constant, step-denominator, total-runs-zero}
+use Rattle.meaning.proofs.Steps.{total-runs-step, runs-total, next-step}
+use Rattle.meaning.proofs.Tests.{and-left, and-right, and-both, and-front, every-means, every-below, some-found}
+use Rattle.meaning.proofs.Tests.{some-there, some-front, some-below, below-member, below-has}
 
 -- there is a j as document 01 asks for
 pub record Match (first second : Tuple → Bool) (k1 k2 : ℕ) (r : Run) : Type 0 where
@@ -44,14 +46,17 @@ module _ (first second : Tuple → Bool) where
             opened = leb-true k1 (q .0) (and-left (leb k1 (q .0)) _ (q .2));
             closing = omega arith;
             meets = and-left (second (position r (q .0))) _ rest;
-            before = λ i l. every-means (λ x. first (position r x)) (below (q .0)) .0 (and-right (second (position r (q .0))) _ rest) i (below-has (q .0) l);
+            before = λ i l.
+                every-means (λ x. first (position r x)) (below (q .0)) .0
+                (and-right (second (position r (q .0))) _ rest) i (below-has (q .0) l);
           }
 
       back : Match first second k1 k2 r → untilTakes first second k1 k2 r ≡ true
       back m =
           some-there (matches k1 r) (below (suc k2)) (m .j) (below-has (suc k2) (omega arith))
           (and-both (le-leb k1 (m .j) (m .opened))
-          (and-both (m .meets) (every-means (λ x. first (position r x)) (below (m .j)) .1 (λ i w. m .before i (below-member (m .j) w)))))
+          (and-both (m .meets)
+          (every-means (λ x. first (position r x)) (below (m .j)) .1 (λ i w. m .before i (below-member (m .j) w)))))
 
   -- at a run that starts at s: j = 0, or position 0 meets the first formula and the rest of the run has a match
   until-rest : (k1 k1′ k2 : ℕ) → ((j : ℕ) → leb k1 (suc j) ≡ leb k1′ j) → (s : Tuple) (r : Run) →
@@ -78,13 +83,13 @@ module _ (first second : Tuple → Bool) where
   unfolding untilTakes below some matches
   until-never k1 s r = ap (λ b. b || false) (matches-shut k1 (s ∷ r))
 
-  -- the window is open
-  until-open : (k2 : ℕ) (s : Tuple) (r : Run) →
-      untilTakes first second 0 (suc k2) (s ∷ r) ≡ (second s || (first s && untilTakes first second 0 k2 r))
+  -- the window is open, and b says whether position 0 meets the second formula
+  until-open : (b : Bool) (k2 : ℕ) (s : Tuple) → second s ≡ b → (r : Run) →
+      untilTakes first second 0 (suc k2) (s ∷ r) ≡ (b || (first s && untilTakes first second 0 k2 r))
   unfolding untilTakes matches position below every
-  until-open k2 s r =
+  until-open b k2 s e r =
       some-below (matches 0 (s ∷ r)) (suc k2) ∙
-      ap₂ _||_ (and-true (second s)) (until-rest 0 0 k2 (λ j. leb·zero (suc j) ∙ sym (leb·zero j)) s r)
+      ap₂ _||_ (and-true (second s) ∙ e) (until-rest 0 0 k2 (λ j. leb·zero (suc j) ∙ sym (leb·zero j)) s r)
 
   -- the window is not open yet
   until-shut : (k1 k2 : ℕ) (s : Tuple) (r : Run) →
@@ -126,12 +131,12 @@ module _ (c : Chain) (sound : Sound c) (n : ℕ) where
     unfolding takenWeight runWeight
     opened true k {s} i e =
         total-runs-step c n _ (runWeight c) k s
-        (λ t m r. ap (λ b. cond b (runWeight c (s ∷ (t ∷ r))) 0) (until-open first second k s (t ∷ r) ∙ ap (λ b. b || (first s && untilTakes first second 0 k (t ∷ r))) e)) ∙
+        (λ t m r. ap (λ b. cond b (runWeight c (s ∷ (t ∷ r))) 0) (until-open first second true k s e (t ∷ r))) ∙
         step-same c n _ (λ t. c .D ^ (n * k)) (λ t m. runs-total c sound n k m) s ∙
         step-denominator c sound n k i
     opened false k {s} i e =
         guarded _ (untilTakes first second 0 k) (first s) k i
-        (λ t r. ap (λ b. cond b (runWeight c (s ∷ (t ∷ r))) 0) (until-open first second k s (t ∷ r) ∙ ap (λ b. b || (first s && untilTakes first second 0 k (t ∷ r))) e))
+        (λ t r. ap (λ b. cond b (runWeight c (s ∷ (t ∷ r))) 0) (until-open first second false k s e (t ∷ r)))
 
     -- the numerator of an until is the table
     pub until-table : (k1 k2 : ℕ) {s : Tuple} → Inside (c .N) n s →
@@ -187,7 +192,8 @@ module _ (c : Chain) (n : ℕ) (first second : Tuple → Bool) (k1 k2 : ℕ) whe
   lowest-layer s (suc k) e = ap (λ b. cond (b && second s) 1 0) (lt-leb k1 k2 (omega arith))
 
   -- a layer is the table for the steps that are left
-  layer-table : (l : ℕ) → l ≤ k2 → (s : Tuple) → layer c n first second k1 k2 l s ≡ table c n first second (k1 - (k2 - l)) l s
+  layer-table : (l : ℕ) → l ≤ k2 → (s : Tuple) →
+      layer c n first second k1 k2 l s ≡ table c n first second (k1 - (k2 - l)) l s
   layer-table zero h s = lowest-layer s (k1 - (k2 - 0)) (omega arith)
   layer-table (suc l) h s = above-layer l h s (k1 - (k2 - suc l)) refl (λ t. layer-table l (omega arith) t)
 

@@ -33,7 +33,7 @@ tuples c n = lists (below (c .N)) n
 unfoldable pub T : Chain → ℕ → ℕ
 T c n = c .N ^ n
 
--- the joint weight from one tuple to another: the product of the single weights
+-- the joint weight from one tuple to another of as many states: the product of the single weights
 unfoldable pub joint : Chain → Tuple → Tuple → ℕ
 joint c [] ts = 1
 joint c (s ∷ ss) [] = 1

@@ -39,7 +39,7 @@ unfoldable pub denominator : Path → (D n : ℕ) → ℕ
 denominator (next f) D n = D ^ n
 denominator (until k1 k2 f g) D n = D ^ (n * k2)
 
--- the state of variable i has label l; variables are numbered from 1
+-- the state of variable i has label l; variables are numbered from 1, and a variable that the tuple lacks has none
 unfoldable pub hasLabel : Chain → ℕ → ℕ → Tuple → Bool
 hasLabel c l i [] = false
 hasLabel c l zero (s ∷ ss) = false
@@ -94,11 +94,15 @@ unfoldable mutual
   numerator (until k1 k2 f g) c n s =
       takenWeight c n k2 (untilTakes (λ t. holds f c n t) (λ t. holds g c n t) k1 k2) s
 
+-- `A`: all of the states meet the test; `E`: some do
+unfoldable pub ranges : Letter → (ℕ → Bool) → List ℕ → Bool
+ranges forAll test states = every test states
+ranges exists test states = some test states
+
 -- each letter of the prefix ranges over all N states, the first outermost
 unfoldable pub ranged : Chain → List Letter → (Tuple → Bool) → Bool
 ranged c [] meets = meets []
-ranged c (forAll ∷ letters) meets = every (λ s. ranged c letters (λ ss. meets (s ∷ ss))) (below (c .N))
-ranged c (exists ∷ letters) meets = some (λ s. ranged c letters (λ ss. meets (s ∷ ss))) (below (c .N))
+ranged c (letter ∷ letters) meets = ranges letter (λ s. ranged c letters (λ ss. meets (s ∷ ss))) (below (c .N))
 
 -- the verdict on a sentence, its prefix and its body: true is 'holds', false is 'fails'
 unfoldable pub verdict : Chain → List Letter → Formula → Bool
