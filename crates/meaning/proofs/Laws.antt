@@ -15,7 +15,7 @@ use Rattle.meaning.specs.Chain.{Chain, Tuple}
 use Rattle.meaning.specs.Tree.{less, atMost, equal, atLeast, greater, Letter, forAll, exists}
 use Rattle.meaning.specs.Meaning.{hasLabel, related, ranges, ranged}
 use Rattle.meaning.proofs.Magnitude.{leZ-both, leZ-self}
-use Rattle.meaning.proofs.Tests.{and-left, and-right, and-both, every-means, some-found, some-there}
+use Rattle.meaning.proofs.Tests.{and-left, and-right, and-both, every-means, thereIs-found, thereIs-from}
 use Rattle.meaning.proofs.Tests.{below-member, below-has}
 
 -- label l of variable i + 1 is that of the state in place i, counted from 0
@@ -66,9 +66,9 @@ module _ (c : Chain) (letters : List Letter) (meets : Tuple → Bool) where
   unfolding ranged ranges
   exists-means = (
     λ e.
-        let q = some-found (λ s. ranged c letters (λ ss. meets (s ∷ ss))) (below (c .N)) e in
+        let q = thereIs-found (λ s. ranged c letters (λ ss. meets (s ∷ ss))) (below (c .N)) e in
         (q .0, below-member (c .N) (q .1), q .2),
     λ q.
-        some-there (λ s. ranged c letters (λ ss. meets (s ∷ ss))) (below (c .N)) (q .0)
+        thereIs-from (λ s. ranged c letters (λ ss. meets (s ∷ ss))) (below (c .N)) (q .0)
         (below-has (c .N) (q .1)) (q .2),
   )

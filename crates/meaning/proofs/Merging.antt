@@ -13,17 +13,17 @@ use borrow.Author.Tests.{eqb-true, eqb-false, eq-eqb, ne-eqb}
 use lib.Dec.{eqb}
 use lib.IntN.{pos}
 use lib.ListN.{length}
-use Rattle.meaning.specs.Lists.{below, every, some, total, nothing, further}
+use Rattle.meaning.specs.Lists.{below, every, thereIs, total, nothing, further}
 use Rattle.meaning.specs.Chain.{Chain, Sound, Tuple, Inside}
 use Rattle.meaning.specs.Tree.{Formula, always, labelled, negation, both, compare}
 use Rattle.meaning.specs.Tree.{Expression, probability, constant, sum, difference, product}
-use Rattle.meaning.specs.Tree.{Path, next, until, Letter, forAll, exists}
+use Rattle.meaning.specs.Tree.{PathFormula, next, until, Letter, forAll, exists}
 use Rattle.meaning.specs.Meaning.{denominator, hasLabel, addF, subF, mulF, compared, holds, value, numerator}
 use Rattle.meaning.specs.Meaning.{ranges, ranged, verdict}
 use Rattle.meaning.specs.Size.{exceeds}
 use Rattle.meaning.specs.Merging.{weightInto, Grouping, Stable, Merged, member, merged}
 use Rattle.meaning.proofs.Sums.{total-same, total-le, total-member, total-zero, total-scale, total-scale-right, total-swap, total-below}
-use Rattle.meaning.proofs.Tests.{same-answer, every-means, some-found, some-there, below-member, below-has}
+use Rattle.meaning.proofs.Tests.{same-answer, every-means, thereIs-found, thereIs-from, below-member, below-has}
 use Rattle.meaning.proofs.Steps.{step, step-same, step-none, step-first, next-step}
 use Rattle.meaning.proofs.Until.{table, until-table}
 
@@ -129,7 +129,7 @@ module _ (c : Chain) (group : ℕ → ℕ) (m : Chain) (merge : Merged c group m
   -- a joint step
   pub step-merged : {n : ℕ} {s : Tuple} → Inside (c .N) n s → (f : Tuple → ℕ) →
       step c n (λ t. f (map group t)) s ≡ step m n f (map group s)
-  step-merged nothing f = step-none c (λ t. f (map group t)) [] ∙ sym (step-none m f [])
+  step-merged nothing f = step-none c (λ t. f (map group t)) ∙ sym (step-none m f)
   step-merged (further {n = n} {x = s} {xs = ss} h i) f =
       step-first c n (λ t. f (map group t)) s ss ∙
       total-same _ _ (below (c .N))
@@ -168,7 +168,7 @@ module _ (c : Chain) (group : ℕ → ℕ) (m : Chain) (merge : Merged c group m
   label-merged l (suc (suc i)) (further h w) = label-merged l (suc i) w
 
   -- denominators
-  pub denominator-merged : (p : Path) (n : ℕ) → denominator p (c .D) n ≡ denominator p (m .D) n
+  pub denominator-merged : (p : PathFormula) (n : ℕ) → denominator p (c .D) n ≡ denominator p (m .D) n
   denominator-merged p n = ap (λ D. denominator p D n) (sym (merge .sameD))
 
   module _ (sound : Sound c) where
@@ -194,7 +194,7 @@ module _ (c : Chain) (group : ℕ → ℕ) (m : Chain) (merge : Merged c group m
       value-merged (difference a b) n i = ap₂ subF (value-merged a n i) (value-merged b n i)
       value-merged (product a b) n i = ap₂ mulF (value-merged a n i) (value-merged b n i)
 
-      pub numerator-merged : (p : Path) (n : ℕ) {s : Tuple} → Inside (c .N) n s →
+      pub numerator-merged : (p : PathFormula) (n : ℕ) {s : Tuple} → Inside (c .N) n s →
           numerator p c n s ≡ numerator p m n (map group s)
       numerator-merged (next f) n {s} i =
           next-step (λ t. holds f c n t) c n s ∙
@@ -222,25 +222,25 @@ module _ (c : Chain) (group : ℕ → ℕ) (m : Chain) (merge : Merged c group m
       let i = below-member (c .N) w in
       h s i ∙ every-means q (below (m .N)) .0 e (group s) (below-has (m .N) (merge .grouping .inside s i))))
 
-  some-merged : (p q : ℕ → Bool) → ((s : ℕ) → s < c .N → p s ≡ q (group s)) →
-      some p (below (c .N)) ≡ some q (below (m .N))
-  some-merged p q h =
+  thereIs-merged : (p q : ℕ → Bool) → ((s : ℕ) → s < c .N → p s ≡ q (group s)) →
+      thereIs p (below (c .N)) ≡ thereIs q (below (m .N))
+  thereIs-merged p q h =
       same-answer _ _
       (λ e.
-      let u = some-found p (below (c .N)) e in
+      let u = thereIs-found p (below (c .N)) e in
       let i = below-member (c .N) (u .1) in
-      some-there q (below (m .N)) (group (u .0)) (below-has (m .N) (merge .grouping .inside (u .0) i))
+      thereIs-from q (below (m .N)) (group (u .0)) (below-has (m .N) (merge .grouping .inside (u .0) i))
       (sym (h (u .0) i) ∙ u .2))
       (λ e.
-      let v = some-found q (below (m .N)) e in
+      let v = thereIs-found q (below (m .N)) e in
       let u = merge .grouping .used (v .0) (below-member (m .N) (v .1)) in
-      some-there p (below (c .N)) (u .0) (below-has (c .N) (u .1)) (h (u .0) (u .1) ∙ ap q (u .2) ∙ v .2))
+      thereIs-from p (below (c .N)) (u .0) (below-has (c .N) (u .1)) (h (u .0) (u .1) ∙ ap q (u .2) ∙ v .2))
 
   ranges-merged : (letter : Letter) (p q : ℕ → Bool) → ((s : ℕ) → s < c .N → p s ≡ q (group s)) →
       ranges letter p (below (c .N)) ≡ ranges letter q (below (m .N))
   unfolding ranges
   ranges-merged forAll p q h = every-merged p q h
-  ranges-merged exists p q h = some-merged p q h
+  ranges-merged exists p q h = thereIs-merged p q h
 
   -- a prefix over tests that agree
   ranged-merged : (letters : List Letter) (p q : Tuple → Bool) →

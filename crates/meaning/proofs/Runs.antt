@@ -10,7 +10,7 @@ use native.Mathlib.Omega.{arith}
 use native.Mathlib.Nat.{pow-zero, pow-succ'}
 use lib.ListN.{length, length-append, length-map}
 use Rattle.meaning.specs.Lists.{below, lists, Each, nothing, further, Distinct, nobody, another}
-use Rattle.meaning.specs.Chain.{Chain, Tuple, Inside, tuples, T, Run, runs}
+use Rattle.meaning.specs.Chain.{Chain, Tuple, Inside, tuples, tupleCount, Run, runs}
 use Rattle.meaning.proofs.Tests.{below-member, below-has}
 
 module _ {A B : Type 0} where
@@ -165,6 +165,6 @@ length-lists xs (suc n) =
     length-fronts (lists xs n) xs ∙ ap (λ (m : ℕ). length xs * m) (length-lists xs n) ∙ sym (pow-succ' (length xs) n)
 
 -- T is the number of tuples
-pub length-tuples : (c : Chain) (n : ℕ) → length (tuples c n) ≡ T c n
-unfolding tuples T
+pub length-tuples : (c : Chain) (n : ℕ) → length (tuples c n) ≡ tupleCount c n
+unfolding tuples tupleCount
 length-tuples c n = length-lists (below (c .N)) n ∙ ap (λ (m : ℕ). m ^ n) (length-below (c .N))

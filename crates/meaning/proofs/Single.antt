@@ -46,7 +46,7 @@ module _ (c : Chain) where
   -- a step of each of the n variables is the joint step
   pub stepFrom-joint : {n : ℕ} {s : Tuple} → Inside (c .N) n s → (f : Tuple → ℕ) → stepFrom c 0 n f s ≡ step c n f s
   unfolding stepFrom stepOne
-  stepFrom-joint nothing f = sym (step-none c f [])
+  stepFrom-joint nothing f = sym (step-none c f)
   stepFrom-joint (further {n = n} {x = s} {xs = ss} h i) f =
       total-same _ _ (below (c .N))
       (λ t m.

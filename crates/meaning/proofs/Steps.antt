@@ -10,7 +10,7 @@ use native.Mathlib.Omega.{arith}
 use lib.Pow.{pow-add}
 use Rattle.meaning.specs.Lists.{below, total, lists, nothing, further}
 use Rattle.meaning.specs.Chain.{Chain, Sound, Tuple, Inside, tuples, joint, Run, runWeight, runs}
-use Rattle.meaning.specs.Tree.{Path, next, until}
+use Rattle.meaning.specs.Tree.{PathFormula, next, until}
 use Rattle.meaning.specs.Meaning.{position, nextTakes, takenWeight, denominator, holds, numerator}
 use Rattle.meaning.proofs.Sums.{total-same, total-le, total-map, total-lists, total-lists-zero, total-scale}
 use Rattle.meaning.proofs.Sums.{total-scale-right, cond-scale}
@@ -21,9 +21,9 @@ unfoldable pub step : Chain → ℕ → (Tuple → ℕ) → Tuple → ℕ
 step c n f s = total (λ t. joint c s t * f t) (tuples c n)
 
 -- a step of no variables
-pub step-none : (c : Chain) (f : Tuple → ℕ) (s : Tuple) → step c 0 f [] ≡ f []
+pub step-none : (c : Chain) (f : Tuple → ℕ) → step c 0 f [] ≡ f []
 unfolding step tuples joint
-step-none c f s = total-lists-zero (λ t. 1 * f t) (below (c .N)) ∙ one-mul (f [])
+step-none c f = total-lists-zero (λ t. 1 * f t) (below (c .N)) ∙ one-mul (f [])
 
 module _ (c : Chain) (n : ℕ) where
   -- functions that agree inside the chain have the same step
@@ -115,7 +115,7 @@ takenWeight-le c sound n k takes {s} i =
     (le-of-eq (runs-total c sound n k i))
 
 -- a path's numerator is at most its denominator
-pub numerator-le : (p : Path) (c : Chain) → Sound c → (n : ℕ) {s : Tuple} → Inside (c .N) n s →
+pub numerator-le : (p : PathFormula) (c : Chain) → Sound c → (n : ℕ) {s : Tuple} → Inside (c .N) n s →
     numerator p c n s ≤ denominator p (c .D) n
 unfolding numerator denominator
 numerator-le (next f) c sound n {s} i =

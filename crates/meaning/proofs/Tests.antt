@@ -1,4 +1,4 @@
--- The laws of `every`, `some` and `below`: what the answers mean, and how they are taken apart.
+-- The laws of `every`, `thereIs` and `below`: what the answers mean, and how they are taken apart.
 use Prim.Native.Nat.{ℕ, zero, suc, _<_}
 use mathlib.Core.Bool.{Bool, true, false, _&&_, _||_, true≢false, false≢true, or-true, and-false, and-or-distrib-left}
 use mathlib.Core.List.{List, [], _∷_, _++_, map, map-append, List·Memᴰ, List·Memᴰ·head, List·Memᴰ·tail}
@@ -9,7 +9,7 @@ use mathlib.Core.Path.{_≡_, refl, sym, ap, ap₂, _∙_}
 use native.Mathlib.Decide.{ℕ-discrete}
 use native.Mathlib.Nat.{not-suc-le-zero}
 use native.Mathlib.Omega.{arith}
-use Rattle.meaning.specs.Lists.{below, every, some}
+use Rattle.meaning.specs.Lists.{below, every, thereIs}
 
 -- two answers are equal if each is `true` where the other is
 pub same-answer : (a b : Bool) → (a ≡ true → b ≡ true) → (b ≡ true → a ≡ true) → a ≡ b
@@ -45,25 +45,26 @@ module _ {A : Type 0} where
         λ h. and-both (h x (List·Memᴰ·head refl)) (r .1 (λ y m. h y (List·Memᴰ·tail m))),
       )
 
-  -- `some` is true exactly if there is a member that meets the test
-  pub some-found : (test : A → Bool) (xs : List A) → some test xs ≡ true → (x : A) × List·Memᴰ x xs × (test x ≡ true)
-  unfolding some
-  some-found test [] e = absurd (false≢true e)
-  some-found test (x ∷ xs) e = look (test x) refl e (some-found test xs)
+  -- `thereIs` is true exactly if there is a member that meets the test
+  pub thereIs-found : (test : A → Bool) (xs : List A) → thereIs test xs ≡ true →
+      (x : A) × List·Memᴰ x xs × (test x ≡ true)
+  unfolding thereIs
+  thereIs-found test [] e = absurd (false≢true e)
+  thereIs-found test (x ∷ xs) e = look (test x) refl e (thereIs-found test xs)
     where
-      look : (b : Bool) → test x ≡ b → (b || some test xs) ≡ true →
-          (some test xs ≡ true → (y : A) × List·Memᴰ y xs × (test y ≡ true)) →
+      look : (b : Bool) → test x ≡ b → (b || thereIs test xs) ≡ true →
+          (thereIs test xs ≡ true → (y : A) × List·Memᴰ y xs × (test y ≡ true)) →
           (y : A) × List·Memᴰ y (x ∷ xs) × (test y ≡ true)
       look true p e later = (x, List·Memᴰ·head refl, p)
       look false p e later =
           let r = later e in
           (r .0, List·Memᴰ·tail (r .1), r .2)
 
-  pub some-there : (test : A → Bool) (xs : List A) (x : A) → List·Memᴰ x xs → test x ≡ true → some test xs ≡ true
-  unfolding some
-  some-there test xs x (List·Memᴰ·head {x = y} {xs = ys} e) p = ap (λ b. b || some test ys) (ap test (sym e) ∙ p)
-  some-there test xs x (List·Memᴰ·tail {x = y} {xs = ys} m) p =
-      ap (λ b. test y || b) (some-there test ys x m p) ∙ or-true (test y)
+  pub thereIs-from : (test : A → Bool) (xs : List A) (x : A) → List·Memᴰ x xs → test x ≡ true → thereIs test xs ≡ true
+  unfolding thereIs
+  thereIs-from test xs x (List·Memᴰ·head {x = y} {xs = ys} e) p = ap (λ b. b || thereIs test ys) (ap test (sym e) ∙ p)
+  thereIs-from test xs x (List·Memᴰ·tail {x = y} {xs = ys} m) p =
+      ap (λ b. test y || b) (thereIs-from test ys x m p) ∙ or-true (test y)
 
   -- tests that agree at every member
   pub every-same : (p q : A → Bool) (xs : List A) → ((x : A) → List·Memᴰ x xs → p x ≡ q x) → every p xs ≡ every q xs
@@ -72,18 +73,20 @@ module _ {A : Type 0} where
   every-same p q (x ∷ xs) h =
       ap₂ _&&_ (h x (List·Memᴰ·head refl)) (every-same p q xs (λ y m. h y (List·Memᴰ·tail m)))
 
-  pub some-same : (p q : A → Bool) (xs : List A) → ((x : A) → List·Memᴰ x xs → p x ≡ q x) → some p xs ≡ some q xs
-  unfolding some
-  some-same p q [] h = refl
-  some-same p q (x ∷ xs) h =
-      ap₂ _||_ (h x (List·Memᴰ·head refl)) (some-same p q xs (λ y m. h y (List·Memᴰ·tail m)))
+  pub thereIs-same : (p q : A → Bool) (xs : List A) → ((x : A) → List·Memᴰ x xs → p x ≡ q x) →
+      thereIs p xs ≡ thereIs q xs
+  unfolding thereIs
+  thereIs-same p q [] h = refl
+  thereIs-same p q (x ∷ xs) h =
+      ap₂ _||_ (h x (List·Memᴰ·head refl)) (thereIs-same p q xs (λ y m. h y (List·Memᴰ·tail m)))
 
-  -- a condition that does not look at the member goes in front of `some`
-  pub some-front : (b : Bool) (p q : A → Bool) (xs : List A) → ((x : A) → p x ≡ (b && q x)) →
-      some p xs ≡ (b && some q xs)
-  unfolding some
-  some-front b p q [] h = sym (and-false b)
-  some-front b p q (x ∷ xs) h = ap₂ _||_ (h x) (some-front b p q xs h) ∙ sym (and-or-distrib-left b (q x) (some q xs))
+  -- a condition that does not look at the member goes in front of `thereIs`
+  pub thereIs-front : (b : Bool) (p q : A → Bool) (xs : List A) → ((x : A) → p x ≡ (b && q x)) →
+      thereIs p xs ≡ (b && thereIs q xs)
+  unfolding thereIs
+  thereIs-front b p q [] h = sym (and-false b)
+  thereIs-front b p q (x ∷ xs) h =
+      ap₂ _||_ (h x) (thereIs-front b p q xs h) ∙ sym (and-or-distrib-left b (q x) (thereIs q xs))
 
 module _ {A B : Type 0} where
   -- tests of images
@@ -92,10 +95,10 @@ module _ {A B : Type 0} where
   every-map test g [] = refl
   every-map test g (x ∷ xs) = ap (λ b. test (g x) && b) (every-map test g xs)
 
-  pub some-map : (test : B → Bool) (g : A → B) (xs : List A) → some test (map g xs) ≡ some (λ x. test (g x)) xs
-  unfolding some
-  some-map test g [] = refl
-  some-map test g (x ∷ xs) = ap (λ b. test (g x) || b) (some-map test g xs)
+  pub thereIs-map : (test : B → Bool) (g : A → B) (xs : List A) → thereIs test (map g xs) ≡ thereIs (λ x. test (g x)) xs
+  unfolding thereIs
+  thereIs-map test g [] = refl
+  thereIs-map test g (x ∷ xs) = ap (λ b. test (g x) || b) (thereIs-map test g xs)
 
 -- neither of two tests was met
 pub or-left : (a b : Bool) → (a || b) ≡ false → a ≡ false
@@ -148,7 +151,7 @@ pub every-below : (test : ℕ → Bool) (n : ℕ) →
 unfolding every
 every-below test n = ap (every test) (below-front n) ∙ ap (λ b. test 0 && b) (every-map test suc (below n))
 
-pub some-below : (test : ℕ → Bool) (n : ℕ) →
-    some test (below (suc n)) ≡ (test 0 || some (λ i. test (suc i)) (below n))
-unfolding some
-some-below test n = ap (some test) (below-front n) ∙ ap (λ b. test 0 || b) (some-map test suc (below n))
+pub thereIs-below : (test : ℕ → Bool) (n : ℕ) →
+    thereIs test (below (suc n)) ≡ (test 0 || thereIs (λ i. test (suc i)) (below n))
+unfolding thereIs
+thereIs-below test n = ap (thereIs test) (below-front n) ∙ ap (λ b. test 0 || b) (thereIs-map test suc (below n))

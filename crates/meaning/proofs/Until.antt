@@ -8,15 +8,15 @@ use native.Mathlib.Nat.{mul-zero}
 use native.Mathlib.Omega.{arith}
 use borrow.Author.Tests.{leb-true, le-leb, lt-leb}
 use lib.Dec.{leb, leb·zero, leb·suc-zero, leb·suc-suc}
-use Rattle.meaning.specs.Lists.{below, every, some, total}
+use Rattle.meaning.specs.Lists.{below, every, thereIs, total}
 use Rattle.meaning.specs.Chain.{Chain, Sound, Tuple, Inside, joint, Run, runWeight, runs}
 use Rattle.meaning.specs.Tree.{Formula, next, until}
 use Rattle.meaning.specs.Meaning.{position, untilTakes, takenWeight, holds, numerator}
 use Rattle.meaning.proofs.Sums.{cond-scale, total-zero}
 use Rattle.meaning.proofs.Steps.{step, step-same, step-constant, step-denominator, total-runs-zero}
 use Rattle.meaning.proofs.Steps.{total-runs-step, runs-total, next-step}
-use Rattle.meaning.proofs.Tests.{and-left, and-right, and-both, and-front, every-means, every-below, some-found}
-use Rattle.meaning.proofs.Tests.{some-there, some-front, some-below, below-member, below-has}
+use Rattle.meaning.proofs.Tests.{and-left, and-right, and-both, and-front, every-means, every-below, thereIs-found}
+use Rattle.meaning.proofs.Tests.{thereIs-from, thereIs-front, thereIs-below, below-member, below-has}
 
 -- there is a j as document 01 asks for
 pub record Match (first second : Tuple → Bool) (k1 k2 : ℕ) (r : Run) : Type 0 where
@@ -38,7 +38,7 @@ module _ (first second : Tuple → Bool) where
     where
       there : untilTakes first second k1 k2 r ≡ true → Match first second k1 k2 r
       there e =
-          let q = some-found (matches k1 r) (below (suc k2)) e in
+          let q = thereIs-found (matches k1 r) (below (suc k2)) e in
           let h = below-member (suc k2) (q .1) in
           let rest = and-right (leb k1 (q .0)) _ (q .2) in
           record {
@@ -53,24 +53,24 @@ module _ (first second : Tuple → Bool) where
 
       back : Match first second k1 k2 r → untilTakes first second k1 k2 r ≡ true
       back m =
-          some-there (matches k1 r) (below (suc k2)) (m .j) (below-has (suc k2) (omega arith))
+          thereIs-from (matches k1 r) (below (suc k2)) (m .j) (below-has (suc k2) (omega arith))
           (and-both (le-leb k1 (m .j) (m .opened))
           (and-both (m .meets)
           (every-means (λ x. first (position r x)) (below (m .j)) .1 (λ i w. m .before i (below-member (m .j) w)))))
 
   -- at a run that starts at s: j = 0, or position 0 meets the first formula and the rest of the run has a match
   until-rest : (k1 k1′ k2 : ℕ) → ((j : ℕ) → leb k1 (suc j) ≡ leb k1′ j) → (s : Tuple) (r : Run) →
-      some (λ j. matches k1 (s ∷ r) (suc j)) (below (suc k2)) ≡ (first s && untilTakes first second k1′ k2 r)
+      thereIs (λ j. matches k1 (s ∷ r) (suc j)) (below (suc k2)) ≡ (first s && untilTakes first second k1′ k2 r)
   unfolding untilTakes matches position
   until-rest k1 k1′ k2 h s r =
-      some-front (first s) (λ j. matches k1 (s ∷ r) (suc j)) (matches k1′ r) (below (suc k2))
+      thereIs-front (first s) (λ j. matches k1 (s ∷ r) (suc j)) (matches k1′ r) (below (suc k2))
       (λ j.
       ap₂ (λ a b. a && (second (position r j) && b)) (h j) (every-below (λ i. first (position (s ∷ r) i)) j) ∙
       and-front (leb k1′ j) (second (position r j)) (first s) (every (λ i. first (position r i)) (below j)))
 
   -- the window is open and closes at once
   until-last : (s : Tuple) (r : Run) → untilTakes first second 0 0 (s ∷ r) ≡ second s
-  unfolding untilTakes position below some every
+  unfolding untilTakes position below thereIs every
   until-last s r = or-false (second s && true) ∙ and-true (second s)
 
   -- no match at 0 while the window is not open
@@ -80,7 +80,7 @@ module _ (first second : Tuple → Bool) where
 
   -- the window closes before it opens
   until-never : (k1 : ℕ) (s : Tuple) (r : Run) → untilTakes first second (suc k1) 0 (s ∷ r) ≡ false
-  unfolding untilTakes below some matches
+  unfolding untilTakes below thereIs matches
   until-never k1 s r = ap (λ b. b || false) (matches-shut k1 (s ∷ r))
 
   -- the window is open, and b says whether position 0 meets the second formula
@@ -88,7 +88,7 @@ module _ (first second : Tuple → Bool) where
       untilTakes first second 0 (suc k2) (s ∷ r) ≡ (b || (first s && untilTakes first second 0 k2 r))
   unfolding untilTakes matches position below every
   until-open b k2 s e r =
-      some-below (matches 0 (s ∷ r)) (suc k2) ∙
+      thereIs-below (matches 0 (s ∷ r)) (suc k2) ∙
       ap₂ _||_ (and-true (second s) ∙ e) (until-rest 0 0 k2 (λ j. leb·zero (suc j) ∙ sym (leb·zero j)) s r)
 
   -- the window is not open yet
@@ -96,7 +96,7 @@ module _ (first second : Tuple → Bool) where
       untilTakes first second (suc k1) (suc k2) (s ∷ r) ≡ (first s && untilTakes first second k1 k2 r)
   unfolding untilTakes matches
   until-shut k1 k2 s r =
-      some-below (matches (suc k1) (s ∷ r)) (suc k2) ∙
+      thereIs-below (matches (suc k1) (s ∷ r)) (suc k2) ∙
       ap₂ _||_ (matches-shut k1 (s ∷ r)) (until-rest (suc k1) k1 k2 (leb·suc-suc k1) s r)
 
 -- The numerator of an until, by steps: k1 until the window opens, k2 until it closes. Where the window is open and the

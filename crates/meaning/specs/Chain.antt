@@ -30,8 +30,8 @@ unfoldable pub tuples : Chain → ℕ → List Tuple
 tuples c n = lists (below (c .N)) n
 
 -- T, the number of tuples: N to the power n
-unfoldable pub T : Chain → ℕ → ℕ
-T c n = c .N ^ n
+unfoldable pub tupleCount : Chain → ℕ → ℕ
+tupleCount c n = c .N ^ n
 
 -- the joint weight from one tuple to another of as many states: the product of the single weights
 unfoldable pub joint : Chain → Tuple → Tuple → ℕ

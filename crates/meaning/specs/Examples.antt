@@ -9,7 +9,7 @@ use Rattle.meaning.specs.Chain.{Chain, Tuple}
 use Rattle.meaning.specs.Tree.{atMost, equal}
 use Rattle.meaning.specs.Tree.{Formula, always, labelled, negation, both, compare}
 use Rattle.meaning.specs.Tree.{Expression, probability, constant, difference}
-use Rattle.meaning.specs.Tree.{Path, next, until, Letter, forAll, exists}
+use Rattle.meaning.specs.Tree.{PathFormula, next, until, Letter, forAll, exists}
 use Rattle.meaning.specs.Meaning.{numerator, denominator, verdict}
 use Rattle.meaning.specs.Merging.{merged}
 
@@ -39,7 +39,7 @@ M2merged = merged M2 (λ s. getD (0 ∷ 1 ∷ 1 ∷ []) s 0) 2
 
 -- a line: at a tuple a path has this numerator and denominator; a sentence has this verdict; a chain has these rows
 pub data Claim : Type 0 where
-  fraction : Chain → Path → Tuple → (top bottom : ℕ) → Claim
+  fraction : Chain → PathFormula → Tuple → (top bottom : ℕ) → Claim
   answer : Chain → List Letter → Formula → Bool → Claim
   rows : Chain → List (List ℕ) → Claim
 

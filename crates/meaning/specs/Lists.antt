@@ -1,4 +1,4 @@
--- The words about finite lists in which the rest is said: all numbers below n, every, some, the total, all lists of n
+-- The words about finite lists in which the rest is said: the numbers below n, every, there is, the total, all lists of n
 -- members; and in which theorems speak of lists: n members of a kind, no member twice.
 use Prim.Native.Nat.{ℕ, zero, suc, _+_}
 use mathlib.Core.Bool.{Bool, true, false, _&&_, _||_}
@@ -16,9 +16,9 @@ module _ {A : Type 0} where
   every test (x ∷ xs) = test x && every test xs
 
   -- some member of the list meets the test
-  unfoldable pub some : (A → Bool) → List A → Bool
-  some test [] = false
-  some test (x ∷ xs) = test x || some test xs
+  unfoldable pub thereIs : (A → Bool) → List A → Bool
+  thereIs test [] = false
+  thereIs test (x ∷ xs) = test x || thereIs test xs
 
   -- the total of f over the list
   unfoldable pub total : (A → ℕ) → List A → ℕ

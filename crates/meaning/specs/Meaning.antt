@@ -7,12 +7,12 @@ use lib.Dec.{leb}
 use lib.IntN.{ℤ, pos, _+ℤ_, _-ℤ_, _*ℤ_}
 use lib.ListN.{getD, length}
 use lib.Signed.{ltZ, leZ}
-use Rattle.meaning.specs.Lists.{below, every, some, total}
+use Rattle.meaning.specs.Lists.{below, every, thereIs, total}
 use Rattle.meaning.specs.Chain.{Chain, Tuple, Run, runWeight, runs}
 use Rattle.meaning.specs.Tree.{Relation, less, atMost, equal, atLeast, greater}
 use Rattle.meaning.specs.Tree.{Formula, always, labelled, negation, both, compare}
 use Rattle.meaning.specs.Tree.{Expression, probability, constant, sum, difference, product}
-use Rattle.meaning.specs.Tree.{Path, next, until, Letter, forAll, exists}
+use Rattle.meaning.specs.Tree.{PathFormula, next, until, Letter, forAll, exists}
 
 -- position j of a run, counted from 0
 unfoldable pub position : Run → ℕ → Tuple
@@ -26,7 +26,7 @@ nextTakes meets r = meets (position r 1)
 -- positions 0..j−1 all meet the first
 unfoldable pub untilTakes : (first second : Tuple → Bool) → (k1 k2 : ℕ) → Run → Bool
 untilTakes first second k1 k2 r =
-    some
+    thereIs
     (λ j. leb k1 j && (second (position r j) && every (λ i. first (position r i)) (below j)))
     (below (suc k2))
 
@@ -35,7 +35,7 @@ unfoldable pub takenWeight : Chain → ℕ → ℕ → (Run → Bool) → Tuple 
 takenWeight c n k takes s = total (λ r. cond (takes r) (runWeight c r) 0) (runs c n k s)
 
 -- the denominator of a path: D^n for next, D^(n × k2) for until; all n variables step, used or not
-unfoldable pub denominator : Path → (D n : ℕ) → ℕ
+unfoldable pub denominator : PathFormula → (D n : ℕ) → ℕ
 denominator (next f) D n = D ^ n
 denominator (until k1 k2 f g) D n = D ^ (n * k2)
 
@@ -89,7 +89,7 @@ unfoldable mutual
   value (difference a b) c n s = subF (value a c n s) (value b c n s)
   value (product a b) c n s = mulF (value a c n s) (value b c n s)
 
-  pub numerator : Path → Chain → ℕ → Tuple → ℕ
+  pub numerator : PathFormula → Chain → ℕ → Tuple → ℕ
   numerator (next f) c n s = takenWeight c n 1 (nextTakes (λ t. holds f c n t)) s
   numerator (until k1 k2 f g) c n s =
       takenWeight c n k2 (untilTakes (λ t. holds f c n t) (λ t. holds g c n t) k1 k2) s
@@ -97,7 +97,7 @@ unfoldable mutual
 -- `A`: all of the states meet the test; `E`: some do
 unfoldable pub ranges : Letter → (ℕ → Bool) → List ℕ → Bool
 ranges forAll test states = every test states
-ranges exists test states = some test states
+ranges exists test states = thereIs test states
 
 -- each letter of the prefix ranges over all N states, the first outermost
 unfoldable pub ranged : Chain → List Letter → (Tuple → Bool) → Bool

@@ -4,7 +4,7 @@ use mathlib.Core.Bool.{Bool, false, _||_}
 use lib.Dec.{ltb}
 use Rattle.meaning.specs.Tree.{Formula, always, labelled, negation, both, compare}
 use Rattle.meaning.specs.Tree.{Expression, probability, constant, sum, difference, product}
-use Rattle.meaning.specs.Tree.{Path, next, until}
+use Rattle.meaning.specs.Tree.{PathFormula, next, until}
 use Rattle.meaning.specs.Meaning.{denominator}
 
 -- an expression's denominator d and bound m
@@ -55,6 +55,6 @@ unfoldable mutual
   exceedsIn (difference a b) D n = exceedsIn a D n || exceedsIn b D n || largeSize (size (difference a b) D n)
   exceedsIn (product a b) D n = exceedsIn a D n || exceedsIn b D n || largeSize (size (product a b) D n)
 
-  pub exceedsFrom : Path → (D n : ℕ) → Bool
+  pub exceedsFrom : PathFormula → (D n : ℕ) → Bool
   exceedsFrom (next f) D n = exceeds f D n
   exceedsFrom (until k1 k2 f g) D n = exceeds f D n || exceeds g D n

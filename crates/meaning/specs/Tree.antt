@@ -17,16 +17,16 @@ mutual
 
   -- the probability of a path; the constant a / b; sum, difference and product
   pub data Expression : Type 0 where
-    probability : Path → Expression
+    probability : PathFormula → Expression
     constant : (a b : ℕ) → Expression
     sum : Expression → Expression → Expression
     difference : Expression → Expression → Expression
     product : Expression → Expression → Expression
 
   -- next; until with window k1..k2
-  pub data Path : Type 0 where
-    next : Formula → Path
-    until : (k1 k2 : ℕ) → Formula → Formula → Path
+  pub data PathFormula : Type 0 where
+    next : Formula → PathFormula
+    until : (k1 k2 : ℕ) → Formula → Formula → PathFormula
 
 -- a letter of the prefix: `A`, for all; `E`, exists
 pub data Letter : Type 0 where
@@ -34,20 +34,20 @@ pub data Letter : Type 0 where
 
 -- the path formulas in written order: a path stands before those within it
 unfoldable mutual
-  pub pathsOf : Formula → List Path
+  pub pathsOf : Formula → List PathFormula
   pathsOf always = []
   pathsOf (labelled l i) = []
   pathsOf (negation f) = pathsOf f
   pathsOf (both f g) = pathsOf f ++ pathsOf g
   pathsOf (compare r a b) = pathsIn a ++ pathsIn b
 
-  pub pathsIn : Expression → List Path
+  pub pathsIn : Expression → List PathFormula
   pathsIn (probability p) = pathsFrom p
   pathsIn (constant a b) = []
   pathsIn (sum a b) = pathsIn a ++ pathsIn b
   pathsIn (difference a b) = pathsIn a ++ pathsIn b
   pathsIn (product a b) = pathsIn a ++ pathsIn b
 
-  pub pathsFrom : Path → List Path
+  pub pathsFrom : PathFormula → List PathFormula
   pathsFrom (next f) = next f ∷ pathsOf f
   pathsFrom (until k1 k2 f g) = until k1 k2 f g ∷ (pathsOf f ++ pathsOf g)
