@@ -22,7 +22,8 @@ use Rattle.meaning.specs.Meaning.{denominator, hasLabel, addF, subF, mul
 use Rattle.meaning.specs.Meaning.{ranges, ranged, verdict}
 use Rattle.meaning.specs.Size.{exceeds}
 use Rattle.meaning.specs.Merging.{weightInto, Grouping, Stable, Merged, member, merged}
-use Rattle.meaning.proofs.Sums.{total-same, total-le, total-member, total-zero, total-scale, total-scale-right, total-swap, total-below}
+use Rattle.meaning.proofs.Sums.{total-same, total-le, total-member, total-zero}
+use Rattle.meaning.proofs.Sums.{total-scale, total-scale-right, total-swap, total-below}
 use Rattle.meaning.proofs.Tests.{same-answer, every-means, thereIs-found, thereIs-from, below-member, below-has}
 use Rattle.meaning.proofs.Steps.{step, step-same, step-none, step-first, next-step}
 use Rattle.meaning.proofs.Until.{table, until-table}

@@ -15,7 +15,8 @@ use Rattle.meaning.specs.Meaning.{position, untilTakes, takenWeight, hol
 use Rattle.meaning.proofs.Sums.{cond-scale, total-zero}
 use Rattle.meaning.proofs.Steps.{step, step-same, step-constant, step-denominator, total-runs-zero}
 use Rattle.meaning.proofs.Steps.{total-runs-step, runs-total, next-step}
-use Rattle.meaning.proofs.Tests.{and-left, and-right, and-both, and-front, every-means, every-below, thereIs-found}
+use Rattle.meaning.proofs.Tests.{and-left, and-right, and-both, and-front}
+use Rattle.meaning.proofs.Tests.{every-means, every-below, thereIs-found}
 use Rattle.meaning.proofs.Tests.{thereIs-from, thereIs-front, thereIs-below, below-member, below-has}
 
 -- there is a j as document 01 asks for

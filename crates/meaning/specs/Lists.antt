@@ -1,5 +1,5 @@
--- The words about finite lists in which the rest is said: the numbers below n, every, there is, the total, all lists of n
--- members; and in which theorems speak of lists: n members of a kind, no member twice.
+-- The words about finite lists in which the rest is said: the numbers below n, every, there is, the total, all lists
+-- of n members; and in which theorems speak of lists: n members of a kind, no member twice.
 use Prim.Native.Nat.{ℕ, zero, suc, _+_}
 use mathlib.Core.Bool.{Bool, true, false, _&&_, _||_}
 use mathlib.Core.List.{List, [], _∷_, _++_, map, flatMap, List·Memᴰ}
