@@ -60,14 +60,14 @@ pub every-none : (test : ℕ → Bool) → every 0 test ≡ true
 unfolding every
 every-none test = refl
 
-and-true : {a b : Bool} → a ≡ true → b ≡ true → (a && b) ≡ true
+pub and-true : {a b : Bool} → a ≡ true → b ≡ true → (a && b) ≡ true
 and-true p q = ap₂ (λ (a b : Bool). a && b) p q
 
-left-of : (a b : Bool) → (a && b) ≡ true → a ≡ true
+pub left-of : (a b : Bool) → (a && b) ≡ true → a ≡ true
 left-of true b e = refl
 left-of false b e = e
 
-right-of : (a b : Bool) → (a && b) ≡ true → b ≡ true
+pub right-of : (a b : Bool) → (a && b) ≡ true → b ≡ true
 right-of true b e = e
 right-of false b e = absurd (true≢false (sym e))
 
@@ -90,6 +90,12 @@ every-all (suc n) test h = and-true (every-all n test (λ k l. h k (omega arith)
 is-not-true : (a : Bool) → (a ≡ true → ⊥) → a ≡ false
 is-not-true true h = absurd (h refl)
 is-not-true false h = refl
+
+-- two tests that follow from each other are one
+pub same-truth : (a b : Bool) → (a ≡ true → b ≡ true) → (b ≡ true → a ≡ true) → a ≡ b
+same-truth true b f g = sym (f refl)
+same-truth false true f g = g refl
+same-truth false false f g = refl
 
 -- one number that does not meet the test is enough
 pub every-but : (n : ℕ) (test : ℕ → Bool) (k : ℕ) → k < n → test k ≡ false → every n test ≡ false

@@ -1,3 +1,5 @@
 -- What belongs to no one function.
 pub mod Places
+pub mod Rightness
 pub mod Spelled
+pub mod Standing

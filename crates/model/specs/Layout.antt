@@ -51,18 +51,26 @@ fieldsOf file = record {
 abbrev pub byteOfTwo : ℕ → ℕ → ℕ
 byteOfTwo x k = cond (ltb k 1) (lowByte x) (highByte x)
 
--- block 0: byte 0 is 1, byte 1 is N, byte 2 is A, byte 3 is 0, bytes 4..7 are D, two bytes a state from byte 8 are its
--- mask; the rest is zero (there is no state from 32 on, so its mask is 0)
-unfoldable pub headByte : Model → ℕ → ℕ
-headByte m j =
-    getD (1 ∷ m .n ∷ m .a ∷ 0 ∷ lowByte (m .d) ∷ highByte (m .d) ∷ lowByte (m .d / 65536) ∷ highByte (m .d / 65536) ∷ []) j
-    (byteOfTwo (maskOf m ((j - 8) / 2)) ((j - 8) % 2))
+-- block 0 starts: byte 0 is 1, byte 1 is N, byte 2 is A, byte 3 is 0, bytes 4..7 are D
+abbrev pub headStart : Model → List ℕ
+headStart m =
+    1 ∷ m .n ∷ m .a ∷ 0 ∷ lowByte (m .d) ∷ highByte (m .d) ∷ lowByte (m .d / 65536) ∷ highByte (m .d / 65536) ∷ []
 
--- block i, for i = 1, 2, ..: byte 0 is 2, byte 1 is i; then the rows of seven states, 64 bytes each; bytes 450..509 are zero
+-- byte k of the masks: two bytes a state
+abbrev pub maskByte : Model → ℕ → ℕ
+maskByte m k = byteOfTwo (maskOf m (k / 2)) (k % 2)
+
+-- block 0: its start, then from byte 8 the masks; the rest is zero, since no state from 32 on has a mask
+unfoldable pub headByte : Model → ℕ → ℕ
+headByte m j = getD (headStart m) j (maskByte m (j - 8))
+
+-- byte k of the rows of the states from s on: 64 bytes a state, two bytes a weight
+abbrev pub weightByte : Model → ℕ → ℕ → ℕ
+weightByte m s k = byteOfTwo (weightOf m (s + k / 64) (k % 64 / 2)) (k % 2)
+
+-- block i, for i = 1, 2, ..: byte 0 is 2, byte 1 is i; then the rows of seven states; bytes 450..509 are zero
 unfoldable pub rowByte : Model → ℕ → ℕ → ℕ
-rowByte m i j =
-    getD (2 ∷ i ∷ []) j
-    (cond (ltb j 450) (byteOfTwo (weightOf m (7 * (i - 1) + (j - 2) / 64) ((j - 2) % 64 / 2)) ((j - 2) % 2)) 0)
+rowByte m i j = getD (2 ∷ i ∷ []) j (cond (ltb j 450) (weightByte m (7 * (i - 1)) (j - 2)) 0)
 
 -- byte j of block i, j below 510
 unfoldable pub contentByte : Model → ℕ → ℕ → ℕ

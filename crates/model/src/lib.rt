@@ -1,5 +1,6 @@
 // The model file of document 01, read and written. The layout is said once, in specs/Layout; the rows in specs/Rows.
 mod fields;
+mod laid;
 mod matrix;
 mod rules;
 

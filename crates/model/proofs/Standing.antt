@@ -1,0 +1,246 @@
+-- Which bytes of a file stand as the layout has them by themselves, because the fields are read from them, and which are
+-- left to look at.
+use Prim.Native.Nat.{ℕ, zero, suc, _+_, _-_, _*_, _/_, _%_, _<_, _≤_}
+use mathlib.Core.Bool.{Bool, true, false, cond, _&&_}
+use mathlib.Core.List.{List, [], _∷_}
+use mathlib.Core.Path.{_≡_, refl, sym, ap, ap₂, _∙_}
+use native.Mathlib.Omega.{arith}
+use native.Mathlib.Decide.{decLt}
+use borrow.Author.Tests.{lt-ltb, le-ltb, eq-eqb, eqb-true}
+use lib.Dec.{ltb, eqb}
+use lib.ListN.{length, getD, List·getD-eq-default}
+use Rattle.counting.specs.Below.{every, table}
+use Rattle.counting.proofs.Laws.{table-at, length-table, every-at, every-all, same-truth, and-true, left-of, right-of}
+use Rattle.block.specs.Block.{byteOf, lowByte, highByte, two, four}
+use Rattle.model.specs.declared.Model.{Model}
+use Rattle.model.specs.Layout.{maskOf, weightOf, twoAt, fourAt, maskAt, weightAt, fieldsOf, byteOfTwo, headStart, maskByte, weightByte, headByte, rowByte, contentByte}
+use Rattle.model.proofs.Places.{byte-there}
+
+-- a list of bytes
+abbrev pub Bytes : List ℕ → Type 0
+Bytes file = (k : ℕ) → getD file k 0 < 256
+
+-- byte k of a number of two bytes is the low one at 0 and the high one at 1
+pub byte-back : (low high x k : ℕ) → low < 256 → high < 256 → k < 2 → (k ≡ 0 → low ≡ x) → (k ≡ 1 → high ≡ x) →
+    byteOfTwo (two low high) k ≡ x
+byte-back low high x zero l h s a b =
+    let e : (low + 256 * high) % 256 ≡ low = omega arith in
+    e ∙ a refl
+byte-back low high x (suc zero) l h s a b =
+    let e : (low + 256 * high) / 256 % 256 ≡ high = omega arith in
+    e ∙ b refl
+byte-back low high x (suc (suc k)) l h s a b = absurd (omega arith)
+
+-- a byte of 0 is 0
+pub byte-of-zero : (k : ℕ) → byteOfTwo 0 k ≡ 0
+byte-of-zero k = go (ltb k 1)
+  where
+    go : (b : Bool) → cond {A = ℕ} b 0 0 ≡ 0
+    go true = refl
+    go false = refl
+
+-- from byte 8 on block 0 has the masks
+pub head-rest : (m : Model) (j : ℕ) → 8 ≤ j → headByte m j ≡ maskByte m (j - 8)
+unfolding headByte
+head-rest m j h = List·getD-eq-default (headStart m) (maskByte m (j - 8)) h
+
+-- from byte 2 on a row block has the rows, and zeros from byte 450 on
+pub row-rest : (m : Model) (i j : ℕ) → 2 ≤ j → j < 450 → rowByte m i j ≡ weightByte m (7 * (i - 1)) (j - 2)
+unfolding rowByte
+row-rest m i j h l =
+    let row = weightByte m (7 * (i - 1)) (j - 2) in
+    List·getD-eq-default (2 ∷ i ∷ []) (cond (ltb j 450) row 0) h ∙ ap (λ (b : Bool). cond b row 0) (lt-ltb j 450 l)
+
+pub row-end : (m : Model) (i j : ℕ) → 450 ≤ j → rowByte m i j ≡ 0
+unfolding rowByte
+row-end m i j h =
+    let row = weightByte m (7 * (i - 1)) (j - 2) in
+    let past : 2 ≤ j = omega arith in
+    List·getD-eq-default (2 ∷ i ∷ []) (cond (ltb j 450) row 0) past ∙ ap (λ (b : Bool). cond b row 0) (le-ltb j 450 h)
+
+-- a block from 1 on is a row block
+pub content-row : (m : Model) (i j : ℕ) → 1 ≤ i → contentByte m i j ≡ rowByte m i j
+unfolding contentByte
+content-row m zero j h = absurd (omega arith)
+content-row m (suc i) j h = refl
+
+pub content-head : (m : Model) (j : ℕ) → contentByte m 0 j ≡ headByte m j
+unfolding contentByte
+content-head m j = refl
+
+-- two marks and some zeros are a test of every byte of a block
+marks-and-zeros : (p q : Bool) (n : ℕ) (zeros : ℕ → Bool) (all : ℕ → Bool) →
+    (p ≡ true → q ≡ true → ((k : ℕ) → k < n → zeros k ≡ true) → (j : ℕ) → j < 510 → all j ≡ true) →
+    (((j : ℕ) → j < 510 → all j ≡ true) → p ≡ true) → (((j : ℕ) → j < 510 → all j ≡ true) → q ≡ true) →
+    (((j : ℕ) → j < 510 → all j ≡ true) → (k : ℕ) → k < n → zeros k ≡ true) → (p && q && every n zeros) ≡ every 510 all
+marks-and-zeros p q n zeros all to first second rest = same-truth (p && q && every n zeros) (every 510 all)
+    (λ h.
+    let marks = left-of (p && q) (every n zeros) h in
+    every-all 510 all (to (left-of p q marks) (right-of p q marks) (every-at n zeros (right-of (p && q) (every n zeros) h))))
+    (λ h.
+    let each = every-at 510 all h in
+    and-true (and-true (first each) (second each)) (every-all n zeros (rest each)))
+
+-- ---- of a file's own fields
+
+module _ (file : List ℕ) (bytes : Bytes file) where
+  -- byte j of block i is the one that the layout has there
+  abbrev pub stands : ℕ → ℕ → Bool
+  stands i j = eqb (byteOf file i j) (contentByte (fieldsOf file) i j)
+
+  mask-of-file : (s : ℕ) → s < 32 → maskOf (fieldsOf file) s ≡ maskAt file s
+  unfolding fieldsOf
+  mask-of-file s l = table-at 32 (maskAt file) 0 s l
+
+  no-mask : (s : ℕ) → 32 ≤ s → maskOf (fieldsOf file) s ≡ 0
+  unfolding fieldsOf
+  no-mask s h = List·getD-eq-default (table 32 (maskAt file)) 0 (omega (arith, length-table 32 (maskAt file)))
+
+  weight-of-file : (s t : ℕ) → s < 32 → t < 32 → weightOf (fieldsOf file) s t ≡ weightAt file s t
+  unfolding fieldsOf
+  weight-of-file s t l k =
+      ap (λ (row : List ℕ). getD row t 0) (table-at 32 (λ s. table 32 (weightAt file s)) [] s l) ∙ table-at 32 (weightAt file s) 0 t k
+
+  no-weight : (s t : ℕ) → 32 ≤ s → weightOf (fieldsOf file) s t ≡ 0
+  unfolding fieldsOf
+  no-weight s t h = ap (λ (row : List ℕ). getD row t 0)
+      (List·getD-eq-default (table 32 (λ s. table 32 (weightAt file s))) [] (omega (arith, length-table 32 (λ s. table 32 (weightAt file s)))))
+
+  -- the masks' own bytes
+  mask-byte : (j : ℕ) → 8 ≤ j → j < 72 → headByte (fieldsOf file) j ≡ byteOf file 0 j
+  mask-byte j h l =
+      let s = (j - 8) / 2 in
+      let small : s < 32 = omega arith in
+      head-rest (fieldsOf file) j h ∙
+      ap (λ (x : ℕ). byteOfTwo x ((j - 8) % 2)) (mask-of-file s small) ∙
+      byte-back (byteOf file 0 (8 + 2 * s)) (byteOf file 0 (8 + 2 * s + 1)) (byteOf file 0 j) ((j - 8) % 2)
+      (bytes (512 * 0 + (8 + 2 * s))) (bytes (512 * 0 + (8 + 2 * s + 1))) (omega arith)
+      (λ e. byte-there file (omega arith)) (λ e. byte-there file (omega arith))
+
+  -- past the masks of 32 states all is zero
+  past-masks : (j : ℕ) → 72 ≤ j → headByte (fieldsOf file) j ≡ 0
+  past-masks j h =
+      let gone : 32 ≤ (j - 8) / 2 = omega arith in
+      head-rest (fieldsOf file) j (omega arith) ∙
+      ap (λ (x : ℕ). byteOfTwo x ((j - 8) % 2)) (no-mask ((j - 8) / 2) gone) ∙ byte-of-zero ((j - 8) % 2)
+
+  -- the start: N, A and D stand by themselves, and bytes 0 and 3 are fixed
+  start-byte : byteOf file 0 0 ≡ 1 → byteOf file 0 3 ≡ 0 → (j : ℕ) → j < 8 → byteOf file 0 j ≡ headByte (fieldsOf file) j
+  unfolding headByte fieldsOf
+  start-byte first third zero l = first
+  start-byte first third (suc zero) l = refl
+  start-byte first third (suc (suc zero)) l = refl
+  start-byte first third (suc (suc (suc zero))) l = third
+  start-byte first third (suc (suc (suc (suc zero)))) l = omega (arith, bytes 4, bytes 5, bytes 6, bytes 7)
+  start-byte first third (suc (suc (suc (suc (suc zero))))) l = omega (arith, bytes 4, bytes 5, bytes 6, bytes 7)
+  start-byte first third (suc (suc (suc (suc (suc (suc zero)))))) l = omega (arith, bytes 4, bytes 5, bytes 6, bytes 7)
+  start-byte first third (suc (suc (suc (suc (suc (suc (suc zero))))))) l = omega (arith, bytes 4, bytes 5, bytes 6, bytes 7)
+  start-byte first third (suc (suc (suc (suc (suc (suc (suc (suc j)))))))) l = absurd (omega arith)
+
+  -- block 0 stands as the layout has it if its fixed bytes and its zeros do
+  head-stands : byteOf file 0 0 ≡ 1 → byteOf file 0 3 ≡ 0 → ((k : ℕ) → k < 438 → getD file (72 + k) 0 ≡ 0) →
+      (j : ℕ) → j < 510 → byteOf file 0 j ≡ contentByte (fieldsOf file) 0 j
+  head-stands first third zeros j l = go (decLt j 8) (decLt j 72) ∙ sym (content-head (fieldsOf file) j)
+    where
+      go : Dec (j < 8) → Dec (j < 72) → byteOf file 0 j ≡ headByte (fieldsOf file) j
+      go (yes start) d = start-byte first third j start
+      go (no past) (yes mask) = sym (mask-byte j (omega arith) mask)
+      go (no past) (no rest) =
+          byte-there file (omega arith) ∙ zeros (j - 72) (omega arith) ∙ sym (past-masks j (omega arith))
+
+  -- and only then
+  head-first : contentByte (fieldsOf file) 0 0 ≡ 1
+  unfolding headByte fieldsOf contentByte
+  head-first = refl
+
+  head-third : contentByte (fieldsOf file) 0 3 ≡ 0
+  unfolding headByte fieldsOf contentByte
+  head-third = refl
+
+  head-zero : (k : ℕ) → contentByte (fieldsOf file) 0 (72 + k) ≡ 0
+  head-zero k = content-head (fieldsOf file) (72 + k) ∙ past-masks (72 + k) (omega arith)
+
+  -- a row's own bytes, of a state that the record has room for
+  row-byte : (i j : ℕ) → 1 ≤ i → 2 ≤ j → j < 450 → 7 * (i - 1) + (j - 2) / 64 < 32 → rowByte (fieldsOf file) i j ≡ byteOf file i j
+  row-byte i j one h l room =
+      let s = 7 * (i - 1) + (j - 2) / 64 in
+      let t = (j - 2) % 64 / 2 in
+      let small : t < 32 = omega arith in
+      let block : s / 7 ≡ i - 1 = omega arith in
+      let place : s % 7 ≡ (j - 2) / 64 = omega arith in
+      row-rest (fieldsOf file) i j h l ∙
+      ap (λ (x : ℕ). byteOfTwo x ((j - 2) % 2)) (weight-of-file s t room small) ∙
+      byte-back (byteOf file (1 + s / 7) (2 + 64 * (s % 7) + 2 * t)) (byteOf file (1 + s / 7) (2 + 64 * (s % 7) + 2 * t + 1)) (byteOf file i j) ((j - 2) % 2)
+      (bytes (512 * (1 + s / 7) + (2 + 64 * (s % 7) + 2 * t))) (bytes (512 * (1 + s / 7) + (2 + 64 * (s % 7) + 2 * t + 1))) (omega arith)
+      (λ e. byte-there file (omega arith)) (λ e. byte-there file (omega arith))
+
+  -- a row that the record has no room for is zero
+  past-rows : (i j : ℕ) → 2 ≤ j → 32 ≤ 7 * (i - 1) + (j - 2) / 64 → rowByte (fieldsOf file) i j ≡ 0
+  past-rows i j h gone = go (decLt j 450)
+    where
+      go : Dec (j < 450) → rowByte (fieldsOf file) i j ≡ 0
+      go (yes l) =
+          row-rest (fieldsOf file) i j h l ∙
+          ap (λ (x : ℕ). byteOfTwo x ((j - 2) % 2)) (no-weight (7 * (i - 1) + (j - 2) / 64) ((j - 2) % 64 / 2) gone) ∙ byte-of-zero ((j - 2) % 2)
+      go (no more) = row-end (fieldsOf file) i j (omega arith)
+
+  -- the test of block 0
+  pub head-test : (eqb (byteOf file 0 0) 1 && eqb (byteOf file 0 3) 0 && every 438 (λ k. eqb (getD file (72 + k) 0) 0)) ≡ every 510 (stands 0)
+  head-test = marks-and-zeros (eqb (byteOf file 0 0) 1) (eqb (byteOf file 0 3) 0) 438 (λ k. eqb (getD file (72 + k) 0) 0) (stands 0)
+      (λ first third zeros j l. eq-eqb _ _ (head-stands (eqb-true _ _ first) (eqb-true _ _ third) (λ k m. eqb-true _ _ (zeros k m)) j l))
+      (λ all. eq-eqb _ _ (eqb-true _ _ (all 0 (omega arith)) ∙ head-first))
+      (λ all. eq-eqb _ _ (eqb-true _ _ (all 3 (omega arith)) ∙ head-third))
+      (λ all k m. eq-eqb _ _ (byte-there file (omega arith) ∙ eqb-true _ _ (all (72 + k) (omega arith)) ∙ head-zero k))
+
+  row-first : (i : ℕ) → rowByte (fieldsOf file) i 0 ≡ 2
+  unfolding rowByte
+  row-first i = refl
+
+  row-second : (i : ℕ) → rowByte (fieldsOf file) i 1 ≡ i
+  unfolding rowByte
+  row-second i = refl
+
+  -- the rows of block i that the record has room for end at byte z
+  module _ (i z : ℕ) (one : 1 ≤ i) (low : 2 ≤ z) (high : z ≤ 450)
+      (room : (j : ℕ) → 2 ≤ j → j < z → 7 * (i - 1) + (j - 2) / 64 < 32)
+      (past : (j : ℕ) → z ≤ j → j < 450 → 32 ≤ 7 * (i - 1) + (j - 2) / 64) where
+    past-zero : (j : ℕ) → z ≤ j → rowByte (fieldsOf file) i j ≡ 0
+    past-zero j h = go (decLt j 450)
+      where
+        go : Dec (j < 450) → rowByte (fieldsOf file) i j ≡ 0
+        go (yes l) = past-rows i j (omega arith) (past j h l)
+        go (no more) = row-end (fieldsOf file) i j (omega arith)
+
+    row-stands-at : byteOf file i 0 ≡ 2 → byteOf file i 1 ≡ i → ((k : ℕ) → k < 510 - z → byteOf file i (z + k) ≡ 0) →
+        (j : ℕ) → j < 510 → byteOf file i j ≡ rowByte (fieldsOf file) i j
+    row-stands-at first second zeros zero l = first ∙ sym (row-first i)
+    row-stands-at first second zeros (suc zero) l = second ∙ sym (row-second i)
+    row-stands-at first second zeros (suc (suc k)) l = go (suc (suc k)) (omega arith) l (decLt (suc (suc k)) z)
+      where
+        go : (j : ℕ) → 2 ≤ j → j < 510 → Dec (j < z) → byteOf file i j ≡ rowByte (fieldsOf file) i j
+        go j h l (yes row) = sym (row-byte i j one h (omega arith) (room j h row))
+        go j h l (no rest) =
+            byte-there file (omega arith) ∙ zeros (j - z) (omega arith) ∙ sym (past-zero j (omega arith))
+
+    -- block i stands as the layout has it if its first two bytes do, and its zeros
+    row-stands : byteOf file i 0 ≡ 2 → byteOf file i 1 ≡ i → ((k : ℕ) → k < 510 - z → byteOf file i (z + k) ≡ 0) →
+        (j : ℕ) → j < 510 → byteOf file i j ≡ contentByte (fieldsOf file) i j
+    row-stands first second zeros j l = row-stands-at first second zeros j l ∙ sym (content-row (fieldsOf file) i j one)
+
+    -- and only then
+    block-first : contentByte (fieldsOf file) i 0 ≡ 2
+    block-first = content-row (fieldsOf file) i 0 one ∙ row-first i
+
+    block-second : contentByte (fieldsOf file) i 1 ≡ i
+    block-second = content-row (fieldsOf file) i 1 one ∙ row-second i
+
+    block-zero : (k : ℕ) → contentByte (fieldsOf file) i (z + k) ≡ 0
+    block-zero k = content-row (fieldsOf file) i (z + k) one ∙ past-zero (z + k) (omega arith)
+
+    -- the test of block i, whose zeros are looked for from byte z on
+    pub row-test : (eqb (byteOf file i 0) 2 && eqb (byteOf file i 1) i && every (510 - z) (λ k. eqb (byteOf file i (z + k)) 0)) ≡ every 510 (stands i)
+    row-test = marks-and-zeros (eqb (byteOf file i 0) 2) (eqb (byteOf file i 1) i) (510 - z) (λ k. eqb (byteOf file i (z + k)) 0) (stands i)
+        (λ first second zeros j l. eq-eqb _ _ (row-stands (eqb-true _ _ first) (eqb-true _ _ second) (λ k m. eqb-true _ _ (zeros k m)) j l))
+        (λ all. eq-eqb _ _ (eqb-true _ _ (all 0 (omega arith)) ∙ block-first))
+        (λ all. eq-eqb _ _ (eqb-true _ _ (all 1 (omega arith)) ∙ block-second))
+        (λ all k m. eq-eqb _ _ (eqb-true _ _ (all (z + k) (omega arith)) ∙ block-zero k))

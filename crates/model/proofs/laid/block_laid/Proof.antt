@@ -1,0 +1,28 @@
+-- `model::laid::block_laid` meets its contract: block 0 is the head.
+use borrow.Author.Needs.{needs}
+use Prim.Native.Nat.{ℕ}
+use mathlib.Core.Path.{ap, sym, _∙_}
+use lib.Dec.{eqb}
+use Rattle.counting.specs.Below.{every}
+use Rattle.block.specs.Block.{byteOf}
+use Rattle.model.specs.Layout.{fieldsOf, contentByte}
+use Rattle.model.proofs.laid.block_laid.Statement.{statement}
+use Rattle.model.proofs.laid.block_laid.Tie as tie
+
+head-laid-requires : tie.Need-head-laid-requires
+head-laid-requires c κs = search needs
+
+row-block-laid-requires : tie.Need-row-block-laid-requires
+row-block-laid-requires c κs = search needs
+
+returns : tie.Need-returns
+returns c =
+    let file = c .before .before .before .args .file .now in
+    c .head-laid .ensures ∙
+    ap (λ (i : ℕ). every 510 (λ j. eqb (byteOf file i j) (contentByte (fieldsOf file) i j))) (sym (c .before .if1 .taken))
+
+returns-2 : tie.Need-returns-2
+returns-2 c = search needs
+
+pub block-laid-spec : {M : Type 1} → statement M
+block-laid-spec = tie.close (tie.spec head-laid-requires row-block-laid-requires returns returns-2)

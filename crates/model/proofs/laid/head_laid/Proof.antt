@@ -1,0 +1,29 @@
+-- `model::laid::head_laid` meets its contract, by the test of block 0.
+use borrow.Author.Needs.{needs}
+use Prim.Native.Nat.{ℕ, _+_}
+use mathlib.Core.Bool.{Bool, _&&_}
+use mathlib.Core.Path.{ap, ap₂, _∙_}
+use lib.Dec.{eqb}
+use Rattle.model.proofs.Standing.{head-test}
+use Rattle.model.proofs.laid.head_laid.Statement.{statement}
+use Rattle.model.proofs.laid.head_laid.Tie as tie
+
+byte-at-requires : tie.Need-byte-at-requires
+byte-at-requires c κs = search needs
+
+byte-at-requires-2 : tie.Need-byte-at-requires-2
+byte-at-requires-2 c κs = search needs
+
+zeros-requires : tie.Need-zeros-requires
+zeros-requires c κs = search needs
+
+returns : tie.Need-returns
+returns c =
+    let file = c .before .before .before .before .args .file .now in
+    ap₂ _&&_
+    (ap₂ _&&_ (ap (λ (x : ℕ). eqb x 1) (c .before .before .byte-at .ensures)) (ap (λ (x : ℕ). eqb x 0) (c .before .byte-at2 .ensures)))
+    (c .zeros .ensures) ∙
+    head-test file (λ k. c .before .before .before .shared-slice-known .given k .fits)
+
+pub head-laid-spec : {M : Type 1} → statement M
+head-laid-spec = tie.close (tie.spec byte-at-requires byte-at-requires-2 zeros-requires returns)

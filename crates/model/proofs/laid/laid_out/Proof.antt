@@ -1,0 +1,70 @@
+-- `model::laid::laid_out` meets its contract: the fields, the number of blocks, and every block.
+use borrow.Author.Needs.{needs}
+use Prim.Native.Nat.{ℕ}
+use mathlib.Core.Bool.{Bool, true, _&&_}
+use mathlib.Core.Path.{_≡_, ap, ap₂, sym, _∙_}
+use native.Mathlib.Omega.{arith}
+use borrow.Author.Tests.{not-true, not-false, eq-eqb, ne-eqb}
+use lib.Dec.{eqb}
+use Rattle.counting.specs.Below.{every}
+use Rattle.block.specs.Block.{byteOf, blocksIn}
+use Rattle.model.specs.declared.Model.{Model}
+use Rattle.model.specs.Layout.{contentByte, blocks}
+use Rattle.model.specs.Rows.{fieldsRight, laidOut}
+use Rattle.model.proofs.Rightness.{states-few}
+use Rattle.model.proofs.laid.laid_out.Statement.{statement}
+use Rattle.model.proofs.laid.laid_out.Tie as tie
+
+cast-wanted : tie.Need-cast-wanted
+cast-wanted c = search needs
+
+add-wanted : tie.Need-add-wanted
+add-wanted c = search needs
+
+add-wanted-2 : tie.Need-add-wanted-2
+add-wanted-2 c = search needs
+
+fields-right-requires : tie.Need-fields-right-requires
+fields-right-requires c κs = search needs
+
+-- past the first test the fields are right
+right : (c : tie.Else1) → fieldsRight (c .before .before .before .before .args .m) ≡ true
+right c = sym (c .before .fields-right .ensures) ∙ not-false _ (c .if1 .left)
+
+returns : tie.Need-returns
+unfolding laidOut
+returns c =
+    let a = c .before .before .before .before .args in
+    sym (ap (λ (b : Bool). b && eqb (blocksIn (a .file .now)) (blocks (a .m .n)) && every (blocksIn (a .file .now)) (λ i. every 510 (λ j. eqb (byteOf (a .file .now) i j) (contentByte (a .m) i j))))
+    (sym (c .before .fields-right .ensures) ∙ not-true _ (c .if1 .taken)))
+
+returns-2 : tie.Need-returns-2
+unfolding laidOut
+returns-2 c =
+    let a = c .before .before .before .before .before .args in
+    sym (ap₂ (λ (b e : Bool). b && e && every (blocksIn (a .file .now)) (λ i. every 510 (λ j. eqb (byteOf (a .file .now) i j) (contentByte (a .m) i j))))
+    (right (c .before)) (ne-eqb _ _ (c .if2 .taken)))
+
+blocks-laid-requires : tie.Need-blocks-laid-requires
+blocks-laid-requires c κs = omega (arith, states-few _ (right (c .before)))
+
+returns-3 : tie.Need-returns-3
+unfolding laidOut
+returns-3 c =
+    let a = c .before .before .before .before .before .before .args in
+    let standing : Model → Bool = λ m. every (blocksIn (a .file .now)) (λ i. every 510 (λ j. eqb (byteOf (a .file .now) i j) (contentByte m i j))) in
+    c .blocks-laid .ensures ∙ ap standing (sym (c .before .before .before .before .before .before .pre)) ∙
+    sym (ap₂ (λ (b e : Bool). b && e && standing (a .m)) (right (c .before .before)) (eq-eqb _ _ (c .before .if2 .left)))
+
+pub laid-out-spec : {M : Type 1} → statement M
+laid-out-spec =
+    tie.close
+    (tie.spec
+    cast-wanted
+    add-wanted
+    add-wanted-2
+    fields-right-requires
+    returns
+    returns-2
+    blocks-laid-requires
+    returns-3)

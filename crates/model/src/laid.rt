@@ -1,0 +1,93 @@
+// Whether a file's bytes stand as the layout has them: the rest of row 4 of document 01's table. The bytes of the fields
+// themselves need no second look: what is left are the fixed bytes, and those that are to be zero.
+ghost use mathlib.Core.Path.{_≡_};
+ghost use Prim.Native.Nat.{_+_, _*_, _<_, _≤_};
+ghost use lib.ListN.{getD};
+ghost use lib.Dec.{eqb};
+ghost use Rattle.counting.specs.Below.{every};
+ghost use Rattle.block.specs.Block.{byteOf};
+ghost use Rattle.model.specs.Layout.{contentByte, fieldsOf};
+ghost use Rattle.model.specs.Rows.{laidOut};
+use crate::Model;
+use crate::rules::fields_right;
+use block::byte_at;
+
+// Whether so many bytes from a place of the file are zero.
+fn zeros(file: &[u8], from: usize, count: usize) -> bool
+    requires { ⌜ from + count ≤ 4096 ⌝ }
+    ensures { λ r. ⌜ r ≡ every count (λ k. eqb (getD (now (file .entry)) (from + k) 0) 0) ⌝ }
+{
+    let mut k: usize = 0;
+    while k < count {
+        if !(byte_at(file, from + k) == 0) {
+            return false;
+        }
+        k += 1;
+    }
+    true
+}
+
+// Whether block 0 stands as the layout has it: byte 0 is 1, byte 3 is 0, and from byte 72 on all are zero.
+fn head_laid(file: &[u8]) -> bool
+    ensures { λ r. ⌜ r ≡ every 510 (λ j. eqb (byteOf (now (file .entry)) 0 j) (contentByte (fieldsOf (now (file .entry))) 0 j)) ⌝ }
+{
+    (byte_at(file, 0) == 1) & (byte_at(file, 3) == 0) & zeros(file, 72, 438)
+}
+
+// Whether block i stands as the layout has it: byte 0 is 2, byte 1 is i, and all are zero from byte 450 on, in block 5
+// from the place of state 32 on.
+fn row_block_laid(file: &[u8], i: usize) -> bool
+    requires { ⌜ (1 ≤ i) × (i < 6) ⌝ }
+    ensures { λ r. ⌜ r ≡ every 510 (λ j. eqb (byteOf (now (file .entry)) i j) (contentByte (fieldsOf (now (file .entry))) i j)) ⌝ }
+{
+    let at = 512 * i;
+    let marked = (byte_at(file, at) == 2) & (byte_at(file, at + 1) == i as u8);
+    if i < 5 {
+        marked & zeros(file, at + 450, 60)
+    } else {
+        marked & zeros(file, at + 258, 252)
+    }
+}
+
+// Whether block i stands as the layout has it.
+fn block_laid(file: &[u8], i: usize) -> bool
+    requires { ⌜ i < 6 ⌝ }
+    ensures { λ r. ⌜ r ≡ every 510 (λ j. eqb (byteOf (now (file .entry)) i j) (contentByte (fieldsOf (now (file .entry))) i j)) ⌝ }
+{
+    if i == 0 {
+        head_laid(file)
+    } else {
+        row_block_laid(file, i)
+    }
+}
+
+// Whether every block stands as the layout has it.
+fn blocks_laid(file: &[u8], count: usize) -> bool
+    requires { ⌜ count ≤ 6 ⌝ }
+    ensures { λ r. ⌜ r ≡ every count (λ i. every 510 (λ j. eqb (byteOf (now (file .entry)) i j) (contentByte (fieldsOf (now (file .entry))) i j))) ⌝ }
+{
+    let mut i: usize = 0;
+    while i < count {
+        if !block_laid(file, i) {
+            return false;
+        }
+        i += 1;
+    }
+    true
+}
+
+// Row 4 of a file, whose fields are those of m.
+pub fn laid_out(file: &[u8], m: Model) -> bool
+    requires { ⌜ m ≡ fieldsOf (now file) ⌝ }
+    ensures { λ r. ⌜ r ≡ laidOut (now (file .entry)) m ⌝ }
+{
+    let blocks = file.len() / 512;
+    let wanted = 1 + (m.n as usize + 6) / 7;
+    if !fields_right(m) {
+        return false;
+    }
+    if blocks != wanted {
+        return false;
+    }
+    blocks_laid(file, blocks)
+}
