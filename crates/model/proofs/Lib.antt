@@ -1,4 +1,5 @@
 -- What belongs to no one function.
+pub mod Answer
 pub mod Places
 pub mod Rightness
 pub mod Spelled

@@ -2,6 +2,7 @@
 mod fields;
 mod laid;
 mod matrix;
+mod reader;
 mod rules;
 
 ghost use mathlib.Core.Path.{_≡_};

@@ -53,3 +53,20 @@ one-number (refused a la) (refused b lb) = le-antisymm (la _ b) (lb _ a)
 one-number (refused a la) (accepted no-row) = absurd (no-row _ a)
 one-number (accepted no-row) (refused b lb) = absurd (no-row _ b)
 one-number (accepted p) (accepted q) = refl
+
+-- ---- the number, row by row: for a call that tests its rows in order
+
+-- the first row applies
+pub first-here : (n : ℕ) {a : Bool} (rows : List Row) → a ≡ true → first (record { number = n; applies = a } ∷ rows) ≡ n
+unfolding first
+first-here n rows e = ap (λ (b : Bool). orElse b n (first rows)) e
+
+-- it does not
+pub first-later : (n : ℕ) {a : Bool} (rows : List Row) → a ≡ false → first (record { number = n; applies = a } ∷ rows) ≡ first rows
+unfolding first
+first-later n rows e = ap (λ (b : Bool). orElse b n (first rows)) e
+
+-- no row is left
+pub first-none : first [] ≡ 0
+unfolding first
+first-none = refl

@@ -1,0 +1,69 @@
+// Read model: the rows of a model file in the order of their numbers, then its fields.
+ghost use mathlib.Core.Path.{_≡_};
+ghost use Rattle.refusal.specs.Answers.{outcomeOf};
+ghost use Rattle.model.specs.Rows.{lengthRight, emptyModel, Reads};
+use crate::Model;
+use crate::ModelRead;
+use crate::fields::fields_of;
+use crate::laid::laid_out;
+use crate::matrix;
+use crate::rules::rows_right;
+use block::checks_right;
+use refusal::Outcome;
+
+// Whether the length is a multiple of 512 in 512..3,072.
+fn length_right(file: &[u8]) -> bool
+    ensures { λ r. ⌜ r ≡ lengthRight (now (file .entry)) ⌝ }
+{
+    let length = file.len();
+    let whole = length % 512 == 0;
+    let some = (512 <= length) & (length <= 3072);
+    whole & some
+}
+
+// The model that a refusal carries.
+fn empty_model() -> Model
+    ensures { λ r. ⌜ r ≡ emptyModel ⌝ }
+{
+    Model {
+        n: 0,
+        a: 0,
+        d: 0,
+        masks: [0u16; 32],
+        weights: matrix::holding([[0u16; 32]; 32]),
+    }
+}
+
+// The refusal with a number.
+fn refused(number: u8) -> ModelRead
+    ensures { λ r. ⌜ (r .outcome ≡ Outcome.Refused number) × (r .model ≡ emptyModel) ⌝ }
+{
+    let model = empty_model();
+    ModelRead {
+        outcome: Outcome::Refused(number),
+        model: model,
+    }
+}
+
+// Read model: the model of a file, or the smallest number of a row that applies to it.
+pub fn read_model(file: &[u8]) -> ModelRead
+    ensures { λ r. ⌜ Reads (now (file .entry)) r ⌝ }
+{
+    if !length_right(file) {
+        return refused(2);
+    }
+    if !checks_right(file) {
+        return refused(3);
+    }
+    let model = fields_of(file);
+    if !laid_out(file, model) {
+        return refused(4);
+    }
+    if !rows_right(model) {
+        return refused(5);
+    }
+    ModelRead {
+        outcome: Outcome::Done,
+        model: model,
+    }
+}
