@@ -1,6 +1,6 @@
 -- The first row that applies is the smallest that applies, where the rows stand in the order of their numbers; and the
 -- document's words leave one number only.
-use Prim.Native.Nat.{ℕ, _≤_, _<_}
+use Prim.Native.Nat.{ℕ, suc, _≤_, _<_}
 use mathlib.Core.Bool.{Bool, true, false, false≢true}
 use mathlib.Core.List.{List, [], _∷_}
 use mathlib.Core.Path.{_≡_, refl, ap, sym, subst}
@@ -70,3 +70,10 @@ first-later n rows e = ap (λ (b : Bool). orElse b n (first rows)) e
 pub first-none : first [] ≡ 0
 unfolding first
 first-none = refl
+
+-- the number is 0: the first row does not apply, and the number of the rest is 0
+pub none-here : (n : ℕ) (a : Bool) (rows : List Row) → first (record { number = suc n; applies = a } ∷ rows) ≡ 0 →
+    (a ≡ false) × (first rows ≡ 0)
+unfolding first
+none-here n true rows e = absurd (omega arith)
+none-here n false rows e = (refl, e)
