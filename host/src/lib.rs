@@ -7,4 +7,5 @@
 
 #![warn(missing_docs)]
 
+pub mod gen;
 pub mod second;
