@@ -7,5 +7,6 @@
 
 #![warn(missing_docs)]
 
+pub mod compare;
 pub mod gen;
 pub mod second;

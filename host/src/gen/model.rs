@@ -253,7 +253,7 @@ fn with_wrapped_row(rng: &mut Rng) -> Vec<u8> {
 
 /// Gives a state of a model with N from 2 on and D up to 65,000 a row that adds up to D + 65,536.
 fn wrap_row(rng: &mut Rng, model: &mut Model, state: usize) {
-    let n = usize::from(model.n);
+    let n = usize::from(model.n).min(32);
     let one = rng.below(n);
     let other = (one + rng.between(1, n - 1)) % n;
     model.weights[state] = [0; 32];
