@@ -8,6 +8,8 @@
 //! by answer, and every answer that the area has must have been given.
 
 mod examples;
+#[cfg(test)]
+mod faults;
 mod meaning;
 mod merging;
 mod models;

@@ -3,9 +3,9 @@
 use super::{agree, shown_file, shown_text, work_after, work_area, Library, Tally};
 use crate::gen::question::{self, Pair};
 use crate::gen::Rng;
+use crate::second;
 use crate::second::meaning::{answer, Answer, Way, WORK};
 use crate::second::model::read_model;
-use crate::second::{self};
 
 /// The most calls that ask every path at every tuple of one pair.
 const EVERY: usize = 60;
@@ -79,10 +79,10 @@ fn odd_case<L: Library>(lib: &L, rng: &mut Rng, tally: &mut Tally, pair: &Pair) 
     let mut tuple: Vec<u8> = (0..letters).map(|_| rng.below(states) as u8).collect();
     let mut path = rng.pick(&[0, 0, 0, 1, 2]);
     match rng.below(6) {
-        0 => tuple.push(0),
+        0 => tuple.resize(letters + rng.pick(&[1, 1, 2, 256]), 0),
         1 => tuple.truncate(rng.below(letters)),
         2 => tuple[rng.below(letters)] = rng.pick(&[states as u8, states as u8, 32, 255]),
-        3 => path = rng.pick(&[1, 5, 64, 65, 1 << 32, usize::MAX]),
+        3 => path = rng.pick(&[1, 5, 64, 65, 256, 1 << 32, usize::MAX]),
         _ => {}
     }
     let length = question::work_length(rng);

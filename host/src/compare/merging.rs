@@ -64,9 +64,12 @@ fn keeps<L: Library>(lib: &L, rng: &mut Rng, merging: &Merging, small: &[u8]) ->
     let size = rng.between(3, 16);
     let text = question::fitting_sentence(rng, &full, letters, size).text();
     let told = || shown_text(&text) + &shown(merging);
-    let Ok(on_full) = answer(&merging.file, &text, Way::Fitting) else { return false };
+    let Ok(on_full) = answer(&merging.file, &text, Way::Fitting) else {
+        return false;
+    };
     let on_small = answer(small, &text, Way::Fitting);
-    let on_small = on_small.unwrap_or_else(|number| panic!("refused by {number} on the merged model\n{}", told()));
+    let on_small =
+        on_small.unwrap_or_else(|number| panic!("refused by {number} on the merged model\n{}", told()));
     let tuples = states.pow(letters as u32);
     let groups = usize::from(small[1]);
     let mut work = vec![0; WORK];
@@ -85,7 +88,12 @@ fn keeps<L: Library>(lib: &L, rng: &mut Rng, merging: &Merging, small: &[u8]) ->
             if rng.chance(1, sample) {
                 let asked_full = lib.numerator(&merging.file, &text, &tuple, path, &mut work);
                 let asked_small = lib.numerator(small, &text, &grouped, path, &mut work);
-                agree("the numerators on full and merged", &[Ok(expected); 2], &[asked_full, asked_small], told);
+                agree(
+                    "the numerators on full and merged",
+                    &[Ok(expected); 2],
+                    &[asked_full, asked_small],
+                    told,
+                );
             }
         }
     }

@@ -2,11 +2,12 @@
 
 use super::{agree, output, output_after, shown_file, Library, Tally};
 use crate::gen::{model, Rng};
-use crate::second::model::blocks_of;
+use crate::second::model::{blocks_of, mend};
 use crate::second::{self, Model};
 
-/// Compares reading on every length 0..3,600, every limit of the layout, and
-/// `cases` random files; what is read is written again and gives the same file.
+/// Compares reading on every length 0..3,600, every limit of the layout, every
+/// byte of a file changed, and `cases` random files; what is read is written
+/// again and gives the same file.
 pub fn compare_model_reader<L: Library>(lib: &L, cases: usize, seed: u64) -> Tally {
     let mut rng = Rng::new(seed);
     let mut tally = Tally::new("model reader");
@@ -18,12 +19,26 @@ pub fn compare_model_reader<L: Library>(lib: &L, cases: usize, seed: u64) -> Tal
         let file = model::limit_file(&mut rng, kind);
         reader_case(lib, &mut rng, &mut tally, &file);
     }
+    each_byte_changed(lib, &mut rng, &mut tally);
     for _ in 0..cases {
         let file = model::file(&mut rng);
         reader_case(lib, &mut rng, &mut tally, &file);
     }
     tally.require(&[2, 3, 4, 5]);
     tally
+}
+
+/// A file of three blocks with each of its bytes changed in turn, the checks as
+/// they were and mended.
+fn each_byte_changed<L: Library>(lib: &L, rng: &mut Rng, tally: &mut Tally) {
+    let good = model::file_of(&model::model_with(rng, 8, 9, 300));
+    for place in 0..good.len() {
+        let mut file = good.clone();
+        file[place] ^= 1 << rng.below(8);
+        reader_case(lib, rng, tally, &file);
+        mend(&mut file);
+        reader_case(lib, rng, tally, &file);
+    }
 }
 
 /// One file: read, and if accepted written again.

@@ -6,16 +6,12 @@ use crate::second::sentence::{LETTERS, NODES};
 use crate::second::{self, Node, Sentence};
 
 /// Compares reading on `cases` random texts, and on texts of every length
-/// 0..600; what is read is written again and gives the same text.
+/// 0..600 and some far beyond; what is read is written again and gives the same text.
 pub fn compare_sentence_reader<L: Library>(lib: &L, cases: usize, seed: u64) -> Tally {
     let mut rng = Rng::new(seed);
     let mut tally = Tally::new("sentence reader");
-    for length in 0..=600 {
-        let mut text = b"AA.".to_vec();
-        text.resize(length.max(1) - 1, rng.pick(b"!!&"));
-        text.truncate(length.max(1) - 1);
-        text.push(b'T');
-        text.truncate(length);
+    for length in (0..=600).chain([65_535, 65_536, 65_539, 1_000_000]) {
+        let text = of_length(&mut rng, length);
         reader_case(lib, &mut rng, &mut tally, &text);
     }
     for _ in 0..cases {
@@ -24,6 +20,17 @@ pub fn compare_sentence_reader<L: Library>(lib: &L, cases: usize, seed: u64) -> 
     }
     tally.require(&[6, 7, 8]);
     tally
+}
+
+/// A prefix and many operators, or such operators that the text is right but for its length.
+fn of_length(rng: &mut Rng, length: usize) -> Vec<u8> {
+    let mut text = b"AA.".to_vec();
+    text.resize(length.max(1), rng.pick(b"!!&"));
+    text.truncate(length);
+    if let Some(last) = text.last_mut() {
+        *last = b'T';
+    }
+    text
 }
 
 /// One text: read, and if accepted written again.

@@ -109,12 +109,14 @@ fn mask_off(rng: &mut Rng, model: &mut Model) {
 
 /// A grouping with a byte too many or too few, or none.
 fn wrong_length(rng: &mut Rng, grouping: &mut Vec<u8>) {
-    match rng.below(4) {
+    match rng.below(5) {
         0 => grouping.push(0),
         1 => {
             grouping.pop();
         }
         2 => grouping.clear(),
+        // As many more as a byte can count.
+        3 => grouping.resize(grouping.len() + 256, 0),
         _ => grouping.extend_from_within(..),
     }
 }

@@ -52,6 +52,8 @@ pub fn file(rng: &mut Rng) -> Vec<u8> {
         6..=10 => at_a_limit(rng),
         _ => {
             let length = rng.below(3_601);
+            let beyond = rng.pick(&[3_584, 4_096, 65_536, 66_048, 66_560]);
+            let length = if rng.chance(1, 20) { beyond } else { length };
             of_length(rng, length)
         }
     }
@@ -135,7 +137,8 @@ fn poke_head(rng: &mut Rng, kind: usize, model: &Model, file: &mut [u8]) {
         1 => file[1] = rng.pick(&[0, 1, 32, 33, 34, 255, model.n + 1, model.n - 1]),
         2 => file[2] = rng.pick(&[0, 1, 16, 17, 255, model.a + 1, model.a - 1]),
         3 => file[3] = rng.pick(&[0, 1, 128]),
-        4 => file[4..8].copy_from_slice(&rng.pick(&[0, 1, 65_535, 65_536, model.d + 1, model.d + 65_536]).to_le_bytes()),
+        4 => file[4..8]
+            .copy_from_slice(&rng.pick(&[0, 1, 65_535, 65_536, model.d + 1, model.d + 65_536]).to_le_bytes()),
         5 => file[rng.between(6, 7)] = rng.pick(&[0, 1, 128]),
         // The mask bits from A on, of states below N.
         6 => {
@@ -224,16 +227,15 @@ fn poke_blocks(rng: &mut Rng, kind: usize, file: &mut Vec<u8>) {
 /// is the same modulo 65,521 and yet wrong.
 fn with_another_check(rng: &mut Rng) -> Vec<u8> {
     let mut file = file_of(&model_with(rng, 32, 16, 1));
-    loop {
-        for place in 8..72 {
-            file[place] = rng.byte();
-            let check = block_check(&file[..BLOCK]);
-            if check < 15 {
-                file[510..512].copy_from_slice(&(check + 65_521).to_le_bytes());
-                return file;
-            }
-        }
+    let mut check = u64::from(block_check(&file[..BLOCK]));
+    while check >= 15 {
+        let (place, byte) = (rng.between(8, 71), rng.byte());
+        let change = 65_521 + u64::from(byte) - u64::from(file[place]);
+        check = (check + (place as u64 + 1) * change) % 65_521;
+        file[place] = byte;
     }
+    file[510..512].copy_from_slice(&(check as u16 + 65_521).to_le_bytes());
+    file
 }
 
 /// A file with a row that adds up to D + 65,536: D in two bytes, and yet wrong.
@@ -281,7 +283,10 @@ fn spoil(rng: &mut Rng, model: &mut Model) {
         2 => model.a = rng.pick(&[0, 17, 32, 255]),
         3 => model.a = rng.pick(&[model.a.wrapping_add(1), model.a.wrapping_sub(1), 1, 16]),
         4 => model.d = rng.pick(&[0, 65_536, 65_537, 131_072, u32::MAX]),
-        5 => model.d = rng.pick(&[model.d.wrapping_add(1), model.d.wrapping_sub(1), model.d.wrapping_add(65_536)]),
+        5 => {
+            model.d =
+                rng.pick(&[model.d.wrapping_add(1), model.d.wrapping_sub(1), model.d.wrapping_add(65_536)])
+        }
         6 => model.masks[state] ^= 1 << rng.pick(&[usize::from(model.a) % 16, 15, any]),
         7 => model.masks[rng.pick(&[n % 32, 31])] |= 1 << rng.below(16),
         8 => model.weights[rng.below(32)][rng.pick(&[n % 32, 31])] = rng.pick(&[1, 256, 65_535]),

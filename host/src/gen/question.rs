@@ -26,7 +26,8 @@ pub fn pair(rng: &mut Rng) -> Pair {
         6 => with_label_beyond(rng),
         7..=9 => at_size_limit(rng),
         10 => at_tuple_limit(rng),
-        11..=20 => tight(rng),
+        11 => near(rng),
+        12..=20 => tight(rng),
         _ => fitting(rng),
     }
 }
@@ -135,13 +136,36 @@ pub fn tight(rng: &mut Rng) -> Pair {
     Pair { file, text: loose.text() }
 }
 
+/// A pair that compares a probability with a constant from which it differs by
+/// less than a rounded division shows: state 0 reaches state 1 within k steps
+/// with (g / (D − 1)) × (1 − 1 / D^k).
+fn near(rng: &mut Rng) -> Pair {
+    let d = rng.pick(&[2, 3, 3, 4, 5, 8, 10, 1_000, 65_535]);
+    let goal = rng.between(1, d - 1);
+    let mut model = Model { n: 3, a: 2, d: d as u32, ..Model::empty() };
+    model.masks[..3].copy_from_slice(&[2, 1, 0]);
+    model.weights[0][..3].copy_from_slice(&[1, goal as u16, (d - 1 - goal) as u16]);
+    model.weights[1][1] = d as u16;
+    model.weights[2][2] = d as u16;
+    let window = widest_window(d as u32, 1).max(1) - 1;
+    let relation = char::from(rng.pick(b"<L=G>"));
+    let compared = format!("{relation}PU0,{window}:Ta1#{goal}/{};", d - 1);
+    let text = match rng.below(3) {
+        0 => format!("E.&b1{compared}"),
+        1 => format!("A.!&b1!{compared}"),
+        _ => format!("{}.{compared}", char::from(rng.pick(b"AE"))),
+    };
+    Pair { file: file_of(&model), text: text.into_bytes() }
+}
+
 /// A pair whose sentence names a label near A, on either side.
 fn with_label_beyond(rng: &mut Rng) -> Pair {
     let (mut model, letters) = chain(rng, 36);
     model.a = rng.between(usize::from(model.a), 16) as u8;
     let label = (usize::from(model.a) + rng.below(3)).saturating_sub(1).min(15) as u8;
     let variable = rng.between(1, letters) as u8;
-    let mut loose = Loose { prefix: sentence::prefix(rng, letters), list: vec![Node::Label { label, variable }] };
+    let mut loose =
+        Loose { prefix: sentence::prefix(rng, letters), list: vec![Node::Label { label, variable }] };
     if rng.chance(1, 2) {
         loose.list.insert(0, Node::Next);
         loose.list.insert(0, Node::Probability);
@@ -153,7 +177,8 @@ fn with_label_beyond(rng: &mut Rng) -> Pair {
 
 /// A pair whose number of tuples stands near 1,024, on either side.
 fn at_tuple_limit(rng: &mut Rng) -> Pair {
-    let (n, letters) = rng.pick(&[(32, 1), (31, 2), (32, 2), (10, 3), (11, 3), (5, 4), (6, 4), (32, 3), (32, 4), (1, 4)]);
+    let (n, letters) =
+        rng.pick(&[(32, 1), (31, 2), (32, 2), (10, 3), (11, 3), (5, 4), (6, 4), (32, 3), (32, 4), (1, 4)]);
     let d = rng.between(1, 3) as u32;
     let model = model_with(rng, n, 2, d);
     let prefix = "AE".repeat(2)[..letters].to_string();
@@ -216,7 +241,9 @@ mod tests {
 
     /// Whether listing the runs of every path stays within some thousands.
     fn few_runs(model: &Model, text: &[u8]) -> bool {
-        let Ok(sentence) = read_sentence(text) else { return false };
+        let Ok(sentence) = read_sentence(text) else {
+            return false;
+        };
         let tuples = u64::from(model.n).pow(sentence.letters as u32);
         sentence.nodes[..sentence.count].iter().all(|node| match node {
             Node::Until { to, .. } => tuples.checked_pow(*to + 1).is_some_and(|runs| runs <= 20_000),

@@ -305,8 +305,32 @@ fn of_digits(rng: &mut Rng, digits: usize) -> usize {
 
 /// Numbers at the limits, and spellings that are no numbers.
 const NUMBERS: &[&str] = &[
-    "0", "00", "01", "000", "1", "10", "59", "60", "61", "065", "65534", "65535", "65536", "99999", "100000", "065535",
-    "123456", "1000000", "4294967296", "18446744073709551617", "", "-1", "+1", "1 ", "1.0", "x",
+    "0",
+    "00",
+    "01",
+    "000",
+    "1",
+    "10",
+    "59",
+    "60",
+    "61",
+    "065",
+    "65534",
+    "65535",
+    "65536",
+    "99999",
+    "100000",
+    "065535",
+    "123456",
+    "1000000",
+    "4294967296",
+    "18446744073709551617",
+    "",
+    "-1",
+    "+1",
+    "1 ",
+    "1.0",
+    "x",
 ];
 
 /// A text in which another spelling was put for one number or variable digit.
@@ -340,7 +364,8 @@ fn with_spoiled_node(rng: &mut Rng) -> Vec<u8> {
 /// Puts values at a limit into one node that has values, if there is one; for
 /// the writer also values that no text spells.
 fn spoil_value(rng: &mut Rng, list: &mut [Node], beyond: bool) {
-    let has_values = |node: &Node| matches!(node, Node::Label { .. } | Node::Constant { .. } | Node::Until { .. });
+    let has_values =
+        |node: &Node| matches!(node, Node::Label { .. } | Node::Constant { .. } | Node::Until { .. });
     let places: Vec<usize> = (0..list.len()).filter(|&i| has_values(&list[i])).collect();
     if places.is_empty() {
         return;
@@ -386,7 +411,8 @@ fn with_another_prefix(rng: &mut Rng) -> Vec<u8> {
 fn with_another_label(rng: &mut Rng) -> Vec<u8> {
     let letter = rng.pick(b"aopq`zAP@");
     let digit = rng.pick(b"0123459:/a");
-    let (front, back) = rng.pick(&[("A.", ""), ("AE.&T", ""), ("EEE.=PX", "#1/2;"), ("AAAA.&", "b4"), ("AA.!", "")]);
+    let (front, back) =
+        rng.pick(&[("A.", ""), ("AE.&T", ""), ("EEE.=PX", "#1/2;"), ("AAAA.&", "b4"), ("AA.!", "")]);
     let mut text = front.as_bytes().to_vec();
     text.extend_from_slice(&[letter, digit]);
     text.extend_from_slice(back.as_bytes());
@@ -405,9 +431,9 @@ pub fn record(rng: &mut Rng) -> Sentence {
     }
     let mut record = record_of(rng, &loose);
     match rng.below(10) {
-        0 => record.letters = rng.pick(&[0, 1, 2, 3, 4, 5, 6, usize::MAX]),
+        0 => record.letters = rng.pick(&[0, 1, 2, 3, 4, 5, 6, 257, usize::MAX]),
         1 => record.count = rng.pick(&[0, record.count.wrapping_sub(1), record.count + 1, 63, 64]),
-        2 => record.count = rng.pick(&[64, 65, 66, 128, 320, usize::MAX]),
+        2 => record.count = rng.pick(&[64, 65, 66, 128, record.count + 256, usize::MAX]),
         _ => {}
     }
     record

@@ -368,9 +368,7 @@ impl Question {
             Expression::Difference(left, right) => {
                 self.both(left, right, way, paths, |(a, d1), (b, d2)| a * d2 - b * d1)
             }
-            Expression::Product(left, right) => {
-                self.both(left, right, way, paths, |(a, _), (b, _)| a * b)
-            }
+            Expression::Product(left, right) => self.both(left, right, way, paths, |(a, _), (b, _)| a * b),
         }
     }
 

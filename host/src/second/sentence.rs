@@ -93,8 +93,12 @@ pub fn read_sentence(text: &[u8]) -> Result<Sentence, u8> {
     if list.len() > NODES {
         return Err(8);
     }
-    let mut sentence =
-        Sentence { letters: prefix.len(), exists: [false; LETTERS], count: list.len(), nodes: [Node::True; NODES] };
+    let mut sentence = Sentence {
+        letters: prefix.len(),
+        exists: [false; LETTERS],
+        count: list.len(),
+        nodes: [Node::True; NODES],
+    };
     sentence.exists[..prefix.len()].copy_from_slice(&prefix);
     sentence.nodes[..list.len()].copy_from_slice(&list);
     Ok(sentence)
