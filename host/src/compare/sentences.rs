@@ -6,7 +6,8 @@ use crate::second::sentence::{LETTERS, NODES};
 use crate::second::{self, Node, Sentence};
 
 /// Compares reading on `cases` random texts, and on texts of every length
-/// 0..600 and some far beyond; what is read is written again and gives the same text.
+/// 0..600 and some far beyond, and on a text with every byte changed in every
+/// way; what is read is written again and gives the same text.
 pub fn compare_sentence_reader<L: Library>(lib: &L, cases: usize, seed: u64) -> Tally {
     let mut rng = Rng::new(seed);
     let mut tally = Tally::new("sentence reader");
@@ -14,12 +15,33 @@ pub fn compare_sentence_reader<L: Library>(lib: &L, cases: usize, seed: u64) -> 
         let text = of_length(&mut rng, length);
         reader_case(lib, &mut rng, &mut tally, &text);
     }
+    each_byte_changed(lib, &mut rng, &mut tally);
     for _ in 0..cases {
         let text = sentence::text(&mut rng);
         reader_case(lib, &mut rng, &mut tally, &text);
     }
     tally.require(&[6, 7, 8]);
     tally
+}
+
+/// A text with every form of the grammar in it.
+const FORMS: &[u8] =
+    b"AEAE.&!a1&>+*PXp4#65535/1;-PU0,60:TT#0/65535;PXT&<PXTPXT&L#1/2;#1/2;&G#0/1;#9/10;=PXTPXT";
+
+/// That text with each byte taken out, and each byte put in the place of one
+/// and before it.
+fn each_byte_changed<L: Library>(lib: &L, rng: &mut Rng, tally: &mut Tally) {
+    for place in 0..FORMS.len() {
+        let (front, back) = FORMS.split_at(place);
+        reader_case(lib, rng, tally, &[front, &back[1..]].concat());
+        for byte in 0..=255 {
+            reader_case(lib, rng, tally, &[front, &[byte], &back[1..]].concat());
+            reader_case(lib, rng, tally, &[front, &[byte], back].concat());
+        }
+    }
+    for byte in 0..=255 {
+        reader_case(lib, rng, tally, &[FORMS, &[byte]].concat());
+    }
 }
 
 /// A prefix and many operators, or such operators that the text is right but for its length.
@@ -94,4 +116,14 @@ fn cleared(record: &Sentence) -> Sentence {
     sentence.nodes[record.count.min(NODES)..].fill(Node::True);
     sentence.exists[record.letters.min(LETTERS)..].fill(false);
     sentence
+}
+
+#[cfg(test)]
+mod tests {
+    use super::*;
+
+    #[test]
+    fn the_text_of_every_form_is_right() {
+        assert!(second::read_sentence(FORMS).is_ok());
+    }
 }
