@@ -67,7 +67,7 @@ impl Rng {
     /// a few, or spread over all.
     pub fn split(&mut self, total: u32, parts: usize) -> Vec<u32> {
         let mut shares = vec![0; parts];
-        let cuts = self.pick(&[0, 0, 1, 2, 3, parts, 2 * parts]);
+        let cuts = self.pick(&[0, 1, 2, 3, 4, parts, 2 * parts]);
         let mut left = total;
         for _ in 0..cuts {
             let share = self.below(left as usize + 1) as u32;

@@ -43,7 +43,7 @@ pub fn work_length(rng: &mut Rng) -> usize {
 
 /// A pair that is nearly always answered.
 pub fn fitting(rng: &mut Rng) -> Pair {
-    let most = if rng.chance(1, 40) { TUPLES } else { rng.pick(&[1, 8, 16, 27, 36, 64]) };
+    let most = if rng.chance(1, 40) { TUPLES } else { rng.pick(&[4, 16, 16, 27, 36, 64, 81]) };
     let (model, letters) = chain(rng, most);
     let size = match rng.below(6) {
         0 => rng.between(1, 64),
@@ -61,7 +61,7 @@ pub fn chain(rng: &mut Rng, tuples: usize) -> (Model, usize) {
     let most = (1..=32usize).rev().find(|n| n.pow(letters as u32) <= tuples).unwrap_or(1);
     let n = rng.between(most.min(2), most);
     let any = rng.between(1, 65_535) as u32;
-    let d = rng.pick(&[1, 1, 1, 2, 2, 2, 2, 3, 3, 4, 5, 6, 10, 100, 65_535, any]);
+    let d = rng.pick(&[1, 1, 2, 2, 2, 2, 3, 3, 4, 4, 5, 6, 10, 100, 65_535, any]);
     let a = rng.between(1, 3) as u8;
     (model_with(rng, n as u8, a, d), letters)
 }
@@ -84,7 +84,7 @@ pub fn fitting_sentence(rng: &mut Rng, model: &Model, letters: usize, size: usiz
     let mut found = None;
     for attempt in 0..8 {
         let window = rng.pick(&[1, 1, 2, 3, 5, 8, widest / 3, widest]).min(widest).min(60 >> attempt);
-        let (top, bottom) = rng.pick(&[(9, 1), (9, 3), (1, 1), (2, 2), (60, 60)]);
+        let (top, bottom) = rng.pick(&[(9, 1), (2, 2), (3, 3), (4, 4), (60, 60)]);
         let taste = Taste { variables: letters, labels: usize::from(model.a), window, top, bottom, lean };
         let size = (size >> (attempt / 2)).max(1);
         let loose = sentence::sentence(rng, &taste, size);

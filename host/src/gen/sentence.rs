@@ -112,7 +112,7 @@ impl Growing<'_> {
     /// A state formula of exactly `size` nodes.
     fn formula(&mut self, size: usize) {
         match (size, self.rng.below(8)) {
-            (1, 0 | 1) => self.list.push(Node::True),
+            (1, 0) => self.list.push(Node::True),
             (1, _) => {
                 let label = self.rng.below(self.taste.labels) as u8;
                 let variable = self.rng.between(1, self.taste.variables) as u8;
@@ -122,7 +122,8 @@ impl Growing<'_> {
                 self.list.push(Node::Not);
                 self.formula(size - 1);
             }
-            (4, _) | (_, 1 | 2) => {
+            // A comparison of three nodes has two constants, and is the same everywhere.
+            (4, _) | (3, 3..=6) | (_, 1 | 2) => {
                 self.list.push(Node::And);
                 let (left, right) = self.halves(size - 1);
                 self.formula(left);
@@ -149,17 +150,17 @@ impl Growing<'_> {
 
     /// An expression of exactly `size` nodes, which is not 2.
     fn expression(&mut self, size: usize) {
-        match (size, self.rng.below(5)) {
+        match (size, self.rng.below(6)) {
             (1, _) => {
                 let constant = constant(self.rng, self.taste);
                 self.list.push(constant);
             }
-            (4, _) | (_, 0 | 1) => {
+            (4, _) | (_, 0..=2) => {
                 self.list.push(Node::Probability);
                 self.path(size - 1);
             }
             (_, kind) => {
-                self.list.push([Node::Sum, Node::Difference, Node::Product][kind - 2]);
+                self.list.push([Node::Sum, Node::Difference, Node::Product][kind - 3]);
                 self.expressions(size - 1);
             }
         }
@@ -171,7 +172,8 @@ impl Growing<'_> {
             self.list.push(Node::Next);
             self.formula(size - 1);
         } else {
-            let to = self.rng.between(0, self.taste.window);
+            let least = usize::from(self.rng.chance(7, 8)).min(self.taste.window);
+            let to = self.rng.between(least, self.taste.window);
             let from = if self.rng.chance(1, 2) { 0 } else { self.rng.between(0, to) };
             self.list.push(Node::Until { from: from as u32, to: to as u32 });
             let (left, right) = self.halves(size - 1);
@@ -186,14 +188,15 @@ pub fn relation(rng: &mut Rng) -> Relation {
     rng.pick(&[Relation::Less, Relation::AtMost, Relation::Equal, Relation::AtLeast, Relation::Greater])
 }
 
-/// A constant of a taste, small more often than not.
+/// A constant of a taste: most often one that a probability can be.
 fn constant(rng: &mut Rng, taste: &Taste) -> Node {
-    let (top, bottom) = match rng.below(4) {
-        0 => (taste.top, taste.bottom),
-        1 => (taste.top.min(9), 1),
-        _ => (taste.top.min(9), taste.bottom.min(4)),
+    let widest = if rng.chance(1, 3) { taste.bottom } else { taste.bottom.min(4) };
+    let bottom = rng.between(1, widest);
+    let most = match rng.below(4) {
+        0 => taste.top,
+        _ => taste.top.min(bottom),
     };
-    Node::Constant { top: rng.between(0, top) as u32, bottom: rng.between(1, bottom) as u32 }
+    Node::Constant { top: rng.between(0, most) as u32, bottom: bottom as u32 }
 }
 
 /// The bytes of the grammar.
