@@ -284,7 +284,7 @@ impl Library for Faulty {
 }
 
 /// Stops unless a comparison finds a fault.
-fn found(fault: Fault, comparison: impl FnOnce(&Faulty)) {
+fn found(fault: Fault, comparison: impl FnOnce(&Faulty) -> Tally) {
     let lib = Faulty(fault);
     let outcome = catch_unwind(AssertUnwindSafe(|| comparison(&lib)));
     let report = outcome.expect_err(&format!("{fault:?} was not found"));
@@ -309,7 +309,7 @@ fn faults_of_meaning_are_found_by_verdicts() {
         WorkZeroOnRefusal,
         WorkZeroBeyond,
     ] {
-        found(fault, |lib| drop(compare_verdict(lib, 20_000, 8)));
+        found(fault, |lib| compare_verdict(lib, 20_000, 8));
     }
 }
 
@@ -319,7 +319,7 @@ fn faults_are_found_by_numerators() {
     for fault in
         [MatchBeforeTheWindow, TupleBackwards, PathsBackwards, WorkNotZero, WorkZeroOnRefusal, WorkZeroBeyond]
     {
-        found(fault, |lib| drop(compare_numerator(lib, 2_000, 9)));
+        found(fault, |lib| compare_numerator(lib, 2_000, 9));
     }
 }
 
@@ -327,14 +327,14 @@ fn faults_are_found_by_numerators() {
 fn faults_are_found_by_merges_readers_and_writers() {
     use Fault::*;
     for fault in [SingleWeights, MasksNotCompared, OutputOnRefusal, OutputBeyond] {
-        found(fault, |lib| drop(compare_merge(lib, 5_000, 10)));
+        found(fault, |lib| compare_merge(lib, 5_000, 10));
     }
     for fault in [CheckModuloOnly, RowSumInTwoBytes] {
-        found(fault, |lib| drop(compare_model_reader(lib, 5_000, 11)));
+        found(fault, |lib| compare_model_reader(lib, 5_000, 11));
     }
-    found(TrailingByteAllowed, |lib| drop(compare_sentence_reader(lib, 5_000, 12)));
+    found(TrailingByteAllowed, |lib| compare_sentence_reader(lib, 5_000, 12));
     for fault in [OutputOnRefusal, OutputBeyond] {
-        found(fault, |lib| drop(compare_model_writer(lib, 5_000, 13)));
-        found(fault, |lib| drop(compare_sentence_writer(lib, 5_000, 14)));
+        found(fault, |lib| compare_model_writer(lib, 5_000, 13));
+        found(fault, |lib| compare_sentence_writer(lib, 5_000, 14));
     }
 }

@@ -111,7 +111,8 @@ pub const LIMITS: usize = 27;
 
 /// A file at one side of one limit of the layout, its checks mended.
 pub fn at_a_limit(rng: &mut Rng) -> Vec<u8> {
-    let kind = rng.below(LIMITS);
+    // Rows that do not add up are two kinds of many, and have a row of their own.
+    let kind = if rng.chance(1, 6) { rng.pick(&[11, 26]) } else { rng.below(LIMITS) };
     limit_file(rng, kind)
 }
 

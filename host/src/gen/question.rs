@@ -27,7 +27,8 @@ pub fn pair(rng: &mut Rng) -> Pair {
         7..=9 => at_size_limit(rng),
         10 => at_tuple_limit(rng),
         11 => near(rng),
-        12..=20 => tight(rng),
+        12 => several(rng),
+        13..=20 => tight(rng),
         _ => fitting(rng),
     }
 }
@@ -184,6 +185,19 @@ fn at_tuple_limit(rng: &mut Rng) -> Pair {
     let prefix = "AE".repeat(2)[..letters].to_string();
     let body = rng.pick(&["T", "a1", "!&a1b1", "=PXa1PXb1", "LPU0,2:a1b1#1/2;", "<#1/2;#1/3;"]);
     Pair { file: file_of(&model), text: format!("{prefix}.{body}").into_bytes() }
+}
+
+/// A pair to which each of rows 6 to 11 applies or not, by chance.
+fn several(rng: &mut Rng) -> Pair {
+    let (n, letters) = rng.pick(&[(2, 3), (5, 4), (11, 3), (6, 4), (32, 2)]);
+    let d = rng.pick(&[1, 2, 65_535]);
+    let label = rng.pick(&["a1", "a1", "b1", "p2"]);
+    let variable = rng.pick(&["a1", "a2", "a4"]);
+    let to = rng.pick(&[1, 1, 3, 21, 22, 60, 61]);
+    let back = rng.pick(&["", "", "", "", "T"]);
+    let many = "!".repeat(rng.pick(&[0, 0, 57, 58, 59, 60]));
+    let text = format!("{}.{many}LPU1,{to}:{variable}{label}#0/1;{back}", &"AEAE"[..letters]);
+    Pair { file: file_of(&model_with(rng, n, 1, d)), text: text.into_bytes() }
 }
 
 /// A pair whose sizes stand at an end of the size rule, on either side.
