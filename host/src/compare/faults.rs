@@ -41,6 +41,7 @@ enum Fault {
 struct Faulty(Fault);
 
 impl Faulty {
+    /// Whether this is the library's fault.
     fn has(&self, fault: Fault) -> bool {
         self.0 == fault
     }

@@ -137,11 +137,13 @@ struct Growing<'a> {
 }
 
 impl Growing<'_> {
+    /// Takes the next node.
     fn node(&mut self) -> Node {
         self.at += 1;
         self.list[self.at - 1]
     }
 
+    /// Takes one state formula.
     fn formula(&mut self) -> Formula {
         match self.node() {
             Node::True => Formula::True,
@@ -159,6 +161,7 @@ impl Growing<'_> {
         }
     }
 
+    /// Takes one expression.
     fn expression(&mut self) -> Expression {
         match self.node() {
             Node::Probability => Expression::Probability(Box::new(self.path())),
@@ -170,11 +173,13 @@ impl Growing<'_> {
         }
     }
 
+    /// Takes the two operands of an expression.
     fn two(&mut self, of: fn(Box<Expression>, Box<Expression>) -> Expression) -> Expression {
         let left = self.expression();
         of(Box::new(left), Box::new(self.expression()))
     }
 
+    /// Takes one path; path formulas are numbered by where they begin.
     fn path(&mut self) -> Path {
         let number = self.paths;
         self.paths += 1;
