@@ -1,0 +1,4 @@
+-- The laws that the proofs of the sentence crate share.
+pub mod Numbers
+pub mod Places
+pub mod NumberAt

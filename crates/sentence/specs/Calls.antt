@@ -1,0 +1,46 @@
+-- Document 01, 'Calls and refusal numbers', for read sentence: its rows 6, 7 and 8, and what the call answers.
+use Prim.Native.Nat.{ℕ, _-_, _≤_, _<_}
+use mathlib.Core.Bool.{Bool, true, false}
+use mathlib.Core.List.{List, [], _∷_, _++_, map}
+use mathlib.Core.Path.{_≡_}
+use lib.ListN.{length, replicate}
+use Rattle.sentence.specs.Grammar.{Spells, someOutOfRange}
+use Rattle.sentence.specs.declared.Node.{Node}
+use Rattle.sentence.specs.declared.Node.the-variants.{True}
+use Rattle.sentence.specs.declared.Slot.{Slot}
+use Rattle.sentence.specs.declared.Sentence.{Sentence}
+use Rattle.sentence.specs.declared.SentenceRead.{SentenceRead}
+use Rattle.sentence.specs.declared.Outcome.{Outcome}
+use Rattle.sentence.specs.declared.Outcome.the-variants.{Done, Refused}
+
+-- the document's number for an outcome; 0 is no row's number
+abbrev pub numberOf : Outcome → ℕ
+numberOf Done = 0
+numberOf (Refused n) = n
+
+-- the rows of read sentence: `ReadRow t n` says that the row with the number n applies to the text t
+pub data ReadRow (t : List ℕ) : ℕ → Type 0 where
+  outside : ((ps : List Bool) (ns : List Node) → Spells ps ns t → ⊥) → ReadRow t 6
+  long : 400 < length t → ReadRow t 6
+  range : {ps : List Bool} {ns : List Node} → Spells ps ns t → someOutOfRange (length ps) ns ≡ true → ReadRow t 7
+  many : {ps : List Bool} {ns : List Node} → Spells ps ns t → 64 < length ns → ReadRow t 8
+
+-- a place of the record
+abbrev pub slot : Node → Slot
+slot n = record { node = n }
+
+-- the record of a prefix and a node list: places past the letters and past the count are empty
+unfoldable pub recordOf : List Bool → List Node → Sentence
+recordOf ps ns =
+    record {
+      letters = length ps;
+      exists = ps ++ replicate (4 - length ps) false;
+      count = length ns;
+      nodes = map slot ns ++ replicate (64 - length ns) (slot True);
+    }
+
+-- what read sentence answers to the text t: of the rows that apply the smallest number, with an empty record; and where
+-- none applies, the prefix and the nodes that spell t
+pub data ReadAnswer (t : List ℕ) : SentenceRead → Type 0 where
+  refused : {n : ℕ} → ReadRow t n → ((m : ℕ) → ReadRow t m → n ≤ m) → ReadAnswer t (record { outcome = Refused n; sentence = recordOf [] [] })
+  done : {ps : List Bool} {ns : List Node} → Spells ps ns t → ((m : ℕ) → ReadRow t m → ⊥) → ReadAnswer t (record { outcome = Done; sentence = recordOf ps ns })

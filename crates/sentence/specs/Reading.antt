@@ -1,0 +1,75 @@
+-- What the parts of the reader promise one another, said over the grammar. None of it has to be believed: the contract of
+-- `read_sentence` stands in Calls.
+use Prim.Native.Nat.{ℕ, _+_, _≤_, _<_}
+use mathlib.Core.Bool.{Bool, true, false, _||_}
+use mathlib.Core.List.{List, [], _∷_, _++_, map}
+use mathlib.Core.Logic.{_⊎_}
+use mathlib.Core.Path.{_≡_}
+use lib.ListN.{length, drop, set}
+use lib.Seq.{sets}
+use Rattle.sentence.specs.Grammar.{numberText, Nests, nodeText, Written, kindOf, wants, bodyText, letterByte, outOfRange}
+use Rattle.sentence.specs.Calls.{slot}
+use Rattle.sentence.specs.declared.Kind.{Kind}
+use Rattle.sentence.specs.declared.Node.{Node}
+use Rattle.sentence.specs.declared.Kept.{Kept}
+use Rattle.sentence.specs.declared.Progress.{Progress}
+use Rattle.sentence.specs.declared.NumberRead.{NumberRead}
+use Rattle.sentence.specs.declared.PrefixRead.{PrefixRead}
+
+-- one node more, of which `bad` says that it is out of its range: past the 64th it is counted, and no place takes it
+abbrev pub keepBad : Kept → Node → Bool → Kept
+keepBad k n bad = record { count = k .count + 1; fault = k .fault || bad; nodes = set (k .nodes) (k .count) (slot n) }
+
+-- one node more, in a sentence of so many letters
+abbrev pub keep : ℕ → Kept → Node → Kept
+keep letters k n = keepBad k n (outOfRange letters n)
+
+-- the same for each node of a list
+abbrev pub keepAll : ℕ → Kept → List Node → Kept
+keepAll letters k [] = k
+keepAll letters k (n ∷ ns) = keepAll letters (keep letters k n) ns
+
+-- what holds of the reader's state over the text t
+pub record Inside (t : List ℕ) (p : Progress) : Type 0 where
+  pub within : p .at ≤ length t
+  pub counted : p .kept .count ≤ p .at
+  pub places : length (p .kept .nodes) ≡ 64
+
+-- no list that starts with things of the kinds js stands at the front of the text s
+abbrev pub Stuck : List Kind → List ℕ → Type 0
+Stuck js s = (ks : List Kind) (ns : List Node) (rest : List ℕ) → Nests (js ++ ks) ns → s ≡ bodyText ns ++ rest → ⊥
+
+-- reading things of the kinds js from the state p ends in the state r
+pub data Result (js : List Kind) (t : List ℕ) (letters : ℕ) (p r : Progress) : Type 0 where
+  stopped : p .ok ≡ false → r .ok ≡ false → Result js t letters p r
+  read : (ns : List Node) → p .ok ≡ true → r .ok ≡ true → Nests js ns → drop (p .at) t ≡ bodyText ns ++ drop (r .at) t → r .kept ≡ keepAll letters (p .kept) ns → Result js t letters p r
+  stuck : p .ok ≡ true → r .ok ≡ false → Stuck js (drop (p .at) t) → Result js t letters p r
+
+pub record Reads (js : List Kind) (t : List ℕ) (letters : ℕ) (p r : Progress) : Type 0 where
+  pub forward : p .at ≤ r .at
+  pub inside : Inside t r
+  pub result : Result js t letters p r
+
+-- reading one node of the kind k that wants the kinds js after it, its own text alone, from the state p ends in the state r
+pub data NodeResult (k : Kind) (js : List Kind) (t : List ℕ) (letters : ℕ) (p r : Progress) : Type 0 where
+  took : (n : Node) → r .ok ≡ true → Written n → kindOf n ≡ k → wants n ≡ js → drop (p .at) t ≡ nodeText n ++ drop (r .at) t → r .kept ≡ keep letters (p .kept) n → NodeResult k js t letters p r
+  none : r .ok ≡ false → Stuck (k ∷ []) (drop (p .at) t) → NodeResult k js t letters p r
+
+pub record NodeReads (k : Kind) (js : List Kind) (t : List ℕ) (letters : ℕ) (p r : Progress) : Type 0 where
+  pub forward : p .at < r .at
+  pub inside : Inside t r
+  pub result : NodeResult k js t letters p r
+
+-- the byte is no digit
+abbrev pub NoDigit : ℕ → Type 0
+NoDigit c = (c < 48) ⊎ (57 < c)
+
+-- a number and the byte `close` after it, where the bytes `before` of the number are read already and the text goes on at `at`
+pub data NumberResult (before t : List ℕ) (at close : ℕ) (r : NumberRead) : Type 0 where
+  number : r .ok ≡ true → r .value < 100000 → before ++ drop at t ≡ numberText (r .value) ++ close ∷ drop (r .next) t → at < r .next → r .next ≤ length t → NumberResult before t at close r
+  none : r .ok ≡ false → ((v : ℕ) (rest : List ℕ) → v < 100000 → before ++ drop at t ≡ numberText v ++ close ∷ rest → ⊥) → NumberResult before t at close r
+
+-- the letters of the prefix from the place `at` on, and the dot; `flags` has the letters before
+pub data PrefixResult (t : List ℕ) (at : ℕ) (flags : List Bool) (r : PrefixRead) : Type 0 where
+  prefix : (qs : List Bool) → r .ok ≡ true → 1 ≤ at + length qs → at + length qs ≤ 4 → drop at t ≡ map letterByte qs ++ 46 ∷ drop (r .next) t → r .next ≤ length t → r .letters ≡ at + length qs → r .exists ≡ sets flags at qs → PrefixResult t at flags r
+  none : r .ok ≡ false → ((qs : List Bool) (rest : List ℕ) → 1 ≤ at + length qs → at + length qs ≤ 4 → drop at t ≡ map letterByte qs ++ 46 ∷ rest → ⊥) → PrefixResult t at flags r
