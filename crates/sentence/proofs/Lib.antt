@@ -2,3 +2,6 @@
 pub mod Numbers
 pub mod Places
 pub mod NumberAt
+pub mod Unique
+pub mod Results
+pub mod NodeAt

@@ -1,15 +1,17 @@
 -- What `number` and `more_digits` answer at each byte. Assumes nothing.
 use Prim.Native.Nat.{ℕ, suc, _+_, _-_, _*_, _≤_, _<_}
-use mathlib.Core.Bool.{true, false}
+use mathlib.Core.Bool.{true, false, true≢false}
 use mathlib.Core.List.{List, [], _∷_, _++_, tail, append-assoc}
 use mathlib.Core.Logic.{_⊎_, ⊎-elim}
 use mathlib.Core.Path.{_≡_, refl, sym, ap, _∙_}
 use native.Mathlib.Omega.{arith}
 use lib.ListN.{length, drop, getD}
 use Rattle.sentence.specs.Grammar.{numberText}
-use Rattle.sentence.specs.Reading.{NoDigit, NumberResult}
+use Rattle.sentence.specs.Reading.{NoDigit, NumberResult, NumbersResult}
 use Rattle.sentence.specs.Reading.NumberResult.{number, none}
+use Rattle.sentence.specs.Reading.NumbersResult.{numbers}
 use Rattle.sentence.specs.declared.NumberRead.{NumberRead}
+use Rattle.sentence.specs.declared.NumbersRead.{NumbersRead}
 use Rattle.sentence.proofs.Numbers.{one-digit, digit-more, scan, scan-digit, scan-other, scan-up, scan-number, Head, head}
 use Rattle.sentence.proofs.Places.{Place, place, inside, starts, first, first-here}
 use Rattle.sentence.proofs.Places.Place.{byte, over}
@@ -108,3 +110,29 @@ no-first t at b close r e other ok = none ok refuted
         let h : Head (numberText w) w = head w lw in
         let f : h .first ≡ b = first-of t at w (close ∷ rest) h same ∙ e in
         ⊎-elim (λ l. omega (arith, h .low)) (λ g. omega (arith, h .high)) other
+
+-- after a number and the byte that closes it one text follows
+one-number : (v w c : ℕ) (r s : List ℕ) → v < 100000 → w < 100000 → NoDigit c → numberText v ++ c ∷ r ≡ numberText w ++ c ∷ s → r ≡ s
+one-number v w c r s lv lw nc same =
+    ap (λ (x : ℕ × List ℕ). tail (x .1)) (sym (scan-other v c r nc) ∙ scanned (c ∷ r) v w c s lv lw nc same)
+
+-- two numbers, of which the first is none
+pub numbers-first : (t : List ℕ) (at middle close : ℕ) (a : NumberRead) (r : NumbersRead) → NumberResult [] t at middle a → a .ok ≡ false → r .ok ≡ false → NumbersResult t at middle close r
+numbers-first t at middle close a r (number ok l same f e) bad rbad = absurd (true≢false (sym ok ∙ bad))
+numbers-first t at middle close a r (none ok not) bad rbad = NumbersResult.none rbad (λ x y rest lx ly same. not x (numberText y ++ close ∷ rest) lx same)
+
+-- two numbers, of which the second is none
+pub numbers-second : (t : List ℕ) (at middle close : ℕ) (a b : NumberRead) (r : NumbersRead) → NoDigit middle → NumberResult [] t at middle a → a .ok ≡ true
+  → NumberResult [] t (a .next) close b → b .ok ≡ false → r .ok ≡ false → NumbersResult t at middle close r
+numbers-second t at middle close a b r nm (none ok not) good second bad rbad = absurd (true≢false (sym good ∙ ok))
+numbers-second t at middle close a b r nm (number ok l same f e) good (number ok′ l′ same′ f′ e′) bad rbad = absurd (true≢false (sym ok′ ∙ bad))
+numbers-second t at middle close a b r nm (number ok l same f e) good (none ok′ not) bad rbad =
+    NumbersResult.none rbad (λ x y rest lx ly eq. not y rest ly (one-number (a .value) x middle (drop (a .next) t) (numberText y ++ close ∷ rest) l lx nm (sym same ∙ eq)))
+
+-- two numbers
+pub numbers-both : (t : List ℕ) (at middle close : ℕ) (a b : NumberRead) → NumberResult [] t at middle a → a .ok ≡ true → NumberResult [] t (a .next) close b → b .ok ≡ true
+  → NumbersResult t at middle close (record { ok = true; first = a .value; second = b .value; next = b .next })
+numbers-both t at middle close a b (none ok not) good second good′ = absurd (true≢false (sym good ∙ ok))
+numbers-both t at middle close a b (number ok l same f e) good (none ok′ not) good′ = absurd (true≢false (sym good′ ∙ ok′))
+numbers-both t at middle close a b (number ok l same f e) good (number ok′ l′ same′ f′ e′) good′ =
+    numbers refl l l′ (same ∙ ap (λ (s : List ℕ). numberText (a .value) ++ middle ∷ s) same′) (omega arith) e′

@@ -40,12 +40,12 @@ nodeText Not = 33 ∷ []
 nodeText And = 38 ∷ []
 nodeText (Compare r) = relationByte r ∷ []
 nodeText Probability = 80 ∷ []
-nodeText (Constant a b) = 35 ∷ numberText a ++ 47 ∷ numberText b ++ 59 ∷ []
+nodeText (Constant a b) = 35 ∷ (numberText a ++ 47 ∷ (numberText b ++ 59 ∷ []))
 nodeText Sum = 43 ∷ []
 nodeText Difference = 45 ∷ []
 nodeText Product = 42 ∷ []
 nodeText Next = 88 ∷ []
-nodeText (Until a b) = 85 ∷ numberText a ++ 44 ∷ numberText b ++ 58 ∷ []
+nodeText (Until a b) = 85 ∷ (numberText a ++ 44 ∷ (numberText b ++ 58 ∷ []))
 
 -- the grammar has the letters `a`..`p`, the digits 1..4 and numbers of one to five digits
 abbrev pub Written : Node → Type 0

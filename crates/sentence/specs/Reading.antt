@@ -14,6 +14,7 @@ use Rattle.sentence.specs.declared.Node.{Node}
 use Rattle.sentence.specs.declared.Kept.{Kept}
 use Rattle.sentence.specs.declared.Progress.{Progress}
 use Rattle.sentence.specs.declared.NumberRead.{NumberRead}
+use Rattle.sentence.specs.declared.NumbersRead.{NumbersRead}
 use Rattle.sentence.specs.declared.PrefixRead.{PrefixRead}
 
 -- one node more, of which `bad` says that it is out of its range: past the 64th it is counted, and no place takes it
@@ -28,6 +29,14 @@ keep letters k n = keepBad k n (outOfRange letters n)
 abbrev pub keepAll : ℕ → Kept → List Node → Kept
 keepAll letters k [] = k
 keepAll letters k (n ∷ ns) = keepAll letters (keep letters k n) ns
+
+-- the state past a node's own text
+abbrev pub passedTo : Progress → Node → ℕ → Bool → Progress
+passedTo p n at bad = record { ok = true; at = at; kept = keepBad (p .kept) n bad }
+
+-- the state where the text is not in the grammar
+abbrev pub stoppedAt : Progress → ℕ → Progress
+stoppedAt p at = record { ok = false; at = at; kept = p .kept }
 
 -- what holds of the reader's state over the text t
 pub record Inside (t : List ℕ) (p : Progress) : Type 0 where
@@ -68,6 +77,15 @@ NoDigit c = (c < 48) ⊎ (57 < c)
 pub data NumberResult (before t : List ℕ) (at close : ℕ) (r : NumberRead) : Type 0 where
   number : r .ok ≡ true → r .value < 100000 → before ++ drop at t ≡ numberText (r .value) ++ close ∷ drop (r .next) t → at < r .next → r .next ≤ length t → NumberResult before t at close r
   none : r .ok ≡ false → ((v : ℕ) (rest : List ℕ) → v < 100000 → before ++ drop at t ≡ numberText v ++ close ∷ rest → ⊥) → NumberResult before t at close r
+
+-- a byte that may stand after a number
+abbrev pub Closing : ℕ → Type 0
+Closing c = NoDigit c × (1 ≤ c)
+
+-- two numbers from the place `at` on, the byte `middle` after the first and `close` after the second
+pub data NumbersResult (t : List ℕ) (at middle close : ℕ) (r : NumbersRead) : Type 0 where
+  numbers : r .ok ≡ true → r .first < 100000 → r .second < 100000 → drop at t ≡ numberText (r .first) ++ middle ∷ (numberText (r .second) ++ close ∷ drop (r .next) t) → at < r .next → r .next ≤ length t → NumbersResult t at middle close r
+  none : r .ok ≡ false → ((a b : ℕ) (rest : List ℕ) → a < 100000 → b < 100000 → drop at t ≡ numberText a ++ middle ∷ (numberText b ++ close ∷ rest) → ⊥) → NumbersResult t at middle close r
 
 -- the letters of the prefix from the place `at` on, and the dot; `flags` has the letters before
 pub data PrefixResult (t : List ℕ) (at : ℕ) (flags : List Bool) (r : PrefixRead) : Type 0 where

@@ -7,7 +7,7 @@ ghost use mathlib.Core.Path.{_≡_};
 ghost use lib.ListN.{length, getD};
 ghost use Rattle.sentence.specs.Grammar.{numberText};
 ghost use Rattle.sentence.specs.Calls.{ReadAnswer, slot};
-ghost use Rattle.sentence.specs.Reading.{keepBad, Inside, Reads, NodeReads, NoDigit, NumberResult, PrefixResult};
+ghost use Rattle.sentence.specs.Reading.{keepBad, passedTo, stoppedAt, Inside, Reads, NodeReads, NoDigit, Closing, NumberResult, NumbersResult, PrefixResult};
 
 // The five comparisons.
 pub enum Relation {
@@ -84,6 +84,14 @@ pub struct Progress {
 pub struct NumberRead {
     pub ok: bool,
     pub value: u32,
+    pub next: usize,
+}
+
+// Two numbers that were read, and the place past the byte after the second.
+pub struct NumbersRead {
+    pub ok: bool,
+    pub first: u32,
+    pub second: u32,
     pub next: usize,
 }
 
@@ -174,7 +182,7 @@ fn more_digits(text: &[u8], at: usize, value: u32, close: u8) -> NumberRead
 
 // A number of document 01, one to five digits with no leading zero unless it is `0`, and the byte `close` after it.
 fn number(text: &[u8], at: usize, close: u8) -> NumberRead
-    requires { ⌜ NoDigit close × (1 ≤ close) ⌝ }
+    requires { ⌜ Closing close ⌝ }
     ensures { λ r. ⌜ NumberResult [] (now (text .entry)) at close r ⌝ }
 {
     let b = byte_at(text, at);
@@ -191,5 +199,208 @@ fn number(text: &[u8], at: usize, close: u8) -> NumberRead
         }
         b'1'..=b'9' => more_digits(text, at + 1, digit_of(b), close),
         _ => no_number(),
+    }
+}
+
+// Two numbers, the byte `middle` after the first and the byte `close` after the second.
+fn two_numbers(text: &[u8], at: usize, middle: u8, close: u8) -> NumbersRead
+    requires { ⌜ Closing middle × Closing close ⌝ }
+    ensures { λ r. ⌜ NumbersResult (now (text .entry)) at middle close r ⌝ }
+{
+    let none = NumbersRead {
+        ok: false,
+        first: 0,
+        second: 0,
+        next: 0,
+    };
+    let a = number(text, at, middle);
+    let a_ok = a.ok;
+    let next = a.next;
+    if !a_ok {
+        return none;
+    }
+    let b = number(text, next, close);
+    let b_ok = b.ok;
+    if !b_ok {
+        return none;
+    }
+    NumbersRead {
+        ok: true,
+        first: a.value,
+        second: b.value,
+        next: b.next,
+    }
+}
+
+// The text is not in the grammar: nothing more is read.
+fn stopped(p: Progress, at: usize) -> Progress
+    ensures { λ r. ⌜ r ≡ stoppedAt p at ⌝ }
+{
+    let kept = p.kept;
+    Progress {
+        ok: false,
+        at,
+        kept,
+    }
+}
+
+// The state past a node's own text, which ends before `at`; `bad` says that the node is out of its range.
+fn passed(p: Progress, node: Node, at: usize, bad: bool) -> Progress
+    requires { ⌜ (p .kept .count + 1 < 2 ^ 64) × (length (p .kept .nodes) ≡ 64) ⌝ }
+    ensures { λ r. ⌜ r ≡ passedTo p node at bad ⌝ }
+{
+    let before = p.kept;
+    let kept = keep(before, node, bad);
+    Progress {
+        ok: true,
+        at,
+        kept,
+    }
+}
+
+// A label: its letter, which is the next byte, and a digit 1..4.
+fn label(text: &[u8], letters: usize, p: Progress) -> Progress
+    requires { ⌜ Inside (now text) p × (97 ≤ getD (now text) (p .at) 0) × (getD (now text) (p .at) 0 ≤ 112) ⌝ }
+    ensures { λ r. ⌜ NodeReads Kind.State [] (now (text .entry)) letters p r ⌝ }
+{
+    let at = p.at;
+    let letter = byte_at(text, at);
+    let digit = byte_at(text, at + 1);
+    match digit {
+        b'1'..=b'4' => {
+            let label = letter - b'a';
+            let variable = digit - b'0';
+            let bad = letters < variable as usize;
+            passed(p, Node::Label { label, variable }, at + 2, bad)
+        }
+        _ => stopped(p, at + 1),
+    }
+}
+
+// A constant: the next byte is its `#`.
+fn constant(text: &[u8], letters: usize, p: Progress) -> Progress
+    requires { ⌜ Inside (now text) p × (getD (now text) (p .at) 0 ≡ 35) ⌝ }
+    ensures { λ r. ⌜ NodeReads Kind.Expression [] (now (text .entry)) letters p r ⌝ }
+{
+    let at = p.at;
+    let read = two_numbers(text, at + 1, b'/', b';');
+    let ok = read.ok;
+    let top = read.first;
+    let bottom = read.second;
+    if !ok {
+        return stopped(p, at + 1);
+    }
+    let bad = (65535 < top) | (bottom == 0) | (65535 < bottom);
+    passed(p, Node::Constant { top, bottom }, read.next, bad)
+}
+
+// An until and its window: the next byte is its `U`.
+fn window(text: &[u8], letters: usize, p: Progress) -> Progress
+    requires { ⌜ Inside (now text) p × (getD (now text) (p .at) 0 ≡ 85) ⌝ }
+    ensures { λ r. ⌜ NodeReads Kind.Path (Kind.State ∷ Kind.State ∷ []) (now (text .entry)) letters p r ⌝ }
+{
+    let at = p.at;
+    let read = two_numbers(text, at + 1, b',', b':');
+    let ok = read.ok;
+    let from = read.first;
+    let to = read.second;
+    if !ok {
+        return stopped(p, at + 1);
+    }
+    let bad = (to < from) | (60 < to);
+    passed(p, Node::Until { from, to }, read.next, bad)
+}
+
+// A state formula, from the next byte on.
+fn state_formula(text: &[u8], letters: usize, p: Progress) -> Progress
+    requires { ⌜ Inside (now text) p ⌝ }
+    ensures { λ r. ⌜ Reads (Kind.State ∷ []) (now (text .entry)) letters p r ⌝ }
+{
+    let ok = p.ok;
+    let at = p.at;
+    if !ok {
+        return p;
+    }
+    let b = byte_at(text, at);
+    match b {
+        b'T' => passed(p, Node::True, at + 1, false),
+        b'a'..=b'p' => label(text, letters, p),
+        b'!' => state_formula(text, letters, passed(p, Node::Not, at + 1, false)),
+        b'&' => {
+            let one = state_formula(text, letters, passed(p, Node::And, at + 1, false));
+            state_formula(text, letters, one)
+        }
+        b'<' => {
+            let one = expression(text, letters, passed(p, Node::Compare(Relation::Less), at + 1, false));
+            expression(text, letters, one)
+        }
+        b'L' => {
+            let one = expression(text, letters, passed(p, Node::Compare(Relation::AtMost), at + 1, false));
+            expression(text, letters, one)
+        }
+        b'=' => {
+            let one = expression(text, letters, passed(p, Node::Compare(Relation::Equal), at + 1, false));
+            expression(text, letters, one)
+        }
+        b'G' => {
+            let one = expression(text, letters, passed(p, Node::Compare(Relation::AtLeast), at + 1, false));
+            expression(text, letters, one)
+        }
+        b'>' => {
+            let one = expression(text, letters, passed(p, Node::Compare(Relation::Greater), at + 1, false));
+            expression(text, letters, one)
+        }
+        _ => stopped(p, at),
+    }
+}
+
+// An expression, from the next byte on.
+fn expression(text: &[u8], letters: usize, p: Progress) -> Progress
+    requires { ⌜ Inside (now text) p ⌝ }
+    ensures { λ r. ⌜ Reads (Kind.Expression ∷ []) (now (text .entry)) letters p r ⌝ }
+{
+    let ok = p.ok;
+    let at = p.at;
+    if !ok {
+        return p;
+    }
+    let b = byte_at(text, at);
+    match b {
+        b'P' => path(text, letters, passed(p, Node::Probability, at + 1, false)),
+        b'#' => constant(text, letters, p),
+        b'+' => {
+            let one = expression(text, letters, passed(p, Node::Sum, at + 1, false));
+            expression(text, letters, one)
+        }
+        b'-' => {
+            let one = expression(text, letters, passed(p, Node::Difference, at + 1, false));
+            expression(text, letters, one)
+        }
+        b'*' => {
+            let one = expression(text, letters, passed(p, Node::Product, at + 1, false));
+            expression(text, letters, one)
+        }
+        _ => stopped(p, at),
+    }
+}
+
+// A path, from the next byte on.
+fn path(text: &[u8], letters: usize, p: Progress) -> Progress
+    requires { ⌜ Inside (now text) p ⌝ }
+    ensures { λ r. ⌜ Reads (Kind.Path ∷ []) (now (text .entry)) letters p r ⌝ }
+{
+    let ok = p.ok;
+    let at = p.at;
+    if !ok {
+        return p;
+    }
+    let b = byte_at(text, at);
+    match b {
+        b'X' => state_formula(text, letters, passed(p, Node::Next, at + 1, false)),
+        b'U' => {
+            let one = state_formula(text, letters, window(text, letters, p));
+            state_formula(text, letters, one)
+        }
+        _ => stopped(p, at),
     }
 }
