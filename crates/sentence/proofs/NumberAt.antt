@@ -123,7 +123,7 @@ numbers-first t at middle close a r (none ok not) bad rbad = NumbersResult.none 
 
 -- two numbers, of which the second is none
 pub numbers-second : (t : List ℕ) (at middle close : ℕ) (a b : NumberRead) (r : NumbersRead) → NoDigit middle → NumberResult [] t at middle a → a .ok ≡ true
-  → NumberResult [] t (a .next) close b → b .ok ≡ false → r .ok ≡ false → NumbersResult t at middle close r
+    → NumberResult [] t (a .next) close b → b .ok ≡ false → r .ok ≡ false → NumbersResult t at middle close r
 numbers-second t at middle close a b r nm (none ok not) good second bad rbad = absurd (true≢false (sym good ∙ ok))
 numbers-second t at middle close a b r nm (number ok l same f e) good (number ok′ l′ same′ f′ e′) bad rbad = absurd (true≢false (sym ok′ ∙ bad))
 numbers-second t at middle close a b r nm (number ok l same f e) good (none ok′ not) bad rbad =
@@ -131,7 +131,7 @@ numbers-second t at middle close a b r nm (number ok l same f e) good (none ok�
 
 -- two numbers
 pub numbers-both : (t : List ℕ) (at middle close : ℕ) (a b : NumberRead) → NumberResult [] t at middle a → a .ok ≡ true → NumberResult [] t (a .next) close b → b .ok ≡ true
-  → NumbersResult t at middle close (record { ok = true; first = a .value; second = b .value; next = b .next })
+    → NumbersResult t at middle close (record { ok = true; first = a .value; second = b .value; next = b .next })
 numbers-both t at middle close a b (none ok not) good second good′ = absurd (true≢false (sym good ∙ ok))
 numbers-both t at middle close a b (number ok l same f e) good (none ok′ not) good′ = absurd (true≢false (sym good′ ∙ ok′))
 numbers-both t at middle close a b (number ok l same f e) good (number ok′ l′ same′ f′ e′) good′ =

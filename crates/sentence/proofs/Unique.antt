@@ -48,11 +48,12 @@ decode (b ∷ t) = cond (leb 97 b) (Label (b - 97) (first t - 48), tail t) (oper
 
 -- two numbers are read back
 two-numbers : (make : ℕ → ℕ → Node) (a b c d : ℕ) (s : List ℕ) → a < 100000 → b < 100000 → NoDigit c → NoDigit d
-  → twoNumbers make ((numberText a ++ c ∷ (numberText b ++ d ∷ [])) ++ s) ≡ (make a b, s)
+    → twoNumbers make ((numberText a ++ c ∷ (numberText b ++ d ∷ [])) ++ s) ≡ (make a b, s)
 two-numbers make a b c d s la lb nc nd = rw (append-assoc (numberText a) (c ∷ (numberText b ++ d ∷ [])) s, one, append-assoc (numberText b) (d ∷ []) s, two) refl
   where
     one : scan 0 (numberText a ++ c ∷ ((numberText b ++ d ∷ []) ++ s)) ≡ (a, c ∷ ((numberText b ++ d ∷ []) ++ s))
     one = scan-number a (c ∷ ((numberText b ++ d ∷ []) ++ s)) la ∙ scan-other a c ((numberText b ++ d ∷ []) ++ s) nc
+
     two : scan 0 (numberText b ++ d ∷ s) ≡ (b, d ∷ s)
     two = scan-number b (d ∷ s) lb ∙ scan-other b d s nd
 
@@ -104,13 +105,13 @@ pub record Peeled (ks : List Kind) (ms ns : List Node) (r s : List ℕ) : Type 0
 
 -- one node of it
 peel-node : (n : Node) (k : Kind) (js : List Kind) (ms : List Node) (ks : List Kind) (ns : List Node) (r s : List ℕ) → Written n
-  → ((ns′ : List Node) → Nests ((wants n ++ js) ++ ks) ns′ → bodyText ms ++ r ≡ bodyText ns′ ++ s → Peeled ks ms ns′ r s)
-  → Nests (k ∷ (js ++ ks)) ns → bodyText (n ∷ ms) ++ r ≡ bodyText ns ++ s → Peeled ks (n ∷ ms) ns r s
+    → ((ns′ : List Node) → Nests ((wants n ++ js) ++ ks) ns′ → bodyText ms ++ r ≡ bodyText ns′ ++ s → Peeled ks ms ns′ r s)
+    → Nests (k ∷ (js ++ ks)) ns → bodyText (n ∷ ms) ++ r ≡ bodyText ns ++ s → Peeled ks (n ∷ ms) ns r s
 peel-node n k js ms ks ns r s w ih (node {n = m} {ns = ns′} wm e a) same =
     let one : (n ≡ m) × (bodyText ms ++ r ≡ bodyText ns′ ++ s) =
-        one-node (bodyText ms ++ r) (bodyText ns′ ++ s) w wm (sym (append-assoc (nodeText n) (bodyText ms) r) ∙ same ∙ append-assoc (nodeText m) (bodyText ns′) s) in
+    one-node (bodyText ms ++ r) (bodyText ns′ ++ s) w wm (sym (append-assoc (nodeText n) (bodyText ms) r) ∙ same ∙ append-assoc (nodeText m) (bodyText ns′) s) in
     let p : Peeled ks ms ns′ r s =
-        ih ns′ (rw append-assoc (subst (λ (x : Node). Nests (wants x ++ (js ++ ks)) ns′) (sym (one .0)) a)) (one .1) in
+    ih ns′ (rw append-assoc (subst (λ (x : Node). Nests (wants x ++ (js ++ ks)) ns′) (sym (one .0)) a)) (one .1) in
     record { rest = p .rest; split = cc (one .0, p .split); nests = p .nests; text = p .text }
 
 pub peel : {js : List Kind} {ms : List Node} (ks : List Kind) (ns : List Node) (r s : List ℕ) → Nests js ms → Nests (js ++ ks) ns → bodyText ms ++ r ≡ bodyText ns ++ s → Peeled ks ms ns r s

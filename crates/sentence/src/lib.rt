@@ -251,11 +251,7 @@ fn passed(p: Progress, node: Node, at: usize, bad: bool) -> Progress
 {
     let before = p.kept;
     let kept = keep(before, node, bad);
-    Progress {
-        ok: true,
-        at,
-        kept,
-    }
+    Progress { ok: true, at, kept }
 }
 
 // A label: its letter, which is the next byte, and a digit 1..4.
@@ -331,23 +327,43 @@ fn state_formula(text: &[u8], letters: usize, p: Progress) -> Progress
             state_formula(text, letters, one)
         }
         b'<' => {
-            let one = expression(text, letters, passed(p, Node::Compare(Relation::Less), at + 1, false));
+            let one = expression(
+                text,
+                letters,
+                passed(p, Node::Compare(Relation::Less), at + 1, false),
+            );
             expression(text, letters, one)
         }
         b'L' => {
-            let one = expression(text, letters, passed(p, Node::Compare(Relation::AtMost), at + 1, false));
+            let one = expression(
+                text,
+                letters,
+                passed(p, Node::Compare(Relation::AtMost), at + 1, false),
+            );
             expression(text, letters, one)
         }
         b'=' => {
-            let one = expression(text, letters, passed(p, Node::Compare(Relation::Equal), at + 1, false));
+            let one = expression(
+                text,
+                letters,
+                passed(p, Node::Compare(Relation::Equal), at + 1, false),
+            );
             expression(text, letters, one)
         }
         b'G' => {
-            let one = expression(text, letters, passed(p, Node::Compare(Relation::AtLeast), at + 1, false));
+            let one = expression(
+                text,
+                letters,
+                passed(p, Node::Compare(Relation::AtLeast), at + 1, false),
+            );
             expression(text, letters, one)
         }
         b'>' => {
-            let one = expression(text, letters, passed(p, Node::Compare(Relation::Greater), at + 1, false));
+            let one = expression(
+                text,
+                letters,
+                passed(p, Node::Compare(Relation::Greater), at + 1, false),
+            );
             expression(text, letters, one)
         }
         _ => stopped(p, at),
