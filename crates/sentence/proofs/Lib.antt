@@ -5,3 +5,4 @@ pub mod NumberAt
 pub mod Unique
 pub mod Results
 pub mod NodeAt
+pub mod PrefixAt

@@ -4,7 +4,7 @@ ghost use Prim.Native.Nat.{_+_, _-_, _^_, _≤_, _<_};
 ghost use mathlib.Core.Bool.{Bool, true, false, _||_};
 ghost use mathlib.Core.List.{[], _∷_};
 ghost use mathlib.Core.Path.{_≡_};
-ghost use lib.ListN.{length, getD};
+ghost use lib.ListN.{length, getD, set};
 ghost use Rattle.sentence.specs.Grammar.{numberText};
 ghost use Rattle.sentence.specs.Calls.{ReadAnswer, slot};
 ghost use Rattle.sentence.specs.Reading.{keepBad, passedTo, stoppedAt, Inside, Reads, NodeReads, NoDigit, Closing, NumberResult, NumbersResult, PrefixResult};
@@ -418,5 +418,61 @@ fn path(text: &[u8], letters: usize, p: Progress) -> Progress
             state_formula(text, letters, one)
         }
         _ => stopped(p, at),
+    }
+}
+
+// The letters of the prefix from the place `at` on, and the dot after them; `flags` has the letters before.
+fn letters_from(text: &[u8], at: usize, flags: [bool; 4]) -> PrefixRead
+    requires { ⌜ (at ≤ 4) × (length flags ≡ 4) ⌝ }
+    ensures { λ r. ⌜ PrefixResult (now (text .entry)) at flags r ⌝ }
+{
+    let b = byte_at(text, at);
+    match b {
+        b'.' => {
+            if at == 0 {
+                return no_prefix();
+            }
+            PrefixRead {
+                ok: true,
+                letters: at,
+                next: at + 1,
+                exists: flags,
+            }
+        }
+        b'A' => {
+            if at == 4 {
+                return no_prefix();
+            }
+            letters_from(text, at + 1, with_letter(flags, at, false))
+        }
+        b'E' => {
+            if at == 4 {
+                return no_prefix();
+            }
+            letters_from(text, at + 1, with_letter(flags, at, true))
+        }
+        _ => no_prefix(),
+    }
+}
+
+// One letter more: whether it is `E`.
+fn with_letter(flags: [bool; 4], at: usize, exists: bool) -> [bool; 4]
+    requires { ⌜ (at < 4) × (length flags ≡ 4) ⌝ }
+    ensures { λ r. ⌜ r ≡ set flags at exists ⌝ }
+{
+    let mut all = flags;
+    all[at] = exists;
+    all
+}
+
+// No prefix stands here.
+fn no_prefix() -> PrefixRead
+    ensures { λ r. ⌜ r .ok ≡ false ⌝ }
+{
+    PrefixRead {
+        ok: false,
+        letters: 0,
+        next: 0,
+        exists: [false; 4],
     }
 }
