@@ -6,3 +6,5 @@ pub mod Unique
 pub mod Results
 pub mod NodeAt
 pub mod PrefixAt
+pub mod Once
+pub mod ReadAll

@@ -39,8 +39,12 @@ recordOf ps ns =
       nodes = map slot ns ++ replicate (64 - length ns) (slot True);
     }
 
+-- a refusal carries only its number: the record is empty
+abbrev pub refusal : ℕ → SentenceRead
+refusal n = record { outcome = Refused n; sentence = recordOf [] [] }
+
 -- what read sentence answers to the text t: of the rows that apply the smallest number, with an empty record; and where
 -- none applies, the prefix and the nodes that spell t
 pub data ReadAnswer (t : List ℕ) : SentenceRead → Type 0 where
-  refused : {n : ℕ} → ReadRow t n → ((m : ℕ) → ReadRow t m → n ≤ m) → ReadAnswer t (record { outcome = Refused n; sentence = recordOf [] [] })
+  refused : {n : ℕ} → ReadRow t n → ((m : ℕ) → ReadRow t m → n ≤ m) → ReadAnswer t (refusal n)
   done : {ps : List Bool} {ns : List Node} → Spells ps ns t → ((m : ℕ) → ReadRow t m → ⊥) → ReadAnswer t (record { outcome = Done; sentence = recordOf ps ns })

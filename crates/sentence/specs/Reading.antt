@@ -1,18 +1,22 @@
 -- What the parts of the reader promise one another, said over the grammar. None of it has to be believed: the contract of
 -- `read_sentence` stands in Calls.
 use Prim.Native.Nat.{ℕ, _+_, _≤_, _<_}
-use mathlib.Core.Bool.{Bool, true, false, _||_}
+use mathlib.Core.Bool.{Bool, true, false, _||_, cond}
 use mathlib.Core.List.{List, [], _∷_, _++_, map}
 use mathlib.Core.Logic.{_⊎_}
 use mathlib.Core.Path.{_≡_}
-use lib.ListN.{length, drop, set}
+use lib.Dec.{ltb}
+use lib.ListN.{length, drop, set, replicate}
 use lib.Seq.{sets}
 use Rattle.sentence.specs.Grammar.{numberText, Nests, nodeText, Written, kindOf, wants, bodyText, letterByte, outOfRange}
-use Rattle.sentence.specs.Calls.{slot}
+use Rattle.sentence.specs.Calls.{slot, refusal}
 use Rattle.sentence.specs.declared.Kind.{Kind}
 use Rattle.sentence.specs.declared.Node.{Node}
+use Rattle.sentence.specs.declared.Node.the-variants.{True}
 use Rattle.sentence.specs.declared.Kept.{Kept}
 use Rattle.sentence.specs.declared.Progress.{Progress}
+use Rattle.sentence.specs.declared.Outcome.the-variants.{Done}
+use Rattle.sentence.specs.declared.SentenceRead.{SentenceRead}
 use Rattle.sentence.specs.declared.NumberRead.{NumberRead}
 use Rattle.sentence.specs.declared.NumbersRead.{NumbersRead}
 use Rattle.sentence.specs.declared.PrefixRead.{PrefixRead}
@@ -29,6 +33,10 @@ keep letters k n = keepBad k n (outOfRange letters n)
 abbrev pub keepAll : ℕ → Kept → List Node → Kept
 keepAll letters k [] = k
 keepAll letters k (n ∷ ns) = keepAll letters (keep letters k n) ns
+
+-- the state in which the body is read
+abbrev pub begunAt : ℕ → Progress
+begunAt at = record { ok = true; at = at; kept = record { count = 0; fault = false; nodes = replicate 64 (slot True) } }
 
 -- the state past a node's own text
 abbrev pub passedTo : Progress → Node → ℕ → Bool → Progress
@@ -91,3 +99,10 @@ pub data NumbersResult (t : List ℕ) (at middle close : ℕ) (r : NumbersRead) 
 pub data PrefixResult (t : List ℕ) (at : ℕ) (flags : List Bool) (r : PrefixRead) : Type 0 where
   prefix : (qs : List Bool) → r .ok ≡ true → 1 ≤ at + length qs → at + length qs ≤ 4 → drop at t ≡ map letterByte qs ++ 46 ∷ drop (r .next) t → r .next ≤ length t → r .letters ≡ at + length qs → r .exists ≡ sets flags at qs → PrefixResult t at flags r
   none : r .ok ≡ false → ((qs : List Bool) (rest : List ℕ) → 1 ≤ at + length qs → at + length qs ≤ 4 → drop at t ≡ map letterByte qs ++ 46 ∷ rest → ⊥) → PrefixResult t at flags r
+
+-- the answer for a text in the grammar, from what was kept of it: 7 before 8
+abbrev pub finishedAs : ℕ → List Bool → Kept → SentenceRead
+finishedAs letters flags k =
+    cond (k .fault) (refusal 7)
+    (cond (ltb 64 (k .count)) (refusal 8)
+    (record { outcome = Done; sentence = record { letters = letters; exists = flags; count = k .count; nodes = k .nodes } }))

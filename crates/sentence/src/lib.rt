@@ -4,10 +4,10 @@ ghost use Prim.Native.Nat.{_+_, _-_, _^_, _≤_, _<_};
 ghost use mathlib.Core.Bool.{Bool, true, false, _||_};
 ghost use mathlib.Core.List.{[], _∷_};
 ghost use mathlib.Core.Path.{_≡_};
-ghost use lib.ListN.{length, getD, set};
+ghost use lib.ListN.{length, getD, replicate, set};
 ghost use Rattle.sentence.specs.Grammar.{numberText};
-ghost use Rattle.sentence.specs.Calls.{ReadAnswer, slot};
-ghost use Rattle.sentence.specs.Reading.{keepBad, passedTo, stoppedAt, Inside, Reads, NodeReads, NoDigit, Closing, NumberResult, NumbersResult, PrefixResult};
+ghost use Rattle.sentence.specs.Calls.{ReadAnswer, refusal, slot};
+ghost use Rattle.sentence.specs.Reading.{begunAt, finishedAs, keepBad, passedTo, stoppedAt, Inside, Reads, NodeReads, NoDigit, Closing, NumberResult, NumbersResult, PrefixResult};
 
 // The five comparisons.
 pub enum Relation {
@@ -474,5 +474,95 @@ fn no_prefix() -> PrefixRead
         letters: 0,
         next: 0,
         exists: [false; 4],
+    }
+}
+
+// Places that hold nothing.
+fn no_slots() -> [Slot; 64]
+    ensures { λ r. ⌜ r ≡ replicate 64 (slot Node.True) ⌝ }
+{
+    let slot = Slot { node: Node::True };
+    [slot; 64]
+}
+
+// The state in which the body is read, from the place past the dot.
+fn begun(at: usize) -> Progress
+    ensures { λ r. ⌜ r ≡ begunAt at ⌝ }
+{
+    let nodes = no_slots();
+    Progress {
+        ok: true,
+        at,
+        kept: Kept {
+            count: 0,
+            fault: false,
+            nodes,
+        },
+    }
+}
+
+// A refusal carries only its number: the record is empty.
+fn refused(number: u8) -> SentenceRead
+    ensures { λ r. ⌜ r ≡ refusal number ⌝ }
+{
+    let nodes = no_slots();
+    SentenceRead {
+        outcome: Outcome::Refused(number),
+        sentence: Sentence {
+            letters: 0,
+            exists: [false; 4],
+            count: 0,
+            nodes,
+        },
+    }
+}
+
+// Read sentence: the prefix and the nodes of a text, in written order, or the refusal.
+pub fn read_sentence(text: &[u8]) -> SentenceRead
+    ensures { λ r. ⌜ ReadAnswer (now (text .entry)) r ⌝ }
+{
+    if 400 < text.len() {
+        return refused(6);
+    }
+    let prefix = letters_from(text, 0, [false; 4]);
+    let prefix_ok = prefix.ok;
+    if !prefix_ok {
+        return refused(6);
+    }
+    let letters = prefix.letters;
+    let exists = prefix.exists;
+    let end = state_formula(text, letters, begun(prefix.next));
+    let end_ok = end.ok;
+    if !end_ok {
+        return refused(6);
+    }
+    if end.at != text.len() {
+        return refused(6);
+    }
+    let kept = end.kept;
+    finished(letters, exists, kept)
+}
+
+// The answer for a text in the grammar: 7 before 8.
+fn finished(letters: usize, exists: [bool; 4], kept: Kept) -> SentenceRead
+    ensures { λ r. ⌜ r ≡ finishedAs letters exists kept ⌝ }
+{
+    let fault = kept.fault;
+    let count = kept.count;
+    let nodes = kept.nodes;
+    if fault {
+        return refused(7);
+    }
+    if 64 < count {
+        return refused(8);
+    }
+    SentenceRead {
+        outcome: Outcome::Done,
+        sentence: Sentence {
+            letters,
+            exists,
+            count,
+            nodes,
+        },
     }
 }
