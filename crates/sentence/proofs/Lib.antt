@@ -8,3 +8,5 @@ pub mod NodeAt
 pub mod PrefixAt
 pub mod Once
 pub mod ReadAll
+pub mod Fitting
+pub mod Sizes

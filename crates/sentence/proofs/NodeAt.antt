@@ -8,7 +8,7 @@ use native.Mathlib.Omega.{arith}
 use borrow.Author.Tests.{le-leb, lt-leb, ne-eqb}
 use lib.Dec.{leb, eqb}
 use lib.ListN.{length, drop, getD, length-set}
-use Rattle.sentence.specs.Grammar.{numberText, nodeText, Written, kindOf, wants, Nests, bodyText, outOfRange}
+use Rattle.sentence.specs.Grammar.{numberText, nodeText, Writable, kindOf, wants, Nests, bodyText, outOfRange}
 use Rattle.sentence.specs.Grammar.Nests.{end, node}
 use Rattle.sentence.specs.Reading.{keep, keepBad, passedTo, stoppedAt, Inside, Stuck, Result, Reads, NodeResult, NodeReads, NumbersResult}
 use Rattle.sentence.specs.Reading.Result.{stopped, stuck}
@@ -31,7 +31,7 @@ begins State b = leb 97 b && leb b 112 || eqb b 84 || eqb b 33 || eqb b 38 || eq
 begins Expression b = eqb b 80 || eqb b 35 || eqb b 43 || eqb b 45 || eqb b 42
 begins Path b = eqb b 88 || eqb b 85
 
-begun : (n : Node) → Written n → begins (kindOf n) (first (nodeText n)) ≡ true
+begun : (n : Node) → Writable n → begins (kindOf n) (first (nodeText n)) ≡ true
 begun True w = refl
 begun (Label l v) w = rw (le-leb 97 (97 + l) (omega arith), le-leb (97 + l) 112 (omega arith)) refl
 begun Not w = refl
@@ -65,7 +65,7 @@ first-text Next s = refl
 first-text (Until a b) s = refl
 
 -- what refutes each first node of the kind k refutes each list of it
-stuck-by : (k : Kind) (s : List ℕ) → ((n : Node) (r : List ℕ) → Written n → kindOf n ≡ k → s ≡ nodeText n ++ r → ⊥) → Stuck (k ∷ []) s
+stuck-by : (k : Kind) (s : List ℕ) → ((n : Node) (r : List ℕ) → Writable n → kindOf n ≡ k → s ≡ nodeText n ++ r → ⊥) → Stuck (k ∷ []) s
 stuck-by k s refute ls all rest nests same = by nests same
   where
     by : {xs : List Node} → Nests (k ∷ ls) xs → s ≡ bodyText xs ++ rest → ⊥
@@ -75,7 +75,7 @@ stuck-by k s refute ls all rest nests same = by nests same
 pub no-node : (k : Kind) (t : List ℕ) (at : ℕ) → begins k (getD t at 0) ≡ false → Stuck (k ∷ []) (drop at t)
 no-node k t at f = stuck-by k (drop at t) refute
   where
-    refute : (n : Node) (r : List ℕ) → Written n → kindOf n ≡ k → drop at t ≡ nodeText n ++ r → ⊥
+    refute : (n : Node) (r : List ℕ) → Writable n → kindOf n ≡ k → drop at t ≡ nodeText n ++ r → ⊥
     refute n r w e same =
         true≢false
         (sym (begun n w) ∙ ap (λ (x : ℕ). begins (kindOf n) x) (sym (first-text n r) ∙ ap first (sym same) ∙ first-here t at)
@@ -89,7 +89,7 @@ stopped-inside : (t : List ℕ) (p : Progress) (at : ℕ) → Inside t p → p .
 stopped-inside t p at i l h = record { within = h; counted = omega (arith, i .counted); places = i .places }
 
 -- a node that was read
-node-read : (n : Node) (t : List ℕ) (letters : ℕ) (p : Progress) (at : ℕ) (bad : Bool) → Written n → bad ≡ outOfRange letters n → Inside t p → p .at < at → at ≤ length t
+node-read : (n : Node) (t : List ℕ) (letters : ℕ) (p : Progress) (at : ℕ) (bad : Bool) → Writable n → bad ≡ outOfRange letters n → Inside t p → p .at < at → at ≤ length t
     → drop (p .at) t ≡ nodeText n ++ drop at t → NodeReads (kindOf n) (wants n) t letters p (passedTo p n at bad)
 node-read n t letters p at bad w b i l h text =
     record {
@@ -99,7 +99,7 @@ node-read n t letters p at bad w b i l h text =
     }
 
 -- a node of one byte
-pub operator-read : (n : Node) (b : ℕ) (t : List ℕ) (letters : ℕ) (p : Progress) → nodeText n ≡ b ∷ [] → Written n → false ≡ outOfRange letters n → getD t (p .at) 0 ≡ b → 1 ≤ b
+pub operator-read : (n : Node) (b : ℕ) (t : List ℕ) (letters : ℕ) (p : Progress) → nodeText n ≡ b ∷ [] → Writable n → false ≡ outOfRange letters n → getD t (p .at) 0 ≡ b → 1 ≤ b
     → Inside t p → NodeReads (kindOf n) (wants n) t letters p (passedTo p n (p .at + 1) false)
 operator-read n b t letters p text w out e l i =
     let in-text : p .at < length t = inside t (p .at) (omega arith) in
@@ -107,7 +107,7 @@ operator-read n b t letters p text w out e l i =
 
 -- where nothing of the kind stands, the state is stopped past its first byte
 node-none : (k : Kind) (js : List Kind) (t : List ℕ) (letters : ℕ) (p : Progress) → Inside t p → p .at < length t
-    → ((n : Node) (r : List ℕ) → Written n → kindOf n ≡ k → drop (p .at) t ≡ nodeText n ++ r → ⊥) → NodeReads k js t letters p (stoppedAt p (p .at + 1))
+    → ((n : Node) (r : List ℕ) → Writable n → kindOf n ≡ k → drop (p .at) t ≡ nodeText n ++ r → ⊥) → NodeReads k js t letters p (stoppedAt p (p .at + 1))
 node-none k js t letters p i l refute =
     record { forward = omega arith; inside = stopped-inside t p (p .at + 1) i (omega arith) (omega arith); result = none refl (stuck-by k (drop (p .at) t) refute) }
 
@@ -131,14 +131,14 @@ pub label-none : (t : List ℕ) (letters : ℕ) (p : Progress) (b d : ℕ) → g
     → NodeReads State [] t letters p (stoppedAt p (p .at + 1))
 label-none t letters p b d e lb f other i = node-none State [] t letters p i (inside t (p .at) (omega arith)) refute
   where
-    read-back : (n : Node) (r : List ℕ) → Written n → drop (p .at) t ≡ nodeText n ++ r → Label (b - 97) (d - 48) ≡ n
+    read-back : (n : Node) (r : List ℕ) → Writable n → drop (p .at) t ≡ nodeText n ++ r → Label (b - 97) (d - 48) ≡ n
     read-back n r w same =
         let seen : decode (drop (p .at) t) ≡ (Label (b - 97) (d - 48), tail (drop (p .at + 1) t)) = rw (starts t (p .at) b e (omega arith), decode-label b (drop (p .at + 1) t) lb, first-here t (p .at + 1), f) refl in
         ap (λ (x : Node × List ℕ). x .0) (sym seen ∙ ap decode same ∙ decoded n r w)
 
-    refute : (n : Node) (r : List ℕ) → Written n → kindOf n ≡ State → drop (p .at) t ≡ nodeText n ++ r → ⊥
+    refute : (n : Node) (r : List ℕ) → Writable n → kindOf n ≡ State → drop (p .at) t ≡ nodeText n ++ r → ⊥
     refute n r w k same =
-        let v : Written (Label (b - 97) (d - 48)) = subst Written (sym (read-back n r w same)) w in
+        let v : Writable (Label (b - 97) (d - 48)) = subst Writable (sym (read-back n r w same)) w in
         ⊎-elim (λ l. omega (arith, v .1)) (λ h. omega (arith, v .2)) other
 
 regroup : (x y c d : ℕ) (s : List ℕ) → (numberText x ++ c ∷ (numberText y ++ d ∷ [])) ++ s ≡ numberText x ++ c ∷ (numberText y ++ d ∷ s)
@@ -147,7 +147,7 @@ regroup x y c d s = simp append-assoc
 -- a node that is a byte and two numbers: a constant, or an until and its window
 pub numbers-read : (n : Node) (t : List ℕ) (letters : ℕ) (p : Progress) (b middle close : ℕ) (r : NumbersRead)
     → nodeText n ≡ b ∷ (numberText (r .first) ++ middle ∷ (numberText (r .second) ++ close ∷ []))
-    → (r .first < 100000 → r .second < 100000 → Written n) → getD t (p .at) 0 ≡ b → 1 ≤ b → Inside t p
+    → (r .first < 100000 → r .second < 100000 → Writable n) → getD t (p .at) 0 ≡ b → 1 ≤ b → Inside t p
     → NumbersResult t (p .at + 1) middle close r → r .ok ≡ true → (bad : Bool) → bad ≡ outOfRange letters n → NodeReads (kindOf n) (wants n) t letters p (passedTo p n (r .next) bad)
 numbers-read n t letters p b middle close r text w e l i (numbers ok lf ls same fwd over) good bad out =
     node-read n t letters p (r .next) bad (w lf ls) out i (omega arith) over
@@ -157,25 +157,25 @@ numbers-read n t letters p b middle close r text w e l i (NumbersResult.none ok 
 -- the same, where two numbers do not follow
 pub numbers-none : (make : ℕ → ℕ → Node) (k : Kind) (js : List Kind) (t : List ℕ) (letters : ℕ) (p : Progress) (b middle close : ℕ) (r : NumbersRead)
     → ((x y : ℕ) → nodeText (make x y) ≡ b ∷ (numberText x ++ middle ∷ (numberText y ++ close ∷ [])))
-    → ((x y : ℕ) → Written (make x y) → (x < 100000) × (y < 100000)) → ((s : List ℕ) → decode (b ∷ s) ≡ twoNumbers make s)
+    → ((x y : ℕ) → Writable (make x y) → (x < 100000) × (y < 100000)) → ((s : List ℕ) → decode (b ∷ s) ≡ twoNumbers make s)
     → getD t (p .at) 0 ≡ b → 1 ≤ b → Inside t p → NumbersResult t (p .at + 1) middle close r → r .ok ≡ false → NodeReads k js t letters p (stoppedAt p (p .at + 1))
 numbers-none make k js t letters p b middle close r text bounds back e l i (numbers ok lf ls same fwd over) bad = absurd (true≢false (sym ok ∙ bad))
 numbers-none make k js t letters p b middle close r text bounds back e l i (NumbersResult.none ok not) bad = node-none k js t letters p i (inside t (p .at) (omega arith)) refute
   where
-    wrong : (x y : ℕ) (n : Node) (s : List ℕ) → make x y ≡ n → Written n → drop (p .at) t ≡ nodeText n ++ s → ⊥
+    wrong : (x y : ℕ) (n : Node) (s : List ℕ) → make x y ≡ n → Writable n → drop (p .at) t ≡ nodeText n ++ s → ⊥
     wrong x y n s same w eq =
-        let v : (x < 100000) × (y < 100000) = bounds x y (subst Written (sym same) w) in
+        let v : (x < 100000) × (y < 100000) = bounds x y (subst Writable (sym same) w) in
         not x y s (v .0) (v .1)
         (ap tail (sym (starts t (p .at) b e l) ∙ eq ∙ ap (λ (m : Node). nodeText m ++ s) (sym same) ∙ ap (λ (z : List ℕ). z ++ s) (text x y))
         ∙ regroup x y middle close s)
 
-    refute : (n : Node) (s : List ℕ) → Written n → kindOf n ≡ k → drop (p .at) t ≡ nodeText n ++ s → ⊥
+    refute : (n : Node) (s : List ℕ) → Writable n → kindOf n ≡ k → drop (p .at) t ≡ nodeText n ++ s → ⊥
     refute n s w kd same =
         let seen : twoNumbers make (drop (p .at + 1) t) ≡ (n, s) = sym (back (drop (p .at + 1) t)) ∙ ap decode (sym (starts t (p .at) b e l) ∙ same) ∙ decoded n s w in
         wrong _ _ n s (ap (λ (x : Node × List ℕ). x .0) seen) w same
 
 -- an operator of one byte that was passed
-pub operator-passed : (n : Node) (b : ℕ) (t : List ℕ) (letters : ℕ) (p q : Progress) → nodeText n ≡ b ∷ [] → Written n → false ≡ outOfRange letters n → 1 ≤ b
+pub operator-passed : (n : Node) (b : ℕ) (t : List ℕ) (letters : ℕ) (p q : Progress) → nodeText n ≡ b ∷ [] → Writable n → false ≡ outOfRange letters n → 1 ≤ b
     → (byte : ℕ) → byte ≡ getD t (p .at) 0 → byte ≡ b → Inside t p → q ≡ passedTo p n (p .at + 1) false → NodeReads (kindOf n) (wants n) t letters p q
 operator-passed n b t letters p q text w out l byte e f i same =
     subst (λ (x : Progress). NodeReads (kindOf n) (wants n) t letters p x) (sym same) (operator-read n b t letters p text w out (sym e ∙ f) l i)

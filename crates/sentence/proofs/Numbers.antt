@@ -7,7 +7,7 @@ use mathlib.Core.Path.{_≡_, refl, sym, ap, _∙_}
 use native.Mathlib.Omega.{arith}
 use borrow.Author.Tests.{lt-ltb, le-ltb, le-leb, lt-leb, ltb-true, ltb-false}
 use lib.Dec.{ltb, leb}
-use lib.ListN.{length}
+use lib.ListN.{length, length-append}
 use Rattle.sentence.specs.Grammar.{digits, numberText}
 use Rattle.sentence.specs.Reading.{NoDigit}
 
@@ -134,3 +134,60 @@ heads (suc k) n h = by (heads k (n / 10) (omega arith)) (tested (ltb n 10))
 pub head : (n : ℕ) → n < 100000 → Head (numberText n) n
 unfolding numberText
 head n h = heads 4 n h
+
+-- how many digits a number is written with
+size-step : (k n : ℕ) → 10 ≤ n → length (digits (suc k) n) ≡ suc (length (digits k (n / 10)))
+unfolding digits
+size-step k n h = rw (le-ltb n 10 h, length-append (digits k (n / 10)) ((48 + n % 10) ∷ [])) (omega arith)
+
+size-one : (k n : ℕ) → n < 10 → length (digits (suc k) n) ≡ 1
+unfolding digits
+size-one k n h = rw (lt-ltb n 10 h) refl
+
+pub size-1 : (n : ℕ) → n < 10 → 1 ≡ length (numberText n)
+unfolding numberText
+size-1 n h = sym (size-one 4 n h)
+
+pub size-2 : (n : ℕ) → 10 ≤ n → n < 100 → 2 ≡ length (numberText n)
+unfolding numberText
+size-2 n l h = omega (arith, size-step 4 n l, size-one 3 (n / 10) (omega arith))
+
+pub size-3 : (n : ℕ) → 100 ≤ n → n < 1000 → 3 ≡ length (numberText n)
+unfolding numberText
+size-3 n l h = omega (arith, size-step 4 n (omega arith), size-step 3 (n / 10) (omega arith), size-one 2 (n / 10 / 10) (omega arith))
+
+pub size-4 : (n : ℕ) → 1000 ≤ n → n < 10000 → 4 ≡ length (numberText n)
+unfolding numberText
+size-4 n l h =
+    omega (
+      arith,
+      size-step 4 n (omega arith),
+      size-step 3 (n / 10) (omega arith),
+      size-step 2 (n / 10 / 10) (omega arith),
+      size-one 1 (n / 10 / 10 / 10) (omega arith),
+    )
+
+size-last : (n : ℕ) → length (digits 1 n) ≡ 1
+unfolding digits
+size-last n = by (ltb n 10)
+  where
+    by : (b : Bool) → length (cond b ((48 + n) ∷ []) ((48 + n % 10) ∷ [])) ≡ 1
+    by true = refl
+    by false = refl
+
+pub size-5 : (n : ℕ) → 10000 ≤ n → 5 ≡ length (numberText n)
+unfolding numberText
+size-5 n l =
+    omega (
+      arith,
+      size-step 4 n (omega arith),
+      size-step 3 (n / 10) (omega arith),
+      size-step 2 (n / 10 / 10) (omega arith),
+      size-step 1 (n / 10 / 10 / 10) (omega arith),
+      size-last (n / 10 / 10 / 10 / 10),
+    )
+
+-- the size of a text of a byte, two numbers and the bytes after them
+pub two-sizes : (a b c d x y : ℕ) → x ≡ length (numberText a) → y ≡ length (numberText b) → x + y + 3 ≡ suc (length (numberText a ++ c ∷ (numberText b ++ d ∷ [])))
+two-sizes a b c d x y e f =
+    rw (length-append (numberText a) (c ∷ (numberText b ++ d ∷ [])), length-append (numberText b) (d ∷ [])) (omega arith)

@@ -5,7 +5,7 @@ use mathlib.Core.List.{List, [], _∷_, _++_, append-assoc, append-nil}
 use mathlib.Core.Path.{_≡_, refl, sym, ap, _∙_, subst}
 use native.Mathlib.Omega.{arith}
 use lib.ListN.{length, drop}
-use Rattle.sentence.specs.Grammar.{nodeText, Written, kindOf, wants, Nests, bodyText}
+use Rattle.sentence.specs.Grammar.{nodeText, Writable, kindOf, wants, Nests, bodyText}
 use Rattle.sentence.specs.Grammar.Nests.{end, node}
 use Rattle.sentence.specs.Reading.{keep, keepAll, Inside, Stuck, Result, Reads, NodeResult, NodeReads}
 use Rattle.sentence.specs.Reading.Result.{stopped, read, stuck}
@@ -58,7 +58,7 @@ nothing t letters p = by (p .ok) refl
     by false e = stopped e e
 
 -- what stops what a node wants stops the node
-stuck-node : (n : Node) (k : Kind) (s r : List ℕ) → Written n → s ≡ nodeText n ++ r → Stuck (wants n) r → Stuck (k ∷ []) s
+stuck-node : (n : Node) (k : Kind) (s r : List ℕ) → Writable n → s ≡ nodeText n ++ r → Stuck (wants n) r → Stuck (k ∷ []) s
 stuck-node n k s r w text none-fits ls all rest nests same = by nests same
   where
     by : {xs : List Node} → Nests (k ∷ ls) xs → s ≡ bodyText xs ++ rest → ⊥

@@ -8,7 +8,7 @@ use mathlib.Core.Path.{_≡_, refl, sym, ap, _∙_, subst}
 use native.Mathlib.Omega.{arith}
 use borrow.Author.Tests.{le-leb}
 use lib.Dec.{leb, eqb}
-use Rattle.sentence.specs.Grammar.{numberText, nodeText, Written, kindOf, wants, Nests, bodyText}
+use Rattle.sentence.specs.Grammar.{numberText, nodeText, Writable, kindOf, wants, Nests, bodyText}
 use Rattle.sentence.specs.Grammar.Nests.{end, node}
 use Rattle.sentence.specs.Reading.{NoDigit}
 use Rattle.sentence.specs.declared.Kind.{Kind}
@@ -58,7 +58,7 @@ two-numbers make a b c d s la lb nc nd = rw (append-assoc (numberText a) (c ∷ 
     two = scan-number b (d ∷ s) lb ∙ scan-other b d s nd
 
 -- a node's text is read back as the node
-pub decoded : (n : Node) (s : List ℕ) → Written n → decode (nodeText n ++ s) ≡ (n, s)
+pub decoded : (n : Node) (s : List ℕ) → Writable n → decode (nodeText n ++ s) ≡ (n, s)
 unfolding decode
 decoded True s w = refl
 decoded (Label l v) s w =
@@ -81,7 +81,7 @@ decoded Next s w = refl
 decoded (Until a b) s w = two-numbers Until a b 44 58 s (w .0) (w .1) (inl (omega arith)) (inr (omega arith))
 
 -- a text has one node at its front
-pub one-node : {n m : Node} (r s : List ℕ) → Written n → Written m → nodeText n ++ r ≡ nodeText m ++ s → (n ≡ m) × (r ≡ s)
+pub one-node : {n m : Node} (r s : List ℕ) → Writable n → Writable m → nodeText n ++ r ≡ nodeText m ++ s → (n ≡ m) × (r ≡ s)
 one-node {n} {m} r s wn wm same =
     let e : _≡_ {A = Node × List ℕ} (n, r) (m, s) = sym (decoded n r wn) ∙ ap decode same ∙ decoded m s wm in
     (ap (λ (x : Node × List ℕ). x .0) e, ap (λ (x : Node × List ℕ). x .1) e)
@@ -104,7 +104,7 @@ pub record Peeled (ks : List Kind) (ms ns : List Node) (r s : List ℕ) : Type 0
   pub text : r ≡ bodyText rest ++ s
 
 -- one node of it
-peel-node : (n : Node) (k : Kind) (js : List Kind) (ms : List Node) (ks : List Kind) (ns : List Node) (r s : List ℕ) → Written n
+peel-node : (n : Node) (k : Kind) (js : List Kind) (ms : List Node) (ks : List Kind) (ns : List Node) (r s : List ℕ) → Writable n
     → ((ns′ : List Node) → Nests ((wants n ++ js) ++ ks) ns′ → bodyText ms ++ r ≡ bodyText ns′ ++ s → Peeled ks ms ns′ r s)
     → Nests (k ∷ (js ++ ks)) ns → bodyText (n ∷ ms) ++ r ≡ bodyText ns ++ s → Peeled ks (n ∷ ms) ns r s
 peel-node n k js ms ks ns r s w ih (node {n = m} {ns = ns′} wm e a) same =

@@ -48,19 +48,19 @@ nodeText Next = 88 ∷ []
 nodeText (Until a b) = 85 ∷ (numberText a ++ 44 ∷ (numberText b ++ 58 ∷ []))
 
 -- the grammar has the letters `a`..`p`, the digits 1..4 and numbers of one to five digits
-abbrev pub Written : Node → Type 0
-Written True = Unit
-Written (Label l v) = (l < 16) × (1 ≤ v) × (v ≤ 4)
-Written Not = Unit
-Written And = Unit
-Written (Compare r) = Unit
-Written Probability = Unit
-Written (Constant a b) = (a < 100000) × (b < 100000)
-Written Sum = Unit
-Written Difference = Unit
-Written Product = Unit
-Written Next = Unit
-Written (Until a b) = (a < 100000) × (b < 100000)
+abbrev pub Writable : Node → Type 0
+Writable True = Unit
+Writable (Label l v) = (l < 16) × (1 ≤ v) × (v ≤ 4)
+Writable Not = Unit
+Writable And = Unit
+Writable (Compare r) = Unit
+Writable Probability = Unit
+Writable (Constant a b) = (a < 100000) × (b < 100000)
+Writable Sum = Unit
+Writable Difference = Unit
+Writable Product = Unit
+Writable Next = Unit
+Writable (Until a b) = (a < 100000) × (b < 100000)
 
 -- what a node is: a state formula, an expression or a path
 abbrev pub kindOf : Node → Kind
@@ -95,7 +95,7 @@ wants (Until a b) = State ∷ State ∷ []
 -- `Nests ks ns`: where things of the kinds ks are wanted, the nodes ns are just these, in written order
 pub data Nests : List Kind → List Node → Type 0 where
   end : Nests [] []
-  node : {n : Node} {k : Kind} {ks : List Kind} {ns : List Node} → Written n → kindOf n ≡ k → Nests (wants n ++ ks) ns → Nests (k ∷ ks) (n ∷ ns)
+  node : {n : Node} {k : Kind} {ks : List Kind} {ns : List Node} → Writable n → kindOf n ≡ k → Nests (wants n ++ ks) ns → Nests (k ∷ ks) (n ∷ ns)
 
 -- the text of a list of nodes: their own texts, one after another
 abbrev pub bodyText : List Node → List ℕ

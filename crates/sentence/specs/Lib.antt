@@ -2,3 +2,4 @@
 pub mod Grammar
 pub mod Calls
 pub mod Reading
+pub mod Writing

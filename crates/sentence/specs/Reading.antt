@@ -8,7 +8,7 @@ use mathlib.Core.Path.{_≡_}
 use lib.Dec.{ltb}
 use lib.ListN.{length, drop, set, replicate}
 use lib.Seq.{sets}
-use Rattle.sentence.specs.Grammar.{numberText, Nests, nodeText, Written, kindOf, wants, bodyText, letterByte, outOfRange}
+use Rattle.sentence.specs.Grammar.{numberText, Nests, nodeText, Writable, kindOf, wants, bodyText, letterByte, outOfRange}
 use Rattle.sentence.specs.Calls.{slot, refusal}
 use Rattle.sentence.specs.declared.Kind.{Kind}
 use Rattle.sentence.specs.declared.Node.{Node}
@@ -69,7 +69,7 @@ pub record Reads (js : List Kind) (t : List ℕ) (letters : ℕ) (p r : Progress
 
 -- reading one node of the kind k that wants the kinds js after it, its own text alone, from the state p ends in the state r
 pub data NodeResult (k : Kind) (js : List Kind) (t : List ℕ) (letters : ℕ) (p r : Progress) : Type 0 where
-  took : (n : Node) → r .ok ≡ true → Written n → kindOf n ≡ k → wants n ≡ js → drop (p .at) t ≡ nodeText n ++ drop (r .at) t → r .kept ≡ keep letters (p .kept) n → NodeResult k js t letters p r
+  took : (n : Node) → r .ok ≡ true → Writable n → kindOf n ≡ k → wants n ≡ js → drop (p .at) t ≡ nodeText n ++ drop (r .at) t → r .kept ≡ keep letters (p .kept) n → NodeResult k js t letters p r
   none : r .ok ≡ false → Stuck (k ∷ []) (drop (p .at) t) → NodeResult k js t letters p r
 
 pub record NodeReads (k : Kind) (js : List Kind) (t : List ℕ) (letters : ℕ) (p r : Progress) : Type 0 where

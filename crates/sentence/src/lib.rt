@@ -4,10 +4,11 @@ ghost use Prim.Native.Nat.{_+_, _-_, _^_, _≤_, _<_};
 ghost use mathlib.Core.Bool.{Bool, true, false, _||_};
 ghost use mathlib.Core.List.{[], _∷_};
 ghost use mathlib.Core.Path.{_≡_};
-ghost use lib.ListN.{length, getD, replicate, set};
-ghost use Rattle.sentence.specs.Grammar.{numberText};
+ghost use lib.ListN.{length, drop, getD, replicate, set};
+ghost use Rattle.sentence.specs.Grammar.{numberText, nodeText, kindOf, outOfRange};
 ghost use Rattle.sentence.specs.Calls.{ReadAnswer, refusal, slot};
 ghost use Rattle.sentence.specs.Reading.{begunAt, finishedAs, keepBad, passedTo, stoppedAt, Inside, Reads, NodeReads, NoDigit, Closing, NumberResult, NumbersResult, PrefixResult};
+ghost use Rattle.sentence.specs.Writing.{listed, wantsOf, sameKind, writable, Fits, Surveyed};
 
 // The five comparisons.
 pub enum Relation {
@@ -564,5 +565,235 @@ fn finished(letters: usize, exists: [bool; 4], kept: Kept) -> SentenceRead
             count,
             nodes,
         },
+    }
+}
+
+// What write sentence answers: how many bytes it wrote, or the refusal's number.
+pub enum Written {
+    Wrote(usize),
+    Refused(u8),
+}
+
+// What a node wants after it: nothing, one thing, or two of one kind.
+pub enum Wants {
+    Nothing,
+    One(Kind),
+    Two(Kind),
+}
+
+// A place in a node list, and whether the list nests so far.
+pub struct Place {
+    pub ok: bool,
+    pub at: usize,
+}
+
+// The length of a list's text, and whether a node of it is out of its range.
+pub struct Survey {
+    pub size: usize,
+    pub fault: bool,
+}
+
+// The kind of a node.
+fn kind_of(node: Node) -> Kind
+    ensures { λ r. ⌜ r ≡ kindOf node ⌝ }
+{
+    match node {
+        Node::True => Kind::State,
+        Node::Label {
+            label: _,
+            variable: _,
+        } => Kind::State,
+        Node::Not => Kind::State,
+        Node::And => Kind::State,
+        Node::Compare(_) => Kind::State,
+        Node::Probability => Kind::Expression,
+        Node::Constant { top: _, bottom: _ } => Kind::Expression,
+        Node::Sum => Kind::Expression,
+        Node::Difference => Kind::Expression,
+        Node::Product => Kind::Expression,
+        Node::Next => Kind::Path,
+        Node::Until { from: _, to: _ } => Kind::Path,
+    }
+}
+
+// What a node wants after it.
+fn wants_of(node: Node) -> Wants
+    ensures { λ r. ⌜ r ≡ wantsOf node ⌝ }
+{
+    match node {
+        Node::True => Wants::Nothing,
+        Node::Label {
+            label: _,
+            variable: _,
+        } => Wants::Nothing,
+        Node::Not => Wants::One(Kind::State),
+        Node::And => Wants::Two(Kind::State),
+        Node::Compare(_) => Wants::Two(Kind::Expression),
+        Node::Probability => Wants::One(Kind::Path),
+        Node::Constant { top: _, bottom: _ } => Wants::Nothing,
+        Node::Sum => Wants::Two(Kind::Expression),
+        Node::Difference => Wants::Two(Kind::Expression),
+        Node::Product => Wants::Two(Kind::Expression),
+        Node::Next => Wants::One(Kind::State),
+        Node::Until { from: _, to: _ } => Wants::Two(Kind::State),
+    }
+}
+
+// Two kinds are the same.
+fn same_kind(a: Kind, b: Kind) -> bool
+    ensures { λ r. ⌜ r ≡ sameKind a b ⌝ }
+{
+    match a {
+        Kind::State => match b {
+            Kind::State => true,
+            Kind::Expression => false,
+            Kind::Path => false,
+        },
+        Kind::Expression => match b {
+            Kind::State => false,
+            Kind::Expression => true,
+            Kind::Path => false,
+        },
+        Kind::Path => match b {
+            Kind::State => false,
+            Kind::Expression => false,
+            Kind::Path => true,
+        },
+    }
+}
+
+// The grammar has a text for the node: its letter, its digit, its numbers.
+fn has_text(node: Node) -> bool
+    ensures { λ r. ⌜ r ≡ writable node ⌝ }
+{
+    match node {
+        Node::True => true,
+        Node::Label { label, variable } => (label < 16) & (1 <= variable) & (variable <= 4),
+        Node::Not => true,
+        Node::And => true,
+        Node::Compare(_) => true,
+        Node::Probability => true,
+        Node::Constant { top, bottom } => (top < 100000) & (bottom < 100000),
+        Node::Sum => true,
+        Node::Difference => true,
+        Node::Product => true,
+        Node::Next => true,
+        Node::Until { from, to } => (from < 100000) & (to < 100000),
+    }
+}
+
+// A node is out of its range, in a sentence of so many letters.
+fn is_fault(letters: usize, node: Node) -> bool
+    ensures { λ r. ⌜ r ≡ outOfRange letters node ⌝ }
+{
+    match node {
+        Node::True => false,
+        Node::Label { label: _, variable } => letters < variable as usize,
+        Node::Not => false,
+        Node::And => false,
+        Node::Compare(_) => false,
+        Node::Probability => false,
+        Node::Constant { top, bottom } => (65535 < top) | (bottom == 0) | (65535 < bottom),
+        Node::Sum => false,
+        Node::Difference => false,
+        Node::Product => false,
+        Node::Next => false,
+        Node::Until { from, to } => (to < from) | (60 < to),
+    }
+}
+
+// How many digits a number is written with.
+fn number_size(n: u32) -> usize
+    ensures { λ r. ⌜ (r ≡ length (numberText n)) × (r ≤ 5) ⌝ }
+{
+    if n < 10 {
+        return 1;
+    }
+    if n < 100 {
+        return 2;
+    }
+    if n < 1000 {
+        return 3;
+    }
+    if n < 10000 {
+        return 4;
+    }
+    5
+}
+
+// How many bytes a node's own text has.
+fn node_size(node: Node) -> usize
+    ensures { λ r. ⌜ (r ≡ length (nodeText node)) × (r ≤ 14) ⌝ }
+{
+    match node {
+        Node::True => 1,
+        Node::Label {
+            label: _,
+            variable: _,
+        } => 2,
+        Node::Not => 1,
+        Node::And => 1,
+        Node::Compare(_) => 1,
+        Node::Probability => 1,
+        Node::Constant { top, bottom } => number_size(top) + number_size(bottom) + 3,
+        Node::Sum => 1,
+        Node::Difference => 1,
+        Node::Product => 1,
+        Node::Next => 1,
+        Node::Until { from, to } => number_size(from) + number_size(to) + 3,
+    }
+}
+
+// From a place in the first `count` nodes on: does a thing of the kind stand there, and where does it end?
+fn nest(nodes: [Slot; 64], count: usize, kind: Kind, p: Place) -> Place
+    requires { ⌜ (count ≤ 64) × (p .at ≤ count) × (length nodes ≡ 64) ⌝ }
+    ensures { λ r. ⌜ Fits (kind ∷ []) (listed nodes count) p r ⌝ }
+{
+    let ok = p.ok;
+    let at = p.at;
+    if !ok {
+        return p;
+    }
+    if count <= at {
+        return Place { ok: false, at };
+    }
+    let slot = nodes[at];
+    let node = slot.node;
+    let suits = same_kind(kind_of(node), kind) & has_text(node);
+    if !suits {
+        return Place { ok: false, at };
+    }
+    let next = Place {
+        ok: true,
+        at: at + 1,
+    };
+    let w = wants_of(node);
+    match w {
+        Wants::Nothing => next,
+        Wants::One(k) => nest(nodes, count, k, next),
+        Wants::Two(k) => {
+            let one = nest(nodes, count, k, next);
+            nest(nodes, count, k, one)
+        }
+    }
+}
+
+// The length of the text of the nodes from a place on, and whether one of them is out of its range.
+fn survey_from(nodes: [Slot; 64], letters: usize, count: usize, at: usize) -> Survey
+    requires { ⌜ (count ≤ 64) × (at ≤ count) × (length nodes ≡ 64) ⌝ }
+    ensures { λ r. ⌜ Surveyed letters (drop at (listed nodes count)) r ⌝ }
+{
+    if at == count {
+        return Survey {
+            size: 0,
+            fault: false,
+        };
+    }
+    let slot = nodes[at];
+    let node = slot.node;
+    let rest = survey_from(nodes, letters, count, at + 1);
+    Survey {
+        size: node_size(node) + rest.size,
+        fault: is_fault(letters, node) | rest.fault,
     }
 }
