@@ -10,3 +10,6 @@ pub mod Once
 pub mod ReadAll
 pub mod Fitting
 pub mod Sizes
+pub mod Puts
+pub mod WriteAll
+pub mod RoundTrips

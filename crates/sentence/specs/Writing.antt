@@ -6,7 +6,8 @@ use mathlib.Core.List.{List, [], _∷_, _++_, map}
 use mathlib.Core.Path.{_≡_}
 use lib.Dec.{leb, ltb}
 use lib.ListN.{length, take, drop}
-use Rattle.sentence.specs.Grammar.{Writable, kindOf, Nests, bodyText, someOutOfRange, Spells}
+use lib.Seq.{sets}
+use Rattle.sentence.specs.Grammar.{numberText, Writable, kindOf, Nests, bodyText, someOutOfRange, Spells}
 use Rattle.sentence.specs.Calls.{WriteRow, prefixOf, nodesOf}
 use Rattle.sentence.specs.declared.Kind.{Kind}
 use Rattle.sentence.specs.declared.Kind.the-variants.{State, Expression, Path}
@@ -97,3 +98,17 @@ pub record Surveyed (letters : ℕ) (l : List Node) (r : Survey) : Type 0 where
 pub data Decision (s : Sentence) (room : ℕ) : Written → Type 0 where
   refused : {n : ℕ} → WriteRow s room n → ((m : ℕ) → WriteRow s room m → n ≤ m) → Decision s room (NotWritten n)
   wrote : {t : List ℕ} → Spells (prefixOf s) (nodesOf s) t → ((m : ℕ) → WriteRow s room m → ⊥) → Decision s room (Wrote (length t))
+
+-- the bytes s are written from the place `at` on: the output then, and the place after them
+pub record Put (out : List ℕ) (at : ℕ) (s : List ℕ) (r : ℕ) (after : List ℕ) : Type 0 where
+  pub next : r ≡ at + length s
+  pub bytes : after ≡ sets out at s
+
+-- the text of a byte and two numbers, with a byte after each
+abbrev pub numbersText : ℕ → ℕ → ℕ → ℕ → ℕ → List ℕ
+numbersText lead a middle b close = lead ∷ (numberText a ++ middle ∷ (numberText b ++ close ∷ []))
+
+-- the grammar has a text for each node of the list
+abbrev pub AllWritable : List Node → Type 0
+AllWritable [] = Unit
+AllWritable (n ∷ ns) = Writable n × AllWritable ns

@@ -2,13 +2,13 @@
 // and their rows in specs/Calls.
 ghost use Prim.Native.Nat.{_+_, _-_, _^_, _≤_, _<_};
 ghost use mathlib.Core.Bool.{Bool, true, false, _||_};
-ghost use mathlib.Core.List.{[], _∷_};
+ghost use mathlib.Core.List.{[], _∷_, map};
 ghost use mathlib.Core.Path.{_≡_};
-ghost use lib.ListN.{length, drop, getD, replicate, set};
-ghost use Rattle.sentence.specs.Grammar.{numberText, nodeText, kindOf, outOfRange};
-ghost use Rattle.sentence.specs.Calls.{ReadAnswer, refusal, slot};
+ghost use lib.ListN.{length, take, drop, getD, replicate, set};
+ghost use Rattle.sentence.specs.Grammar.{numberText, nodeText, bodyText, relationByte, letterByte, Writable, kindOf, outOfRange};
+ghost use Rattle.sentence.specs.Calls.{ReadAnswer, WriteAnswer, refusal, slot};
 ghost use Rattle.sentence.specs.Reading.{begunAt, finishedAs, keepBad, passedTo, stoppedAt, Inside, Reads, NodeReads, NoDigit, Closing, NumberResult, NumbersResult, PrefixResult};
-ghost use Rattle.sentence.specs.Writing.{listed, wantsOf, sameKind, writable, Fits, Surveyed};
+ghost use Rattle.sentence.specs.Writing.{listed, wantsOf, sameKind, writable, Fits, Surveyed, Decision, Put, numbersText, AllWritable};
 
 // The five comparisons.
 pub enum Relation {
@@ -795,5 +795,177 @@ fn survey_from(nodes: [Slot; 64], letters: usize, count: usize, at: usize) -> Su
     Survey {
         size: node_size(node) + rest.size,
         fault: is_fault(letters, node) | rest.fault,
+    }
+}
+
+// One byte is written.
+fn put_byte(out: &mut [u8], at: usize, b: u8) -> usize
+    requires { ⌜ at < length (now out) ⌝ }
+    ensures { λ r. ⌜ Put (now (out .entry)) at (b ∷ []) r (now (out .exit)) ⌝ }
+{
+    out[at] = b;
+    at + 1
+}
+
+// A digit's byte.
+fn digit_byte(n: u32) -> u8
+    requires { ⌜ n < 10 ⌝ }
+    ensures { λ r. ⌜ r ≡ 48 + n ⌝ }
+{
+    48 + (n % 10) as u8
+}
+
+// A number is written.
+fn put_number(out: &mut [u8], at: usize, n: u32) -> usize
+    requires { ⌜ (n < 100000) × (at + length (numberText n) ≤ length (now out)) ⌝ }
+    ensures { λ r. ⌜ Put (now (out .entry)) at (numberText n) r (now (out .exit)) ⌝ }
+{
+    if n < 10 {
+        return put_byte(out, at, digit_byte(n));
+    }
+    let next = put_number(out, at, n / 10);
+    put_byte(out, next, digit_byte(n % 10))
+}
+
+// A comparison's byte.
+fn relation_byte(r: Relation) -> u8
+    ensures { λ b. ⌜ b ≡ relationByte r ⌝ }
+{
+    match r {
+        Relation::Less => b'<',
+        Relation::AtMost => b'L',
+        Relation::Equal => b'=',
+        Relation::AtLeast => b'G',
+        Relation::Greater => b'>',
+    }
+}
+
+// A byte and two numbers, with a byte after each: a constant, or an until and its window.
+fn put_numbers(out: &mut [u8], at: usize, lead: u8, a: u32, middle: u8, b: u32, close: u8) -> usize
+    requires { ⌜ (a < 100000) × (b < 100000) × (at + length (numbersText lead a middle b close) ≤ length (now out)) ⌝ }
+    ensures { λ r. ⌜ Put (now (out .entry)) at (numbersText lead a middle b close) r (now (out .exit)) ⌝ }
+{
+    let first = put_byte(out, at, lead);
+    let second = put_number(out, first, a);
+    let third = put_byte(out, second, middle);
+    let fourth = put_number(out, third, b);
+    put_byte(out, fourth, close)
+}
+
+// A label is written: its letter and its digit.
+fn put_label(out: &mut [u8], at: usize, label: u8, variable: u8) -> usize
+    requires { ⌜ (label < 16) × (variable ≤ 4) × (at + 2 ≤ length (now out)) ⌝ }
+    ensures { λ r. ⌜ Put (now (out .entry)) at ((97 + label) ∷ (48 + variable) ∷ []) r (now (out .exit)) ⌝ }
+{
+    let next = put_byte(out, at, b'a' + label);
+    put_byte(out, next, b'0' + variable)
+}
+
+// A node's own text is written.
+fn put_node(out: &mut [u8], at: usize, node: Node) -> usize
+    requires { ⌜ Writable node × (at + length (nodeText node) ≤ length (now out)) ⌝ }
+    ensures { λ r. ⌜ Put (now (out .entry)) at (nodeText node) r (now (out .exit)) ⌝ }
+{
+    match node {
+        Node::True => put_byte(out, at, b'T'),
+        Node::Label { label, variable } => put_label(out, at, label, variable),
+        Node::Not => put_byte(out, at, b'!'),
+        Node::And => put_byte(out, at, b'&'),
+        Node::Compare(r) => put_byte(out, at, relation_byte(r)),
+        Node::Probability => put_byte(out, at, b'P'),
+        Node::Constant { top, bottom } => put_numbers(out, at, b'#', top, b'/', bottom, b';'),
+        Node::Sum => put_byte(out, at, b'+'),
+        Node::Difference => put_byte(out, at, b'-'),
+        Node::Product => put_byte(out, at, b'*'),
+        Node::Next => put_byte(out, at, b'X'),
+        Node::Until { from, to } => put_numbers(out, at, b'U', from, b',', to, b':'),
+    }
+}
+
+// The nodes from a place of the record on are written.
+fn put_nodes(out: &mut [u8], at: usize, nodes: [Slot; 64], count: usize, from: usize) -> usize
+    requires { ⌜ (count ≤ 64) × (from ≤ count) × (length nodes ≡ 64) × AllWritable (drop from (listed nodes count)) × (at + length (bodyText (drop from (listed nodes count))) ≤ length (now out)) ⌝ }
+    ensures { λ r. ⌜ Put (now (out .entry)) at (bodyText (drop from (listed nodes count))) r (now (out .exit)) ⌝ }
+{
+    if from == count {
+        return at;
+    }
+    let slot = nodes[from];
+    let node = slot.node;
+    let next = put_node(out, at, node);
+    put_nodes(out, next, nodes, count, from + 1)
+}
+
+// The letters of the prefix from a place on are written.
+fn put_letters(out: &mut [u8], exists: [bool; 4], letters: usize, from: usize) -> usize
+    requires { ⌜ (letters ≤ 4) × (from ≤ letters) × (length exists ≡ 4) × (letters ≤ length (now out)) ⌝ }
+    ensures { λ r. ⌜ Put (now (out .entry)) from (map letterByte (drop from (take letters exists))) r (now (out .exit)) ⌝ }
+{
+    if from == letters {
+        return from;
+    }
+    let letter = if exists[from] { b'E' } else { b'A' };
+    let next = put_byte(out, from, letter);
+    put_letters(out, exists, letters, next)
+}
+
+// What write sentence answers to a record and an output of `room` bytes, before anything is written.
+fn decide(s: Sentence, room: usize) -> Written
+    requires { ⌜ (length (s .exists) ≡ 4) × (length (s .nodes) ≡ 64) ⌝ }
+    ensures { λ r. ⌜ Decision s room r ⌝ }
+{
+    let letters = s.letters;
+    let count = s.count;
+    let nodes = s.nodes;
+    if 64 < count {
+        return Written::Refused(6);
+    }
+    if 4 < letters {
+        return Written::Refused(6);
+    }
+    if letters == 0 {
+        return Written::Refused(6);
+    }
+    let start = Place { ok: true, at: 0 };
+    let end = nest(nodes, count, Kind::State, start);
+    let end_ok = end.ok;
+    if !end_ok {
+        return Written::Refused(6);
+    }
+    if end.at != count {
+        return Written::Refused(6);
+    }
+    let all = survey_from(nodes, letters, count, 0);
+    let size = letters + 1 + all.size;
+    let fault = all.fault;
+    if 400 < size {
+        return Written::Refused(6);
+    }
+    if fault {
+        return Written::Refused(7);
+    }
+    if room < size {
+        return Written::Refused(14);
+    }
+    Written::Wrote(size)
+}
+
+// Write sentence: the text of a record at the front of the output, or the refusal.
+pub fn write_sentence(s: Sentence, out: &mut [u8]) -> Written
+    ensures { λ r. ⌜ WriteAnswer s (now (out .entry)) r (now (out .exit)) ⌝ }
+{
+    let answer = decide(s, out.len());
+    match answer {
+        Written::Refused(n) => Written::Refused(n),
+        Written::Wrote(size) => {
+            let letters = s.letters;
+            let exists = s.exists;
+            let count = s.count;
+            let nodes = s.nodes;
+            let dot = put_letters(out, exists, letters, 0);
+            let body = put_byte(out, dot, b'.');
+            let end = put_nodes(out, body, nodes, count, 0);
+            Written::Wrote(end)
+        }
     }
 }
