@@ -1,0 +1,27 @@
+-- A layer: T numbers at the front of the lent work area, one for each tuple of n states, in the order of the tuples'
+-- numbers. The contracts of this crate say what a layer holds after a call, and that what lies past it has stayed.
+use Prim.Native.Nat.{ℕ, _^_, _<_}
+use mathlib.Core.Bool.{Bool, cond}
+use mathlib.Core.List.{List}
+use mathlib.Core.Path.{_≡_}
+use lib.ListN.{length, getD, drop}
+use Rattle.meaning.specs.Chain.{Tuple}
+use Rattle.meaning.proofs.Numbers.{tupleOf}
+
+-- the front of the list is the layer of the function f on tuples of n of N states
+unfoldable pub Layer : (N n : ℕ) → (Tuple → ℕ) → List ℕ → Type 0
+Layer N n f w = (k : ℕ) → k < N ^ n → getD w k 0 ≡ f (tupleOf N n k)
+
+-- a formula's layer holds its truth at each tuple: 1 where it is met, 0 elsewhere
+abbrev pub truth : (Tuple → Bool) → Tuple → ℕ
+truth meets s = cond (meets s) 1 0
+
+-- at most the first `count` numbers have changed
+pub record Kept (count : ℕ) (before after : List ℕ) : Type 0 where
+  pub long : length after ≡ length before
+  pub rest : drop count after ≡ drop count before
+
+-- number k of the first `count` is now f k, and no other has changed
+pub record Written (count : ℕ) (f : ℕ → ℕ) (before after : List ℕ) : Type 0 where
+  pub each : (k : ℕ) → k < count → getD after k 0 ≡ f k
+  pub kept : Kept count before after

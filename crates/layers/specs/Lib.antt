@@ -1,0 +1,2 @@
+-- Layers of numbers, one number for each tuple of states.
+pub mod Layers
