@@ -1,6 +1,6 @@
 -- A layer: T numbers at the front of the lent work area, one for each tuple of n states, in the order of the tuples'
 -- numbers. The contracts of this crate say what a layer holds after a call, and that what lies past it has stayed.
-use Prim.Native.Nat.{ℕ, _^_, _<_}
+use Prim.Native.Nat.{ℕ, _/_, _%_, _^_, _<_}
 use mathlib.Core.Bool.{Bool, cond}
 use mathlib.Core.List.{List}
 use mathlib.Core.Path.{_≡_}
@@ -25,3 +25,7 @@ pub record Kept (count : ℕ) (before after : List ℕ) : Type 0 where
 pub record Written (count : ℕ) (f : ℕ → ℕ) (before after : List ℕ) : Type 0 where
   pub each : (k : ℕ) → k < count → getD after k 0 ≡ f k
   pub kept : Kept count before after
+
+-- bit l of the mask of state s
+abbrev pub bitAt : List ℕ → (l s : ℕ) → ℕ
+bitAt masks l s = getD masks s 0 / 2 ^ l % 2
