@@ -1,2 +1,6 @@
 -- What belongs to no one function.
 pub mod Written
+pub mod Places
+pub mod Truth
+pub mod Sums
+pub mod Columns

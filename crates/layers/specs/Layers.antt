@@ -9,8 +9,8 @@ use Rattle.meaning.specs.Chain.{Tuple}
 use Rattle.meaning.proofs.Numbers.{tupleOf}
 
 -- the front of the list is the layer of the function f on tuples of n of N states
-unfoldable pub Layer : (N n : ℕ) → (Tuple → ℕ) → List ℕ → Type 0
-Layer N n f w = (k : ℕ) → k < N ^ n → getD w k 0 ≡ f (tupleOf N n k)
+pub record Layer (N n : ℕ) (f : Tuple → ℕ) (w : List ℕ) : Type 0 where
+  pub at : (k : ℕ) → k < N ^ n → getD w k 0 ≡ f (tupleOf N n k)
 
 -- a formula's layer holds its truth at each tuple: 1 where it is met, 0 elsewhere
 abbrev pub truth : (Tuple → Bool) → Tuple → ℕ
