@@ -52,3 +52,24 @@ fn step_column(rows: &[[u16; 32]; 32], states: usize, stride: usize, at: usize, 
         s += 1;
     }
 }
+
+// Steps one variable at all tuples. Its state changes every `stride` places: column j starts at the place that the
+// states of the variables before and after it count.
+fn step_variable(
+    rows: &[[u16; 32]; 32],
+    states: usize,
+    stride: usize,
+    tuples: usize,
+    layer: &mut [u64],
+)
+    requires { ⌜ LayerFits (now rows) states stride tuples (now layer) ⌝ }
+    ensures { λ r. ⌜ LayerStepped (now (rows .entry)) states stride tuples (now (layer .entry)) (now (layer .exit)) ⌝ }
+{
+    let columns = tuples / states;
+    let mut j: usize = 0;
+    while j < columns {
+        let at = j / stride * (stride * states) + j % stride;
+        step_column(rows, states, stride, at, layer);
+        j += 1;
+    }
+}
