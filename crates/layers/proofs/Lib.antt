@@ -4,3 +4,4 @@ pub mod Places
 pub mod Truth
 pub mod Sums
 pub mod Columns
+pub mod Joint

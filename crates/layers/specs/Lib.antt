@@ -1,3 +1,4 @@
 -- Layers of numbers, one number for each tuple of states.
 pub mod Layers
 pub mod Columns
+pub mod Steps

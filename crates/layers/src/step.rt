@@ -4,6 +4,7 @@ ghost use Prim.Native.Nat.{ℕ, _+_, _*_, _^_, _≤_, _<_};
 ghost use lib.ListN.{length, getD};
 ghost use Rattle.counting.specs.Below.{sum};
 ghost use Rattle.layers.specs.Columns.{ColumnFits, ColumnStepped, LayerFits, LayerStepped};
+ghost use Rattle.layers.specs.Steps.{StepFits, Stepped};
 
 // A weight as a wider number.
 fn wide(x: u16) -> u64
@@ -71,5 +72,26 @@ fn step_variable(
         let at = j / stride * (stride * states) + j % stride;
         step_column(rows, states, stride, at, layer);
         j += 1;
+    }
+}
+
+// A joint step: all n variables step, the last first. The layer of a function becomes the layer of its step; from a
+// formula's truth it is the numerator of next.
+pub fn joint_step(
+    rows: &[[u16; 32]; 32],
+    states: usize,
+    variables: usize,
+    tuples: usize,
+    work: &mut [u64],
+)
+    requires { ⌜ StepFits (now rows) states variables tuples (now work) ⌝ }
+    ensures { λ r. ⌜ Stepped (now (rows .entry)) states variables tuples (now (work .entry)) (now (work .exit)) ⌝ }
+{
+    let mut stride: usize = 1;
+    let mut m: usize = 0;
+    while m < variables {
+        step_variable(rows, states, stride, tuples, work);
+        stride = stride * states;
+        m += 1;
     }
 }
