@@ -5,3 +5,5 @@ pub mod Truth
 pub mod Sums
 pub mod Columns
 pub mod Joint
+pub mod Tails
+pub mod Untils

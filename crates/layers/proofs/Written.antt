@@ -7,6 +7,7 @@ use native.Mathlib.Decide.{decLt}
 use lib.ListN.{length, getD, set, drop, length-set, length-drop}
 use lib.Seq.{ext-getD, getD-drop, getD-set-same, getD-set-other}
 use Rattle.layers.specs.Layers.{Kept, Written}
+use Rattle.layers.specs.Untils.{WrittenAt}
 
 -- a number past the first `count` has not changed
 pub kept-at : {count : ℕ} {before after : List ℕ} → Kept count before after → (k : ℕ) → count ≤ k →
@@ -29,43 +30,58 @@ kept-from {count} {before} {after} long same = record {
       (λ k l. getD-drop count after k 0 ∙ same (count + k) (omega arith) ∙ sym (getD-drop count before k 0));
 }
 
--- of the first `count` numbers the first i are written, and the others are as before
-pub record Writing (count : ℕ) (f : ℕ → ℕ) (before : List ℕ) (i : ℕ) (after : List ℕ) : Type 0 where
+-- of the `count` numbers from `base` on the first i are written, and the others are as before
+pub record Writing (base count : ℕ) (f : ℕ → ℕ) (before : List ℕ) (i : ℕ) (after : List ℕ) : Type 0 where
   pub upTo : i ≤ count
-  pub room : count ≤ length before
+  pub room : base + count ≤ length before
   pub long : length after ≡ length before
-  pub each : (k : ℕ) → k < i → getD after k 0 ≡ f k
-  pub same : (k : ℕ) → i ≤ k → getD after k 0 ≡ getD before k 0
+  pub each : (k : ℕ) → k < i → getD after (base + k) 0 ≡ f k
+  pub low : (k : ℕ) → k < base → getD after k 0 ≡ getD before k 0
+  pub high : (k : ℕ) → base + i ≤ k → getD after k 0 ≡ getD before k 0
 
-module _ {count : ℕ} {f : ℕ → ℕ} {before : List ℕ} where
-  pub writing-none : count ≤ length before → Writing count f before 0 before
+module _ {base count : ℕ} {f : ℕ → ℕ} {before : List ℕ} where
+  pub writing-none : base + count ≤ length before → Writing base count f before 0 before
   writing-none room = record {
     upTo = omega arith;
     room = room;
     long = refl;
     each = λ k l. absurd (omega arith);
-    same = λ k l. refl;
+    low = λ k l. refl;
+    high = λ k l. refl;
   }
 
-  pub writing-next : {i v : ℕ} {after : List ℕ} → Writing count f before i after → i < count → v ≡ f i →
-      Writing count f before (i + 1) (set after i v)
-  writing-next {i} {v} {after} h less e = record {
+  pub writing-next : {i at v : ℕ} {after : List ℕ} → Writing base count f before i after → i < count → at ≡ base + i →
+      v ≡ f i → Writing base count f before (i + 1) (set after at v)
+  writing-next {i} {at} {v} {after} h less place e = record {
     upTo = omega arith;
     room = h .room;
-    long = length-set after i v ∙ h .long;
+    long = length-set after at v ∙ h .long;
     each = λ k l. here k l (decLt k i);
-    same = λ k l. getD-set-other after i k v 0 (omega arith) ∙ h .same k (omega arith);
+    low = λ k l. getD-set-other after at k v 0 (omega arith) ∙ h .low k l;
+    high = λ k l. getD-set-other after at k v 0 (omega arith) ∙ h .high k (omega arith);
   }
     where
-      here : (k : ℕ) → k < i + 1 → Dec (k < i) → getD (set after i v) k 0 ≡ f k
-      here k l (yes small) = getD-set-other after i k v 0 (omega arith) ∙ h .each k small
+      here : (k : ℕ) → k < i + 1 → Dec (k < i) → getD (set after at v) (base + k) 0 ≡ f k
+      here k l (yes small) = getD-set-other after at (base + k) v 0 (omega arith) ∙ h .each k small
       here k l (no large) =
           let p : i ≡ k = omega arith in
-          let room : i < length after = omega (arith, h .long, h .room) in
-          subst (λ (x : ℕ). getD (set after i v) x 0 ≡ f x) p (getD-set-same after i v 0 room ∙ e)
+          let q : at ≡ base + k = omega arith in
+          let room : at < length after = omega (arith, h .long, h .room) in
+          subst (λ (x : ℕ). getD (set after at v) x 0 ≡ f k) q (getD-set-same after at v 0 room ∙ e ∙ ap f p)
 
-  pub writing-all : {i : ℕ} {after : List ℕ} → Writing count f before i after → count ≤ i → Written count f before after
-  writing-all {i} {after} h done = record {
+  pub writing-at-all : {i : ℕ} {after : List ℕ} → Writing base count f before i after → count ≤ i →
+      WrittenAt base count f before after
+  writing-at-all {i} h done = record {
+    long = h .long;
     each = λ k l. h .each k (omega arith);
-    kept = kept-from (h .long) (λ k l. h .same k (omega arith));
+    low = h .low;
+    high = λ k l. h .high k (omega (arith, h .upTo));
   }
+
+-- the same from the front on
+pub writing-all : {count i : ℕ} {f : ℕ → ℕ} {before after : List ℕ} → Writing 0 count f before i after → count ≤ i →
+    Written count f before after
+writing-all {after = after} h done = record {
+  each = λ k l. ap (λ (x : ℕ). getD after x 0) (omega arith) ∙ h .each k (omega arith);
+  kept = kept-from (h .long) (λ k l. h .high k (omega (arith, h .upTo)));
+}

@@ -2,3 +2,4 @@
 pub mod Layers
 pub mod Columns
 pub mod Steps
+pub mod Untils

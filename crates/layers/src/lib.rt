@@ -2,3 +2,4 @@
 // layer, the next T the second, and so on.
 pub mod plain;
 pub mod step;
+pub mod until;

@@ -8,7 +8,7 @@ use Rattle.layers.proofs.plain.always.Statement.{statement}
 use Rattle.layers.proofs.plain.always.Tie as tie
 
 abbrev Inv-loop : tie.InvT-loop
-Inv-loop tuples work₀ k₀ work k = Writing tuples (λ k. 1) work₀ k work
+Inv-loop tuples work₀ k₀ work k = Writing 0 tuples (λ k. 1) work₀ k work
 
 abbrev μ-loop : tie.MeasureT-loop
 μ-loop tuples work₀ k₀ work k = tuples - k
@@ -29,7 +29,7 @@ loop-less : tie.Need-loop-less Inv-loop μ-loop
 loop-less c = search needs
 
 loop-again : tie.Need-loop-again Inv-loop μ-loop
-loop-again c = writing-next (c .before .loop .inv) (omega arith) refl
+loop-again c = writing-next (c .before .loop .inv) (omega arith) (omega arith) refl
 
 same-length : tie.Need-same-length Inv-loop μ-loop
 same-length c = search needs

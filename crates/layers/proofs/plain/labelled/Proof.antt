@@ -9,7 +9,7 @@ use Rattle.layers.proofs.plain.labelled.Statement.{statement}
 use Rattle.layers.proofs.plain.labelled.Tie as tie
 
 abbrev Inv-loop : tie.InvT-loop
-Inv-loop masks l states stride tuples work₀ k₀ work k = Writing tuples (λ k. bitAt masks l (k / stride % states)) work₀ k work
+Inv-loop masks l states stride tuples work₀ k₀ work k = Writing 0 tuples (λ k. bitAt masks l (k / stride % states)) work₀ k work
 
 abbrev μ-loop : tie.MeasureT-loop
 μ-loop masks l states stride tuples work₀ k₀ work k = tuples - k
@@ -49,7 +49,7 @@ loop-less : tie.Need-loop-less Inv-loop μ-loop
 loop-less c = search needs
 
 loop-again : tie.Need-loop-again Inv-loop μ-loop
-loop-again c = writing-next (c .before .before .before .loop .inv) (omega arith) (c .bit-of .ensures)
+loop-again c = writing-next (c .before .before .before .loop .inv) (omega arith) (omega arith) (c .bit-of .ensures)
 
 same-length : tie.Need-same-length Inv-loop μ-loop
 same-length c = search needs

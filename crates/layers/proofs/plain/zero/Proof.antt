@@ -8,7 +8,7 @@ use Rattle.layers.proofs.plain.zero.Statement.{statement}
 use Rattle.layers.proofs.plain.zero.Tie as tie
 
 abbrev Inv-loop : tie.InvT-loop
-Inv-loop count work₀ k₀ work k = Writing count (λ k. 0) work₀ k work
+Inv-loop count work₀ k₀ work k = Writing 0 count (λ k. 0) work₀ k work
 
 abbrev μ-loop : tie.MeasureT-loop
 μ-loop count work₀ k₀ work k = count - k
@@ -29,7 +29,7 @@ loop-less : tie.Need-loop-less Inv-loop μ-loop
 loop-less c = search needs
 
 loop-again : tie.Need-loop-again Inv-loop μ-loop
-loop-again c = writing-next (c .before .loop .inv) (omega arith) refl
+loop-again c = writing-next (c .before .loop .inv) (omega arith) (omega arith) refl
 
 same-length : tie.Need-same-length Inv-loop μ-loop
 same-length c = search needs
