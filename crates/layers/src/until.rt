@@ -1,10 +1,9 @@
 // The numerator of an until at all tuples: by steps left, one joint step and one choice a layer.
 ghost use mathlib.Core.Path.{_≡_};
+ghost use mathlib.Core.Logic.{_⊎_};
 ghost use Prim.Native.Nat.{ℕ, _+_, _*_, _^_, _≤_, _<_};
 ghost use lib.ListN.{length, getD};
-ghost use Rattle.layers.specs.Layers.{Written};
 ghost use Rattle.layers.specs.Untils.{WrittenAt, choice, TurnFits, Turned, UntilFits, UntilTaken};
-use crate::plain;
 use crate::step;
 
 // x times d, as often as is said.
@@ -53,14 +52,14 @@ fn choose(opened: bool, all: u64, tuples: usize, work: &mut [u64])
     }
 }
 
-// Copies numbers from a later place to the front.
-fn bring(count: usize, from: usize, work: &mut [u64])
-    requires { ⌜ (count ≤ from) × (from + count ≤ length (now work)) ⌝ }
-    ensures { λ r. ⌜ Written count (λ k. getD (now (work .entry)) (from + k) 0) (now (work .entry)) (now (work .exit)) ⌝ }
+// Copies `count` numbers from one place to another: to an earlier one, or to one past their end.
+fn copy(count: usize, from: usize, to: usize, work: &mut [u64])
+    requires { ⌜ (from + count ≤ length (now work)) × (to + count ≤ length (now work)) × ((from + count ≤ to) ⊎ (to ≤ from)) ⌝ }
+    ensures { λ r. ⌜ WrittenAt to count (λ k. getD (now (work .entry)) (from + k) 0) (now (work .entry)) (now (work .exit)) ⌝ }
 {
     let mut k: usize = 0;
     while k < count {
-        work[k] = work[from + k];
+        work[to + k] = work[from + k];
         k += 1;
     }
 }
@@ -81,4 +80,32 @@ fn turn(
     let from = tuples + tuples;
     step::joint_step(rows, states, variables, tuples, &mut work[from..]);
     choose(opened, all, tuples, work);
+}
+
+// The numerator of until with window k1..k2 at all tuples. The front layer holds the truth of the first formula, the
+// second that of the second. The third counts, by steps left, the weight of the runs taken: with none left, where the
+// second formula is met; with one more, by a joint step and the choice. At last it is copied to the front.
+pub fn until(
+    rows: &[[u16; 32]; 32],
+    states: usize,
+    variables: usize,
+    d: u64,
+    k1: usize,
+    k2: usize,
+    tuples: usize,
+    work: &mut [u64],
+)
+    requires { ⌜ UntilFits (now rows) states variables tuples d k1 k2 (now work) ⌝ }
+    ensures { λ r. ⌜ UntilTaken (now (rows .entry)) states variables tuples d k1 k2 (now (work .entry)) (now (work .exit)) ⌝ }
+{
+    copy(tuples, tuples, tuples + tuples, work);
+    let mut all: u64 = 1;
+    let mut left: usize = 0;
+    while left < k2 {
+        let next = left + 1;
+        all = scaled(all, d, variables);
+        turn(rows, states, variables, k1 <= k2 - next, all, tuples, work);
+        left = next;
+    }
+    copy(tuples, tuples + tuples, 0, work);
 }
