@@ -7,3 +7,4 @@ pub mod Columns
 pub mod Joint
 pub mod Tails
 pub mod Untils
+pub mod Paths

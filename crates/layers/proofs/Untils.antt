@@ -23,6 +23,11 @@ use Rattle.layers.specs.Untils.{WrittenAt, choice, TurnFits, Turned, Unt
 use Rattle.layers.proofs.Tails.{Back, back-at}
 use Rattle.layers.proofs.Written.{kept-at, kept-from}
 
+-- choices from equal numbers are equal
+pub choice-same : (opened : Bool) (all : ℕ) {a a′ b b′ x x′ : ℕ} → a ≡ a′ → b ≡ b′ → x ≡ x′ →
+    choice opened all a b x ≡ choice opened all a′ b′ x′
+choice-same opened all p q r = λ i. choice opened all (p i) (q i) (r i)
+
 -- a step of the tail, then the choice
 pub turned-from : {rows : List (List ℕ)} {N n T : ℕ} {opened : Bool} {all : ℕ} {before tail mid after : List ℕ} →
     T ≡ N ^ n → Stepped rows N n T (drop (T + T) before) tail → Back (T + T) before tail mid →
@@ -34,9 +39,7 @@ turned-from {rows} {N} {n} {T} {opened} {all} {before} {tail} {mid} {after} whol
   high = λ k l. written .high k l ∙ past k l;
   each = λ c held f layer k l.
       written .each k (omega arith) ∙
-      ap₂ (λ (x y : ℕ). choice opened all x y (getD mid (T + T + k) 0))
-      (back .low k (omega arith)) (back .low (T + k) (omega arith)) ∙
-      ap (λ (x : ℕ). choice opened all (getD before k 0) (getD before (T + k) 0) x)
+      choice-same opened all (back .low k (omega arith)) (back .low (T + k) (omega arith))
       (back-at back k ∙ stepped .each c held f layer .at k l);
 }
   where
@@ -177,9 +180,9 @@ module _ {rows : List (List ℕ)} {N n T d k1 k2 : ℕ} {before : List ℕ} (fit
             e ∙ next-power ∙ ap (λ (x : ℕ). x ^ (n * suc left)) (sym sums) in
             getD-drop (T + T) now k 0 ∙
             turned .each c held f (h .each c held sums first second one two) k l ∙
-            ap₂ (λ (x y : ℕ). choice (leb k1 (k2 - (left + 1))) more x y (step c n f s))
+            choice-same (leb k1 (k2 - (left + 1))) more
             (h .low k (omega arith) ∙ one .at k l)
-            (h .low (T + k) (omega arith) ∙ sym (getD-drop T before k 0) ∙ two .at k l) ∙
+            (h .low (T + k) (omega arith) ∙ sym (getD-drop T before k 0) ∙ two .at k l) refl ∙
             choice-truth (leb k1 (k2 - (left + 1))) (first s) (second s) more (step c n f s) ∙
             ap (λ (x : ℕ). cond (leb k1 (k2 - (left + 1)) && second s) x (cond (first s) (step c n f s) 0)) all′ ∙
             ap (λ (x : ℕ).

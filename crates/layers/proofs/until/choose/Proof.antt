@@ -1,10 +1,11 @@
 -- `layers::until::choose` meets its contract: what is read has not been written yet.
 use borrow.Author.Needs.{needs}
 use Prim.Native.Nat.{ℕ, _+_, _-_}
-use mathlib.Core.Path.{_≡_, ap, ap₂, _∙_}
+use mathlib.Core.Path.{_∙_}
 use native.Mathlib.Omega.{arith}
 use lib.ListN.{getD}
 use Rattle.layers.specs.Untils.{choice}
+use Rattle.layers.proofs.Untils.{choice-same}
 use Rattle.layers.proofs.Written.{Writing, writing-none, writing-next, writing-at-all}
 use Rattle.layers.proofs.until.choose.Statement.{statement}
 use Rattle.layers.proofs.until.choose.Tie as tie
@@ -75,9 +76,7 @@ loop-again c =
     let k = at-loop .loop .k in
     writing-next h (omega arith) (omega arith)
     (c .chosen .ensures ∙
-    ap₂ (λ (x y : ℕ). choice (args .opened) (args .all) x y (getD (at-loop .loop .work) (T + T + k) 0))
-    (h .low k (omega arith)) (h .low (T + k) (omega arith)) ∙
-    ap (λ (x : ℕ). choice (args .opened) (args .all) (getD (args .work .now) k 0) (getD (args .work .now) (T + k) 0) x)
+    choice-same (args .opened) (args .all) (h .low k (omega arith)) (h .low (T + k) (omega arith))
     (h .high (T + T + k) (omega arith)))
 
 same-length : tie.Need-same-length Inv-loop μ-loop
