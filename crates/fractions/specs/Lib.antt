@@ -1,0 +1,2 @@
+-- Signed numerators.
+pub mod Codes
