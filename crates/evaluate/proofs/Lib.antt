@@ -1,0 +1,2 @@
+-- Laws of evaluation that belong to no one function.
+pub mod Surveying
