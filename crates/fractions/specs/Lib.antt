@@ -1,2 +1,3 @@
 -- Signed numerators.
 pub mod Codes
+pub mod Operations
