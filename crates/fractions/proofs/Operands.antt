@@ -13,7 +13,7 @@ use Rattle.meaning.proofs.Magnitude.{abs-mul, abs-add, abs-diff}
 use Rattle.fractions.specs.declared.Operation.{Operation}
 use Rattle.fractions.specs.declared.Operation.the-variants.{Sum, Difference, Product}
 use Rattle.fractions.specs.Codes.{Small}
-use Rattle.fractions.specs.Operations.{over, operated, sized, OperandsFit}
+use Rattle.fractions.specs.Operations.{over, operated, sized, OperandsFit, CrossesFit}
 use Rattle.fractions.proofs.Magnitude.{small-fits}
 
 -- a result is read back as what its contract says
@@ -61,3 +61,13 @@ operated-small Difference {a} {b} {d1} {d2} fits =
     let q = abs-mul b (pos d1) in
     record { size = omega (arith, fits .bound, abs-diff (a *ℤ pos d2) (b *ℤ pos d1)) }
 operated-small Product {a} {b} fits = record { size = le-trans (le-of-eq (abs-mul a b)) (fits .bound) }
+
+-- what fits two numbers fits them as they are read back
+pub operands-same : {op : Operation} {a b a′ b′ : ℤ} {d1 d2 : ℕ} → a′ ≡ a → b′ ≡ b → OperandsFit op a d1 b d2 →
+    OperandsFit op a′ d1 b′ d2
+operands-same {op} {b = b} {a′ = a′} {d1 = d1} {d2 = d2} p q h =
+    subst (λ (y : ℤ). OperandsFit op a′ d1 y d2) (sym q) (subst (λ (x : ℤ). OperandsFit op x d1 b d2) (sym p) h)
+
+pub crosses-same : {a b a′ b′ : ℤ} {d1 d2 : ℕ} → a′ ≡ a → b′ ≡ b → CrossesFit a d1 b d2 → CrossesFit a′ d1 b′ d2
+crosses-same {b = b} {a′ = a′} {d1 = d1} {d2 = d2} p q h =
+    subst (λ (y : ℤ). CrossesFit a′ d1 y d2) (sym q) (subst (λ (x : ℤ). CrossesFit x d1 b d2) (sym p) h)

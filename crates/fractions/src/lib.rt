@@ -1,16 +1,11 @@
 // Fractions: expression numerators as i64, with their sign, over the denominators that the size rule bounds; and layers
 // of their codes.
+pub mod codes;
 mod signs;
 
 ghost use mathlib.Core.Path.{_≡_};
-ghost use mathlib.Core.Bool.{cond};
-ghost use Prim.Native.Nat.{ℕ, _+_, _*_, _^_, _≤_, _<_};
-ghost use lib.IntN.{natAbs};
-ghost use lib.ListN.{length, getD};
 ghost use Rattle.meaning.specs.Meaning.{related, compared};
-ghost use Rattle.layers.specs.Layers.{Written};
-ghost use Rattle.fractions.specs.Codes.{coded, decoded};
-ghost use Rattle.fractions.specs.Operations.{over, operated, relationOf, OperandsFit, CrossesFit, operatedCode, comparedCode, CombineFits, CompareFits};
+ghost use Rattle.fractions.specs.Operations.{over, operated, relationOf, OperandsFit, CrossesFit};
 
 // The three operations on expressions.
 pub enum Operation {
