@@ -1,7 +1,7 @@
 // Fractions: expression numerators as i64, with their sign, over the denominators that the size rule bounds; and layers
 // of their codes.
 pub mod codes;
-mod signs;
+pub mod signs;
 
 ghost use mathlib.Core.Path.{_≡_};
 ghost use Rattle.meaning.specs.Meaning.{related, compared};
