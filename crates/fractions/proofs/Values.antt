@@ -23,7 +23,7 @@ use Rattle.fractions.specs.declared.Operation.{Operation}
 use Rattle.fractions.specs.declared.Operation.the-variants.{Sum, Difference, Product}
 use Rattle.fractions.specs.declared.Relation.{Relation}
 use Rattle.fractions.specs.Codes.{coded, decoded, Small}
-use Rattle.fractions.specs.Operations.{over, operated, sized, relationOf, OperandsFit, CrossesFit, operatedCode, comparedCode}
+use Rattle.fractions.specs.Operations.{over, operated, sized, relationOf, combinedAt, comparedAt}
 use Rattle.fractions.specs.Operations.{CombineFits, CompareFits}
 use Rattle.fractions.specs.Values.{numerators, expressionOf}
 use Rattle.fractions.proofs.Magnitude.{decoded-coded}
@@ -140,7 +140,7 @@ module _ (c : Chain) (sound : Sound c) {n T : ℕ} (whole : T ≡ c .N ^ n) (a b
   }
 
   pub combine-layer : (op : Operation) {after : List ℕ} →
-      Written T (λ k. operatedCode op (size a (c .D) n .d) (size b (c .D) n .d) (getD w k 0) (getD w (T + k) 0)) w after →
+      Written T (combinedAt op (size a (c .D) n .d) (size b (c .D) n .d) T w) w after →
       Layer (c .N) n (numerators (expressionOf op a b) c n) after
   combine-layer op h = written-layer whole h
       (λ k l.
@@ -161,7 +161,7 @@ module _ (c : Chain) (sound : Sound c) {n T : ℕ} (whole : T ≡ c .N ^ n) (a b
   }
 
   pub compare-layer : (r : Relation) {after : List ℕ} →
-      Written T (λ k. comparedCode r (size a (c .D) n .d) (size b (c .D) n .d) (getD w k 0) (getD w (T + k) 0)) w after →
+      Written T (comparedAt r (size a (c .D) n .d) (size b (c .D) n .d) T w) w after →
       Layer (c .N) n (truth (λ s. holds (tree.compare (relationOf r) a b) c n s)) after
   unfolding holds
   compare-layer r h = written-layer whole h

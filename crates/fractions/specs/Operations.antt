@@ -58,6 +58,13 @@ operatedCode op d1 d2 x y = coded (operated op (over (decoded x) d1) (over (deco
 abbrev pub comparedCode : Relation → (d1 d2 x y : ℕ) → ℕ
 comparedCode r d1 d2 x y = cond (compared (relationOf r) (over (decoded x) d1) (over (decoded y) d2)) 1 0
 
+-- what stands at place k of two layers of codes, combined and compared
+abbrev pub combinedAt : Operation → (d1 d2 T : ℕ) → List ℕ → ℕ → ℕ
+combinedAt op d1 d2 T w k = operatedCode op d1 d2 (getD w k 0) (getD w (T + k) 0)
+
+abbrev pub comparedAt : Relation → (d1 d2 T : ℕ) → List ℕ → ℕ → ℕ
+comparedAt r d1 d2 T w k = comparedCode r d1 d2 (getD w k 0) (getD w (T + k) 0)
+
 -- two layers lie in the list, and at each place the operation fits
 pub record CombineFits (op : Operation) (d1 d2 T : ℕ) (w : List ℕ) : Type 0 where
   pub room : T + T ≤ length w

@@ -1,10 +1,11 @@
 // Layers of codes: the numerators of an expression at all tuples, each with its sign.
 ghost use mathlib.Core.Path.{_≡_};
-ghost use Prim.Native.Nat.{ℕ, _+_, _≤_};
-ghost use lib.ListN.{length, getD};
+ghost use Prim.Native.Nat.{_≤_};
+ghost use lib.ListN.{length};
 ghost use Rattle.layers.specs.Layers.{Written};
-ghost use Rattle.fractions.specs.Codes.{coded, decoded};
-ghost use Rattle.fractions.specs.Operations.{OperandsFit, CrossesFit, operatedCode, comparedCode, CombineFits, CompareFits};
+ghost use Rattle.fractions.specs.Codes.{decoded};
+ghost use Rattle.fractions.specs.Operations.{OperandsFit, CrossesFit, operatedCode, comparedCode};
+ghost use Rattle.fractions.specs.Operations.{combinedAt, comparedAt, CombineFits, CompareFits};
 use crate::Operation;
 use crate::Relation;
 use crate::signs;
@@ -44,7 +45,7 @@ pub fn constant(top: u64, tuples: usize, work: &mut [u64])
 // Sum, difference or product of the front layer and the second, into the front layer.
 pub fn combine(op: Operation, d1: u64, d2: u64, tuples: usize, work: &mut [u64])
     requires { ⌜ CombineFits op d1 d2 tuples (now work) ⌝ }
-    ensures { λ r. ⌜ Written tuples (λ k. operatedCode op d1 d2 (getD (now (work .entry)) k 0) (getD (now (work .entry)) (tuples + k) 0)) (now (work .entry)) (now (work .exit)) ⌝ }
+    ensures { λ r. ⌜ Written tuples (combinedAt op d1 d2 tuples (now (work .entry))) (now (work .entry)) (now (work .exit)) ⌝ }
 {
     let mut k: usize = 0;
     while k < tuples {
@@ -56,7 +57,7 @@ pub fn combine(op: Operation, d1: u64, d2: u64, tuples: usize, work: &mut [u64])
 // The truth of a comparison of the front layer and the second, into the front layer.
 pub fn compare(relation: Relation, d1: u64, d2: u64, tuples: usize, work: &mut [u64])
     requires { ⌜ CompareFits d1 d2 tuples (now work) ⌝ }
-    ensures { λ r. ⌜ Written tuples (λ k. comparedCode relation d1 d2 (getD (now (work .entry)) k 0) (getD (now (work .entry)) (tuples + k) 0)) (now (work .entry)) (now (work .exit)) ⌝ }
+    ensures { λ r. ⌜ Written tuples (comparedAt relation d1 d2 tuples (now (work .entry))) (now (work .entry)) (now (work .exit)) ⌝ }
 {
     let mut k: usize = 0;
     while k < tuples {

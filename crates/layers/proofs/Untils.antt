@@ -19,7 +19,7 @@ use Rattle.meaning.proofs.Sums.{total-le}
 use Rattle.meaning.proofs.Until.{layer, until-layer}
 use Rattle.layers.specs.Layers.{Layer, truth, Kept}
 use Rattle.layers.specs.Steps.{Holds, Sizes, StepFits, Stepped}
-use Rattle.layers.specs.Untils.{WrittenAt, choice, TurnFits, Turned, UntilFits, UntilTaken}
+use Rattle.layers.specs.Untils.{WrittenAt, choice, choiceAt, TurnFits, Turned, UntilFits, UntilTaken}
 use Rattle.layers.proofs.Tails.{Back, back-at}
 use Rattle.layers.proofs.Written.{kept-at, kept-from}
 
@@ -31,7 +31,7 @@ choice-same opened all p q r = λ i. choice opened all (p i) (q i) (r i)
 -- a step of the tail, then the choice
 pub turned-from : {rows : List (List ℕ)} {N n T : ℕ} {opened : Bool} {all : ℕ} {before tail mid after : List ℕ} →
     T ≡ N ^ n → Stepped rows N n T (drop (T + T) before) tail → Back (T + T) before tail mid →
-    WrittenAt (T + T) T (λ k. choice opened all (getD mid k 0) (getD mid (T + k) 0) (getD mid (T + T + k) 0)) mid after →
+    WrittenAt (T + T) T (choiceAt opened all T mid) mid after →
     Turned rows N n T opened all before after
 turned-from {rows} {N} {n} {T} {opened} {all} {before} {tail} {mid} {after} whole stepped back written = record {
   long = written .long ∙ back .long;

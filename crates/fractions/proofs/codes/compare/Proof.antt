@@ -3,16 +3,15 @@ use borrow.Author.Needs.{needs}
 use Prim.Native.Nat.{ℕ, _+_, _-_}
 use mathlib.Core.Path.{ap, ap₂, _∙_}
 use native.Mathlib.Omega.{arith}
-use lib.ListN.{getD}
 use Rattle.fractions.specs.Codes.{decoded}
-use Rattle.fractions.specs.Operations.{comparedCode}
+use Rattle.fractions.specs.Operations.{comparedCode, comparedAt}
 use Rattle.fractions.proofs.Operands.{crosses-same}
 use Rattle.layers.proofs.Written.{Writing, writing-none, writing-next, writing-all}
 use Rattle.fractions.proofs.codes.compare.Statement.{statement}
 use Rattle.fractions.proofs.codes.compare.Tie as tie
 
 abbrev Inv-loop : tie.InvT-loop
-Inv-loop relation d1 d2 tuples work₀ k₀ work k = Writing 0 tuples (λ k. comparedCode relation d1 d2 (getD work₀ k 0) (getD work₀ (tuples + k) 0)) work₀ k work
+Inv-loop relation d1 d2 tuples work₀ k₀ work k = Writing 0 tuples (comparedAt relation d1 d2 tuples work₀) work₀ k work
 
 abbrev μ-loop : tie.MeasureT-loop
 μ-loop relation d1 d2 tuples work₀ k₀ work k = tuples - k
