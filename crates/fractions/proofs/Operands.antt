@@ -32,7 +32,8 @@ size-fits d p h = subst (λ (x : ℤ). natAbs x * d ≤ 2 ^ 62) (sym p) h
 pub cross-size : (a : ℤ) (d : ℕ) → natAbs a * d ≤ 2 ^ 62 → natAbs (a *ℤ pos d) ≤ 2 ^ 62
 cross-size a d h = le-trans (le-of-eq (abs-mul a (pos d))) h
 
-pub cross-back : (d : ℕ) {z a a′ : ℤ} → z ≡ a′ *ℤ pos d → a′ ≡ a → natAbs a * d ≤ 2 ^ 62 → toZ w64 (ofZ w64 z) ≡ a *ℤ pos d
+pub cross-back : (d : ℕ) {z a a′ : ℤ} → z ≡ a′ *ℤ pos d → a′ ≡ a → natAbs a * d ≤ 2 ^ 62 →
+    toZ w64 (ofZ w64 z) ≡ a *ℤ pos d
 cross-back d {z} {a} {a′} e p h = back (e ∙ ap (λ (x : ℤ). x *ℤ pos d) p) (cross-size a d h)
 
 pub crosses-size : (a b : ℤ) (d1 d2 : ℕ) → natAbs a * d2 + natAbs b * d1 ≤ 2 ^ 62 →
@@ -47,6 +48,11 @@ pub bound-at : {op o : Operation} {a b : ℤ} {d1 d2 : ℕ} → OperandsFit op a
     sized o (record { d = d1; m = natAbs a }) (record { d = d2; m = natAbs b }) .m ≤ 2 ^ 62
 bound-at {a = a} {b = b} {d1 = d1} {d2 = d2} fits e =
     subst (λ o. sized o (record { d = d1; m = natAbs a }) (record { d = d2; m = natAbs b }) .m ≤ 2 ^ 62) e (fits .bound)
+
+-- the result, by the operation
+pub operated-as : {op o : Operation} → op ≡ o → (a : ℤ) (d1 : ℕ) (b : ℤ) (d2 : ℕ) →
+    operated o (over a d1) (over b d2) .top ≡ operated op (over a d1) (over b d2) .top
+operated-as e a d1 b d2 = sym (ap (λ o. operated o (over a d1) (over b d2) .top) e)
 
 -- the result is as small
 pub operated-small : (op : Operation) {a b : ℤ} {d1 d2 : ℕ} → OperandsFit op a d1 b d2 →

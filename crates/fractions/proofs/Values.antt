@@ -40,7 +40,8 @@ sized-mono Difference d1 d2 p q = omega (arith, mul-le-mul-right d2 p, mul-le-mu
 sized-mono Product d1 d2 p q = mul-le-mul p q
 
 -- the size of the expression is what the operation makes of the sizes
-size-of : (op : Operation) (a b : Expression) (D n : ℕ) → size (expressionOf op a b) D n ≡ sized op (size a D n) (size b D n)
+size-of : (op : Operation) (a b : Expression) (D n : ℕ) →
+    size (expressionOf op a b) D n ≡ sized op (size a D n) (size b D n)
 unfolding size sized
 size-of Sum a b D n = refl
 size-of Difference a b D n = refl
@@ -56,7 +57,8 @@ value-of Product a b c n s = refl
 
 -- the rule that refuses nothing of the whole refuses nothing of the parts
 exceeds-of : (op : Operation) (a b : Expression) (D n : ℕ) →
-    exceedsIn (expressionOf op a b) D n ≡ (exceedsIn a D n || exceedsIn b D n || largeSize (size (expressionOf op a b) D n))
+    exceedsIn (expressionOf op a b) D n ≡
+    (exceedsIn a D n || exceedsIn b D n || largeSize (size (expressionOf op a b) D n))
 unfolding exceedsIn
 exceeds-of Sum a b D n = refl
 exceeds-of Difference a b D n = refl
@@ -84,7 +86,8 @@ pub probability-layer : {N n : ℕ} (p : PathFormula) (c : Chain) {w : List ℕ}
 unfolding value
 probability-layer p c h = h
 
-pub constant-layer : {N n T : ℕ} → T ≡ N ^ n → (a b : ℕ) (c : Chain) {before after : List ℕ} → Written T (λ k. a) before after →
+pub constant-layer : {N n T : ℕ} → T ≡ N ^ n → (a b : ℕ) (c : Chain) {before after : List ℕ} →
+    Written T (λ k. a) before after →
     Layer N n (numerators (constant a b) c n) after
 unfolding value
 constant-layer whole a b c h = written-layer whole h (λ k l. refl)
@@ -109,21 +112,25 @@ module _ (c : Chain) (sound : Sound c) {n T : ℕ} (whole : T ≡ c .N ^ n) (a b
       (record { size = top-fits b c sound n small-b (tuple-inside (c .N) n k inside) })
 
   -- and with the denominators of the size rule they are the values
-  first-value : (k : ℕ) → k < T → over (decoded (getD w k 0)) (size a (c .D) n .d) ≡ value a c n (tupleOf (c .N) n k)
+  first-value : (k : ℕ) → k < T →
+      over (decoded (getD w k 0)) (size a (c .D) n .d) ≡ value a c n (tupleOf (c .N) n k)
   first-value k l =
       ap₂ over (first-is k l) (sym (value-within a c sound n (tuple-inside (c .N) n k (omega arith)) .bottom))
 
-  second-value : (k : ℕ) → k < T → over (decoded (getD w (T + k) 0)) (size b (c .D) n .d) ≡ value b c n (tupleOf (c .N) n k)
+  second-value : (k : ℕ) → k < T →
+      over (decoded (getD w (T + k) 0)) (size b (c .D) n .d) ≡ value b c n (tupleOf (c .N) n k)
   second-value k l =
       ap₂ over (second-is k l) (sym (value-within b c sound n (tuple-inside (c .N) n k (omega arith)) .bottom))
 
   first-le : (k : ℕ) → k < T → natAbs (decoded (getD w k 0)) ≤ size a (c .D) n .m
   first-le k l =
-      le-trans (le-of-eq (ap natAbs (first-is k l))) (value-within a c sound n (tuple-inside (c .N) n k (omega arith)) .top)
+      le-trans (le-of-eq (ap natAbs (first-is k l)))
+      (value-within a c sound n (tuple-inside (c .N) n k (omega arith)) .top)
 
   second-le : (k : ℕ) → k < T → natAbs (decoded (getD w (T + k) 0)) ≤ size b (c .D) n .m
   second-le k l =
-      le-trans (le-of-eq (ap natAbs (second-is k l))) (value-within b c sound n (tuple-inside (c .N) n k (omega arith)) .top)
+      le-trans (le-of-eq (ap natAbs (second-is k l)))
+      (value-within b c sound n (tuple-inside (c .N) n k (omega arith)) .top)
 
   -- what `combine` asks, and what it makes
   pub combine-fits : (op : Operation) → exceedsIn (expressionOf op a b) (c .D) n ≡ false → T + T ≤ length w →
@@ -135,7 +142,8 @@ module _ (c : Chain) (sound : Sound c) {n T : ℕ} (whole : T ≡ c .N ^ n) (a b
       right = size-fits b (c .D) n small-b .0;
       bound =
           le-trans (sized-mono op (size a (c .D) n .d) (size b (c .D) n .d) (first-le k l) (second-le k l))
-          (le-trans (le-of-eq (ap (λ z. z .m) (sym (size-of op a b (c .D) n)))) (size-fits (expressionOf op a b) (c .D) n small .1));
+          (le-trans (le-of-eq (ap (λ z. z .m) (sym (size-of op a b (c .D) n))))
+          (size-fits (expressionOf op a b) (c .D) n small .1));
     };
   }
 
@@ -155,8 +163,10 @@ module _ (c : Chain) (sound : Sound c) {n T : ℕ} (whole : T ≡ c .N ^ n) (a b
     fits = λ k l. record {
       left = size-fits a (c .D) n small-a .0;
       right = size-fits b (c .D) n small-b .0;
-      first = le-trans (mul-le-mul-right (size b (c .D) n .d) (first-le k l)) (cross-fits (relationOf r) a b (c .D) n small .0);
-      second = le-trans (mul-le-mul-right (size a (c .D) n .d) (second-le k l)) (cross-fits (relationOf r) a b (c .D) n small .1);
+      first = le-trans (mul-le-mul-right (size b (c .D) n .d) (first-le k l))
+          (cross-fits (relationOf r) a b (c .D) n small .0);
+      second = le-trans (mul-le-mul-right (size a (c .D) n .d) (second-le k l))
+          (cross-fits (relationOf r) a b (c .D) n small .1);
     };
   }
 

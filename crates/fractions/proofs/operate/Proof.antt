@@ -7,8 +7,9 @@ use lib.IntN.{ℤ, pos, natAbs, _+ℤ_, _-ℤ_, _*ℤ_}
 use mir.Facts.{toZ-ofZ}
 use Rattle.meaning.specs.Meaning.{addF, subF, mulF}
 use Rattle.meaning.specs.Size.{addS, mulS}
-use Rattle.fractions.specs.Operations.{over, operated, sized}
-use Rattle.fractions.proofs.Operands.{back, bound-at, size-fits, sizes-fit, cross-back, crosses-size, operated-small}
+use Rattle.fractions.specs.Operations.{operated, sized}
+use Rattle.fractions.proofs.Operands.{back, bound-at, size-fits, sizes-fit, cross-back, crosses-size}
+use Rattle.fractions.proofs.Operands.{operated-as, operated-small}
 use Rattle.fractions.proofs.operate.Statement.{statement}
 use Rattle.fractions.proofs.operate.Tie as tie
 
@@ -34,8 +35,10 @@ unfolding sized addS
 plus-requires c κs =
     let start = c .before .before .before .before in
     let bound = bound-at (start .pre) (c .before .before .enum-told .given .1) in
-    let ra = cross-back (start .args .d2) (c .before .cross .ensures) (toZ-ofZ (start .fits .a)) (omega arith) in
-    let rb = cross-back (start .args .d1) (c .cross2 .ensures) (toZ-ofZ (start .fits .b)) (omega arith) in
+    let ra = cross-back (start .args .d2) (c .before .cross .ensures)
+    (toZ-ofZ (start .fits .a)) (omega arith) in
+    let rb = cross-back (start .args .d1) (c .cross2 .ensures)
+    (toZ-ofZ (start .fits .b)) (omega arith) in
     sizes-fit _+_ ra rb (crosses-size (start .args .a) (start .args .b) (start .args .d1) (start .args .d2) bound)
 
 enum-told-2 : tie.Need-enum-told-2
@@ -60,8 +63,10 @@ unfolding sized addS
 minus-requires c κs =
     let start = c .before .before .before .before in
     let bound = bound-at (start .pre) (c .before .before .enum-told2 .given .1) in
-    let ra = cross-back (start .args .d2) (c .before .cross3 .ensures) (toZ-ofZ (start .fits .a)) (omega arith) in
-    let rb = cross-back (start .args .d1) (c .cross4 .ensures) (toZ-ofZ (start .fits .b)) (omega arith) in
+    let ra = cross-back (start .args .d2) (c .before .cross3 .ensures)
+    (toZ-ofZ (start .fits .a)) (omega arith) in
+    let rb = cross-back (start .args .d1) (c .cross4 .ensures)
+    (toZ-ofZ (start .fits .b)) (omega arith) in
     sizes-fit _+_ ra rb (crosses-size (start .args .a) (start .args .b) (start .args .d1) (start .args .d2) bound)
 
 enum-told-3 : tie.Need-enum-told-3
@@ -79,27 +84,37 @@ unfolding operated addF subF sized addS
 returns c =
     let start = c .before .before .before .before .before in
     let bound = bound-at (start .pre) (c .before .before .before .enum-told .given .1) in
-    let ra = cross-back (start .args .d2) (c .before .before .cross .ensures) (toZ-ofZ (start .fits .a)) (omega arith) in
-    let rb = cross-back (start .args .d1) (c .before .cross2 .ensures) (toZ-ofZ (start .fits .b)) (omega arith) in
-    let made = sym (ap (λ o. operated o (over (start .args .a) (start .args .d1)) (over (start .args .b) (start .args .d2)) .top) (c .before .before .before .enum-told .given .1)) in
-    back (c .plus .ensures ∙ ap₂ _+ℤ_ ra rb ∙ made) (operated-small (start .args .op) (start .pre) .size)
+    let ra = cross-back (start .args .d2) (c .before .before .cross .ensures)
+    (toZ-ofZ (start .fits .a)) (omega arith) in
+    let rb = cross-back (start .args .d1) (c .before .cross2 .ensures)
+    (toZ-ofZ (start .fits .b)) (omega arith) in
+    let made = operated-as (c .before .before .before .enum-told .given .1)
+    (start .args .a) (start .args .d1) (start .args .b) (start .args .d2) in
+    back (c .plus .ensures ∙ ap₂ _+ℤ_ ra rb ∙ made)
+    (operated-small (start .args .op) (start .pre) .size)
 
 returns-2 : tie.Need-returns-2
 unfolding operated addF subF sized addS
 returns-2 c =
     let start = c .before .before .before .before .before in
     let bound = bound-at (start .pre) (c .before .before .before .enum-told2 .given .1) in
-    let ra = cross-back (start .args .d2) (c .before .before .cross3 .ensures) (toZ-ofZ (start .fits .a)) (omega arith) in
-    let rb = cross-back (start .args .d1) (c .before .cross4 .ensures) (toZ-ofZ (start .fits .b)) (omega arith) in
-    let made = sym (ap (λ o. operated o (over (start .args .a) (start .args .d1)) (over (start .args .b) (start .args .d2)) .top) (c .before .before .before .enum-told2 .given .1)) in
-    back (c .minus .ensures ∙ ap₂ _-ℤ_ ra rb ∙ made) (operated-small (start .args .op) (start .pre) .size)
+    let ra = cross-back (start .args .d2) (c .before .before .cross3 .ensures)
+    (toZ-ofZ (start .fits .a)) (omega arith) in
+    let rb = cross-back (start .args .d1) (c .before .cross4 .ensures)
+    (toZ-ofZ (start .fits .b)) (omega arith) in
+    let made = operated-as (c .before .before .before .enum-told2 .given .1)
+    (start .args .a) (start .args .d1) (start .args .b) (start .args .d2) in
+    back (c .minus .ensures ∙ ap₂ _-ℤ_ ra rb ∙ made)
+    (operated-small (start .args .op) (start .pre) .size)
 
 returns-3 : tie.Need-returns-3
 unfolding operated mulF
 returns-3 c =
     let start = c .before .before .before in
-    let made = sym (ap (λ o. operated o (over (start .args .a) (start .args .d1)) (over (start .args .b) (start .args .d2)) .top) (c .before .enum-told3 .given .1)) in
-    back (c .times .ensures ∙ ap₂ _*ℤ_ (toZ-ofZ (start .fits .a)) (toZ-ofZ (start .fits .b)) ∙ made) (operated-small (start .args .op) (start .pre) .size)
+    let made = operated-as (c .before .enum-told3 .given .1)
+    (start .args .a) (start .args .d1) (start .args .b) (start .args .d2) in
+    back (c .times .ensures ∙ ap₂ _*ℤ_ (toZ-ofZ (start .fits .a)) (toZ-ofZ (start .fits .b)) ∙ made)
+    (operated-small (start .args .op) (start .pre) .size)
 
 pub operate-spec : {M : Type 1} → statement M
 operate-spec =

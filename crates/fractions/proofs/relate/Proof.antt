@@ -31,7 +31,8 @@ returns c =
     let start = c .before .before in
     let ra = toZ-ofZ (start .fits .a) in
     let rb = toZ-ofZ (start .fits .b) in
-    ap₂ ltZ ra rb ∙ sym (ap (λ r. related (relationOf r) (start .args .a) (start .args .b)) (c .enum-told .given .1))
+    ap₂ ltZ ra rb ∙
+    sym (ap (λ r. related (relationOf r) (start .args .a) (start .args .b)) (c .enum-told .given .1))
 
 returns-2 : tie.Need-returns-2
 unfolding related
@@ -39,7 +40,8 @@ returns-2 c =
     let start = c .before .before in
     let ra = toZ-ofZ (start .fits .a) in
     let rb = toZ-ofZ (start .fits .b) in
-    ap₂ leZ ra rb ∙ sym (ap (λ r. related (relationOf r) (start .args .a) (start .args .b)) (c .enum-told2 .given .1))
+    ap₂ leZ ra rb ∙
+    sym (ap (λ r. related (relationOf r) (start .args .a) (start .args .b)) (c .enum-told2 .given .1))
 
 returns-3 : tie.Need-returns-3
 unfolding related
@@ -47,7 +49,8 @@ returns-3 c =
     let start = c .before .before in
     let ra = toZ-ofZ (start .fits .a) in
     let rb = toZ-ofZ (start .fits .b) in
-    ap₂ (λ (x y : ℤ). leZ x y && leZ y x) ra rb ∙ sym (ap (λ r. related (relationOf r) (start .args .a) (start .args .b)) (c .enum-told3 .given .1))
+    ap₂ (λ (x y : ℤ). leZ x y && leZ y x) ra rb ∙
+    sym (ap (λ r. related (relationOf r) (start .args .a) (start .args .b)) (c .enum-told3 .given .1))
 
 returns-4 : tie.Need-returns-4
 unfolding related
@@ -55,7 +58,8 @@ returns-4 c =
     let start = c .before .before in
     let ra = toZ-ofZ (start .fits .a) in
     let rb = toZ-ofZ (start .fits .b) in
-    ap₂ leZ rb ra ∙ sym (ap (λ r. related (relationOf r) (start .args .a) (start .args .b)) (c .enum-told4 .given .1))
+    ap₂ leZ rb ra ∙
+    sym (ap (λ r. related (relationOf r) (start .args .a) (start .args .b)) (c .enum-told4 .given .1))
 
 returns-5 : tie.Need-returns-5
 unfolding related
@@ -63,7 +67,8 @@ returns-5 c =
     let start = c .before .before in
     let ra = toZ-ofZ (start .fits .a) in
     let rb = toZ-ofZ (start .fits .b) in
-    ap₂ ltZ rb ra ∙ sym (ap (λ r. related (relationOf r) (start .args .a) (start .args .b)) (c .enum-told5 .given .1))
+    ap₂ ltZ rb ra ∙
+    sym (ap (λ r. related (relationOf r) (start .args .a) (start .args .b)) (c .enum-told5 .given .1))
 
 pub relate-spec : {M : Type 1} → statement M
 relate-spec =

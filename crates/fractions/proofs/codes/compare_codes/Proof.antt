@@ -30,7 +30,9 @@ returns c =
     let rb = decoded-reads (start .args .y) (start .fits .y .fits) (c .before .before .decode2 .ensures) in
     sym (ap (λ b. cond b 1 0)
     (sym (c .before .compare .ensures ∙
-    ap₂ (λ (a b : ℤ). compared (relationOf (start .args .relation)) (over a (start .args .d1)) (over b (start .args .d2))) ra rb) ∙
+    ap₂
+    (λ (a b : ℤ). compared (relationOf (start .args .relation)) (over a (start .args .d1)) (over b (start .args .d2)))
+    ra rb) ∙
     c .if1 .taken))
 
 returns-2 : tie.Need-returns-2
@@ -40,7 +42,9 @@ returns-2 c =
     let rb = decoded-reads (start .args .y) (start .fits .y .fits) (c .before .before .decode2 .ensures) in
     sym (ap (λ b. cond b 1 0)
     (sym (c .before .compare .ensures ∙
-    ap₂ (λ (a b : ℤ). compared (relationOf (start .args .relation)) (over a (start .args .d1)) (over b (start .args .d2))) ra rb) ∙
+    ap₂
+    (λ (a b : ℤ). compared (relationOf (start .args .relation)) (over a (start .args .d1)) (over b (start .args .d2)))
+    ra rb) ∙
     c .if1 .left))
 
 pub compare-codes-spec : {M : Type 1} → statement M

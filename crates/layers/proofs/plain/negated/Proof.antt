@@ -44,7 +44,8 @@ loop-again : tie.Need-loop-again Inv-loop μ-loop
 loop-again c =
     let h = c .before .before .before .loop .inv in
     let k = c .before .before .before .loop .k in
-    writing-next h (omega arith) (omega arith) (c .other .ensures ∙ ap (λ (x : ℕ). cond (eqb x 0) 1 0) (h .high k (omega arith)))
+    writing-next h (omega arith) (omega arith)
+    (c .other .ensures ∙ ap (λ (x : ℕ). cond (eqb x 0) 1 0) (h .high k (omega arith)))
 
 same-length : tie.Need-same-length Inv-loop μ-loop
 same-length c = search needs

@@ -10,7 +10,8 @@ use Rattle.layers.proofs.until.choose.Statement.{statement}
 use Rattle.layers.proofs.until.choose.Tie as tie
 
 abbrev Inv-loop : tie.InvT-loop
-Inv-loop opened all tuples work₀ k₀ work k = Writing (tuples + tuples) tuples (choiceAt opened all tuples work₀) work₀ k work
+Inv-loop opened all tuples work₀ k₀ work k =
+    Writing (tuples + tuples) tuples (choiceAt opened all tuples work₀) work₀ k work
 
 abbrev μ-loop : tie.MeasureT-loop
 μ-loop opened all tuples work₀ k₀ work k = tuples - k
