@@ -4,7 +4,7 @@ use mathlib.Core.Bool.{Bool, true, false, cond, true≢false, false≢true}
 use mathlib.Core.Path.{_≡_, refl, sym, ap, ap₂, subst, _∙_}
 use native.Mathlib.Nat.{le-refl, le-trans}
 use native.Mathlib.Omega.{arith}
-use borrow.Author.Tests.{lt-ltb, le-ltb, ltb-true}
+use borrow.Author.Tests.{lt-ltb, le-ltb, ltb-true, ltb-false}
 use lib.Dec.{T, ltb}
 use lib.IntN.{ℤ, pos, negsuc, negℤ, natAbs, _+ℤ_, _-ℤ_, +ℤ-idl}
 use lib.Signed.{mag, ltZ, nonNeg}
@@ -38,12 +38,25 @@ module _ (op : ℤ → ℤ → ℤ) {a b a′ b′ : ℤ} (p : a′ ≡ a) (q : 
 pub negated : (z : ℤ) → pos 0 -ℤ z ≡ negℤ z
 negated z = +ℤ-idl (negℤ z)
 
+neg-fits : (n : ℕ) → n < 2 ^ 63 → SFits w64 (negℤ (pos n))
+neg-fits zero h = record { sfits = h }
+neg-fits (suc n) h = record { sfits = omega arith }
+
 pub negated-fits : (n : ℕ) → n < 2 ^ 63 → SFits w64 (pos 0 -ℤ pos n)
-negated-fits n h = subst (λ (z : ℤ). SFits w64 z) (sym (negated (pos n))) (here n h)
+negated-fits n h = subst (λ (z : ℤ). SFits w64 z) (sym (negated (pos n))) (neg-fits n h)
+
+-- what a code stands for is read back as it is
+decoded-fits : (x : ℕ) → x < 2 ^ 64 → SFits w64 (decoded x)
+decoded-fits x h = here (ltb x (2 ^ 63)) refl
   where
-    here : (n : ℕ) → n < 2 ^ 63 → SFits w64 (negℤ (pos n))
-    here zero h = record { sfits = h }
-    here (suc n) h = record { sfits = omega arith }
+    here : (b : Bool) → ltb x (2 ^ 63) ≡ b → SFits w64 (cond b (pos x) (negℤ (pos (x - 2 ^ 63))))
+    here true e = record { sfits = ltb-true x (2 ^ 63) e }
+    here false e =
+        let l = ltb-false x (2 ^ 63) e in
+        neg-fits (x - 2 ^ 63) (omega arith)
+
+pub decoded-reads : {z : ℤ} (x : ℕ) → x < 2 ^ 64 → z ≡ decoded x → toZ w64 (ofZ w64 z) ≡ decoded x
+decoded-reads x h e = ap (λ (z : ℤ). toZ w64 (ofZ w64 z)) e ∙ toZ-ofZ (decoded-fits x h)
 
 pub minus-fits : (z : ℤ) → natAbs z ≤ 2 ^ 62 → natAbs (pos 0 -ℤ z) ≤ 2 ^ 62
 minus-fits z h = omega (arith, abs-diff (pos 0) z)
@@ -72,3 +85,17 @@ decoded-coded (negsuc n) h =
   where
     e : 2 ^ 63 + suc n - 2 ^ 63 ≡ suc n
     e = omega arith
+
+-- and what is decoded is coded; no code is 2^63, a negative nothing
+pub coded-decoded : (x : ℕ) → (x ≡ 2 ^ 63 → ⊥) → coded (decoded x) ≡ x
+coded-decoded x other = here (ltb x (2 ^ 63)) refl
+  where
+    negative : (m : ℕ) → x ≡ 2 ^ 63 + m → coded (negℤ (pos m)) ≡ x
+    negative zero e = absurd (other (omega arith))
+    negative (suc m) e = sym e
+
+    here : (b : Bool) → ltb x (2 ^ 63) ≡ b → coded (cond b (pos x) (negℤ (pos (x - 2 ^ 63)))) ≡ x
+    here true e = refl
+    here false e =
+        let l = ltb-false x (2 ^ 63) e in
+        negative (x - 2 ^ 63) (omega arith)

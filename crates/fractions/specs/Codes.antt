@@ -1,4 +1,5 @@
--- A signed numerator in a number of 64 bits. Numerators are at most 2^62 in size; the upper half holds the negative ones.
+-- A signed numerator in a number of 64 bits. Numerators are at most 2^62 in size; the upper half holds the negative
+-- ones.
 use Prim.Native.Nat.{ℕ, suc, _+_, _-_, _^_, _≤_}
 use mathlib.Core.Bool.{cond}
 use lib.Dec.{ltb}

@@ -13,25 +13,33 @@ fn signed(x: u64) -> i64
 }
 
 // The sum, the difference and the product of two numerators.
-fn plus(a: i64, b: i64) -> i64
+pub fn plus(a: i64, b: i64) -> i64
     requires { ⌜ natAbs a + natAbs b ≤ 2 ^ 62 ⌝ }
     ensures { λ r. ⌜ r ≡ a +ℤ b ⌝ }
 {
     a + b
 }
 
-fn minus(a: i64, b: i64) -> i64
+pub fn minus(a: i64, b: i64) -> i64
     requires { ⌜ natAbs a + natAbs b ≤ 2 ^ 62 ⌝ }
     ensures { λ r. ⌜ r ≡ a -ℤ b ⌝ }
 {
     a - b
 }
 
-fn times(a: i64, b: i64) -> i64
+pub fn times(a: i64, b: i64) -> i64
     requires { ⌜ natAbs a * natAbs b ≤ 2 ^ 62 ⌝ }
     ensures { λ r. ⌜ r ≡ a *ℤ b ⌝ }
 {
     a * b
+}
+
+// A cross product: a numerator times the other's denominator.
+pub fn cross(a: i64, d: u64) -> i64
+    requires { ⌜ (d ≤ 2 ^ 62) × (natAbs a * d ≤ 2 ^ 62) ⌝ }
+    ensures { λ r. ⌜ r ≡ a *ℤ pos d ⌝ }
+{
+    times(a, signed(d))
 }
 
 // The code of a numerator.

@@ -3,7 +3,7 @@ use Prim.Native.Nat.{ℕ, _+_, _*_, _-_, _/_, _%_, _^_, _≤_, _<_}
 use mathlib.Core.List.{List}
 use mathlib.Core.Path.{_≡_, refl, sym, ap, ap₂, subst, _∙_}
 use native.Mathlib.Decide.{decLt}
-use native.Mathlib.Nat.{mod-lt, div-add-mod', div-lt-iff-lt-mul, mul-div-cancel, mul-assoc, mul-comm, le-trans, mul-le-mul-right}
+use native.Mathlib.Nat.{mod-lt, div-add-mod', div-lt-iff-lt-mul, mul-div-cancel, le-trans, mul-le-mul-right}
 use native.Mathlib.Omega.{arith}
 use lib.Arith.{digits-div, digits-mod, digits-lt}
 use lib.ListN.{length, getD, set, length-set}
@@ -22,7 +22,8 @@ same-state stride a b h e =
     sym (mul-div-cancel a h) ∙ ap (λ (x : ℕ). x / stride) e ∙ mul-div-cancel b h
 
 -- the first s states of the column are stepped, the other places are as before
-pub record ColumnStepping (rows : List (List ℕ)) (N stride at : ℕ) (before : List ℕ) (s : ℕ) (after : List ℕ) : Type 0 where
+pub record ColumnStepping (rows : List (List ℕ)) (N stride at : ℕ) (before : List ℕ) (s : ℕ)
+    (after : List ℕ) : Type 0 where
   pub upTo : s ≤ N
   pub long : length after ≡ length before
   pub each : (t : ℕ) → t < s → getD after (at + t * stride) 0 ≡ stepped rows N stride before at t
@@ -48,7 +49,8 @@ module _ {rows : List (List ℕ)} {N stride at : ℕ} {before : List ℕ} where
         getD-set-other after (at + s * stride) k v 0 (out s (omega arith)) ∙ h .same k (λ t l. out t (omega arith));
   }
     where
-      here : (t : ℕ) → t < s + 1 → Dec (t < s) → getD (set after (at + s * stride) v) (at + t * stride) 0 ≡ stepped rows N stride before at t
+      here : (t : ℕ) → t < s + 1 → Dec (t < s) →
+          getD (set after (at + s * stride) v) (at + t * stride) 0 ≡ stepped rows N stride before at t
       here t l (yes small) =
           getD-set-other after (at + s * stride) (at + t * stride) v 0
           (λ p.
@@ -58,7 +60,8 @@ module _ {rows : List (List ℕ)} {N stride at : ℕ} {before : List ℕ} where
       here t l (no large) =
           let p : s ≡ t = omega arith in
           let room : at + s * stride < length after = omega (arith, h .long, fits .inside s less) in
-          subst (λ (x : ℕ). getD (set after (at + s * stride) v) (at + x * stride) 0 ≡ stepped rows N stride before at x) p
+          subst
+          (λ (x : ℕ). getD (set after (at + s * stride) v) (at + x * stride) 0 ≡ stepped rows N stride before at x) p
           (getD-set-same after (at + s * stride) v 0 room ∙ e)
 
   pub column-all : {s : ℕ} {after : List ℕ} → ColumnStepping rows N stride at before s after → N ≤ s →
@@ -84,7 +87,8 @@ module _ (N stride : ℕ) (some : 1 ≤ N) (apart : 1 ≤ stride) where
   start-split k =
       let p = div-add-mod' k stride in
       let q = div-add-mod' (k / stride) N in
-      let r : k / stride * stride ≡ (k / stride / N * N + k / stride % N) * stride = ap (λ (x : ℕ). x * stride) (sym q) in
+      let r : k / stride * stride ≡ (k / stride / N * N + k / stride % N) * stride =
+      ap (λ (x : ℕ). x * stride) (sym q) in
       omega arith
 
   pub start-column : (k : ℕ) → startOf N stride (columnOf N stride k) ≡ start N stride k
@@ -122,7 +126,8 @@ module _ (N stride : ℕ) (some : 1 ≤ N) (apart : 1 ≤ stride) where
       digits-lt q (mod-lt k apart)
 
 -- the columns before j are stepped, the others and what lies past the layer are as before
-pub record LayerStepping (rows : List (List ℕ)) (N stride T : ℕ) (before : List ℕ) (j : ℕ) (after : List ℕ) : Type 0 where
+pub record LayerStepping (rows : List (List ℕ)) (N stride T : ℕ) (before : List ℕ) (j : ℕ)
+    (after : List ℕ) : Type 0 where
   pub long : length after ≡ length before
   pub each : (k : ℕ) → k < T → columnOf N stride k < j →
       getD after k 0 ≡ stepped rows N stride before (start N stride k) (k / stride % N)
@@ -160,7 +165,8 @@ module _ {rows : List (List ℕ)} {N stride T : ℕ} {before : List ℕ} where
 
     module _ {after : List ℕ} (h : LayerStepping rows N stride T before j after) where
       -- it has not been written yet
-      fresh : (s : ℕ) → s < N → getD after (startOf N stride j + s * stride) 0 ≡ getD before (startOf N stride j + s * stride) 0
+      fresh : (s : ℕ) → s < N →
+          getD after (startOf N stride j + s * stride) 0 ≡ getD before (startOf N stride j + s * stride) 0
       fresh s l =
           let e = place-column N stride (fits .some) (fits .apart) j s l in
           h .left (startOf N stride j + s * stride) (inside s l) (omega arith)
@@ -208,7 +214,8 @@ module _ {rows : List (List ℕ)} {N stride T : ℕ} {before : List ℕ} where
               ap (λ (x : ℕ). stepped rows N stride before x s) (sym begins)
 
   pub layer-all : {j : ℕ} {after : List ℕ} → (fits : LayerFits rows N stride T before) →
-      LayerStepping rows N stride T before j after → fits .above * stride ≤ j → LayerStepped rows N stride T before after
+      LayerStepping rows N stride T before j after → fits .above * stride ≤ j →
+      LayerStepped rows N stride T before after
   layer-all {j} fits h done = record {
     each = λ k l.
         let whole = fits .whole in

@@ -2,7 +2,7 @@
 use Prim.Native.Nat.{ℕ, suc, _+_, _*_, _-_, _/_, _%_, _^_, _≤_, _<_}
 use mathlib.Core.List.{List}
 use mathlib.Core.Path.{_≡_, refl, sym, ap, ap₂, subst, _∙_}
-use native.Mathlib.Nat.{mod-lt, pow-suc, pow-succ', pow-zero, pow-le-pow-right, mul-le-mul-right, mul-assoc, mul-comm, le-trans, le-of-eq}
+use native.Mathlib.Nat.{mod-lt, pow-suc, pow-succ', pow-zero, pow-le-pow-right, mul-le-mul-right}
 use native.Mathlib.Numerals.{add-one}
 use native.Mathlib.Omega.{arith}
 use lib.ListN.{length, getD, set}

@@ -16,7 +16,8 @@ use Rattle.layers.specs.Steps.{Holds, Stepped}
 use Rattle.layers.specs.Untils.{UntilTaken}
 
 -- a truth is at most 1
-pub truth-small : {N n : ℕ} (p : Tuple → Bool) {w : List ℕ} → Layer N n (truth p) w → (k : ℕ) → k < N ^ n → getD w k 0 ≤ 1
+pub truth-small : {N n : ℕ} (p : Tuple → Bool) {w : List ℕ} → Layer N n (truth p) w →
+    (k : ℕ) → k < N ^ n → getD w k 0 ≤ 1
 truth-small {N} {n} p h k l = le-trans (le-of-eq (h .at k l)) (small (p (tupleOf N n k)))
   where
     small : (b : Bool) → cond b 1 0 ≤ 1
@@ -28,7 +29,8 @@ module _ {rows : List (List ℕ)} {N n T : ℕ} {before after : List ℕ} {c : C
   -- the numerator of next is a joint step of its formula's truth
   pub next-layer : Stepped rows N n T before after → Layer N n (numerator (next f) c n) after
   next-layer stepped = record {
-    at = λ k l. stepped .each c held (truth (λ t. holds f c n t)) one .at k l ∙ sym (numerator-next f c n (tupleOf N n k));
+    at = λ k l.
+        stepped .each c held (truth (λ t. holds f c n t)) one .at k l ∙ sym (numerator-next f c n (tupleOf N n k));
   }
 
   -- the numerator of until

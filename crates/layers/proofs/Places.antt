@@ -1,5 +1,5 @@
--- Where the tuples stand in a layer: the state of a variable at a tuple's number, and the number of the tuple in which the
--- variable has another state.
+-- Where the tuples stand in a layer: the state of a variable at a tuple's number, and the number of the tuple in which
+-- the variable has another state.
 use Prim.Native.Nat.{ℕ, zero, suc, _+_, _*_, _-_, _/_, _%_, _^_, _≤_, _<_}
 use mathlib.Core.List.{List, [], _∷_}
 use mathlib.Core.Path.{_≡_, refl, sym, ap, ap₂, subst, _∙_}
@@ -66,7 +66,8 @@ module _ (N : ℕ) (some : 0 < N) where
       let state = state-at n i k h l in
       let number = number-tuple N n k l in
       let r = number-set N i t s less in
-      let r′ : numberOf N (set s i t) + getD s i 0 * N ^ (n - suc i) ≡ numberOf N s + t * N ^ (n - suc i) = rw place at r in
-      let r″ : numberOf N (set s i t) + k / N ^ (n - suc i) % N * N ^ (n - suc i) ≡ numberOf N s + t * N ^ (n - suc i) = rw state at r′ in
+      let stride = N ^ (n - suc i) in
+      let r′ : numberOf N (set s i t) + getD s i 0 * stride ≡ numberOf N s + t * stride = rw place at r in
+      let r″ : numberOf N (set s i t) + k / stride % N * stride ≡ numberOf N s + t * stride = rw state at r′ in
       let p : m ≡ numberOf N (set s i t) = omega arith in
       ap (λ (x : ℕ). tupleOf N n x) p ∙ tuple-number N (set-inside i-n i t small)

@@ -28,7 +28,9 @@ pub put-back : (a : ℕ) (w lent : List ℕ) → a ≤ length w → length lent 
     Back a w lent (take a w ++ (lent ++ drop (length w - a) (drop a w)))
 put-back a w lent room long = record {
   long = same-len-mid a (length w - a) w lent long;
-  low = λ k l. List·getD-append (take a w) (lent ++ drop (length w - a) (drop a w)) 0 k (omega (arith, first)) ∙ getD-take a w k 0 l;
+  low = λ k l.
+      List·getD-append (take a w) (lent ++ drop (length w - a) (drop a w)) 0 k (omega (arith, first)) ∙
+      getD-take a w k 0 l;
   tail = drop-at (take a w) (lent ++ drop (length w - a) (drop a w)) a first ∙
       ap (λ (l : List ℕ). lent ++ l) (drop-drop (length w - a) a w ∙ ap (λ (x : ℕ). drop x w) whole ∙ drop-length w) ∙
       append-nil lent;

@@ -13,7 +13,7 @@ use Rattle.meaning.specs.Chain.{Chain, Tuple}
 use Rattle.meaning.specs.Meaning.{hasLabel}
 use Rattle.meaning.proofs.Laws.{hasLabel-at}
 use Rattle.meaning.proofs.Numbers.{tupleOf, tuple-inside, each-length}
-use Rattle.layers.specs.Layers.{Layer, truth, Written, bitAt}
+use Rattle.layers.specs.Layers.{Layer, truth, Written, negatedAt, bothAt, bitAt}
 use Rattle.layers.proofs.Places.{state-at}
 
 -- a bit is 1 or 0, as the test says
@@ -53,7 +53,7 @@ module _ {N n T : ℕ} (whole : T ≡ N ^ n) {before after : List ℕ} where
           sym (hasLabel-at c l i (tupleOf N n k) inside))
 
   pub negated-layer : (p : Tuple → Bool) → Layer N n (truth p) before →
-      Written T (λ k. cond (eqb (getD before k 0) 0) 1 0) before after → Layer N n (truth (λ s. not (p s))) after
+      Written T (negatedAt before) before after → Layer N n (truth (λ s. not (p s))) after
   negated-layer p h w = written-layer w
       (λ k l. ap (λ (x : ℕ). cond (eqb x 0) 1 0) (h .at k l) ∙ turned (p (tupleOf N n k)))
     where
@@ -62,7 +62,7 @@ module _ {N n T : ℕ} (whole : T ≡ N ^ n) {before after : List ℕ} where
       turned false = refl
 
   pub both-layer : (p q : Tuple → Bool) → Layer N n (truth p) before → Layer N n (truth q) (drop T before) →
-      Written T (λ k. cond (eqb (getD before (T + k) 0) 0) 0 (getD before k 0)) before after →
+      Written T (bothAt T before) before after →
       Layer N n (truth (λ s. p s && q s)) after
   both-layer p q h h′ w = written-layer w
       (λ k l.

@@ -19,7 +19,7 @@ use Rattle.meaning.proofs.Sums.{total-le}
 use Rattle.meaning.proofs.Until.{layer, until-layer}
 use Rattle.layers.specs.Layers.{Layer, truth, Kept}
 use Rattle.layers.specs.Steps.{Holds, Sizes, StepFits, Stepped}
-use Rattle.layers.specs.Untils.{WrittenAt, choice, TurnFits, Turned, UntilFits, UntilTaken}
+use Rattle.layers.specs.Untils.{WrittenAt, choice, choiceAt, TurnFits, Turned, UntilFits, UntilTaken}
 use Rattle.layers.proofs.Tails.{Back, back-at}
 use Rattle.layers.proofs.Written.{kept-at, kept-from}
 
@@ -31,7 +31,7 @@ choice-same opened all p q r = λ i. choice opened all (p i) (q i) (r i)
 -- a step of the tail, then the choice
 pub turned-from : {rows : List (List ℕ)} {N n T : ℕ} {opened : Bool} {all : ℕ} {before tail mid after : List ℕ} →
     T ≡ N ^ n → Stepped rows N n T (drop (T + T) before) tail → Back (T + T) before tail mid →
-    WrittenAt (T + T) T (λ k. choice opened all (getD mid k 0) (getD mid (T + k) 0) (getD mid (T + T + k) 0)) mid after →
+    WrittenAt (T + T) T (choiceAt opened all T mid) mid after →
     Turned rows N n T opened all before after
 turned-from {rows} {N} {n} {T} {opened} {all} {before} {tail} {mid} {after} whole stepped back written = record {
   long = written .long ∙ back .long;
@@ -78,7 +78,8 @@ choice-le opened all first second number bound p q = outer (opened && not (eqb s
     outer false r = r
 
 -- a step of a function that is at most `bound` is at most D^n × bound
-step-le : (c : Chain) → Sound c → (n : ℕ) (f : Tuple → ℕ) (bound : ℕ) → ((t : Tuple) → Inside (c .N) n t → f t ≤ bound) →
+step-le : (c : Chain) → Sound c → (n : ℕ) (f : Tuple → ℕ) (bound : ℕ) →
+    ((t : Tuple) → Inside (c .N) n t → f t ≤ bound) →
     {s : Tuple} → Inside (c .N) n s → step c n f s ≤ c .D ^ n * bound
 unfolding step
 step-le c sound n f bound h {s} i =
@@ -96,7 +97,8 @@ power-more : (d n l : ℕ) → d ^ (n * l) * d ^ n ≡ d ^ (n * suc l)
 power-more d n l = sym (pow-add d (n * l) n) ∙ ap (λ (x : ℕ). d ^ x) (sym (mul-suc n l))
 
 -- after `left` turns: the third layer counts the runs taken with so many steps left
-pub record Untiling (rows : List (List ℕ)) (N n T d k1 k2 : ℕ) (before : List ℕ) (all left : ℕ) (after : List ℕ) : Type 0 where
+pub record Untiling (rows : List (List ℕ)) (N n T d k1 k2 : ℕ) (before : List ℕ) (all left : ℕ)
+    (after : List ℕ) : Type 0 where
   pub upTo : left ≤ k2
   pub power : all ≡ d ^ (n * left)
   pub long : length after ≡ length before
@@ -132,14 +134,16 @@ module _ {rows : List (List ℕ)} {N n T d k1 k2 : ℕ} {before : List ℕ} (fit
       none : d ^ (n * 0) ≡ 1
       none = ap (λ (x : ℕ). d ^ x) (mul-zero n) ∙ pow-zero d
 
-  module _ {all left : ℕ} {after : List ℕ} (h : Untiling rows N n T d k1 k2 before all left after) (less : left < k2) where
+  module _ {all left : ℕ} {after : List ℕ} (h : Untiling rows N n T d k1 k2 before all left after)
+      (less : left < k2) where
     -- the next denominator is at most 2^62
     pub next-power : all * d ^ n ≡ d ^ (n * suc left)
     next-power = ap (λ (x : ℕ). x * d ^ n) (h .power) ∙ power-more d n left
 
     pub power-fits : d ^ (n * suc left) ≤ 2 ^ 62
     power-fits =
-        le-trans (pow-le-pow-right (fits .weighed) {i = n * suc left} {j = n * k2} (mul-le-mul-left n less)) (fits .fits)
+        le-trans (pow-le-pow-right (fits .weighed) {i = n * suc left} {j = n * k2} (mul-le-mul-left n less))
+        (fits .fits)
 
     -- what the next turn asks
     pub turn-fits : TurnFits rows N n T after
@@ -220,7 +224,8 @@ module _ {rows : List (List ℕ)} {N n T d k1 k2 : ℕ} {before : List ℕ} (fit
             (choice-le (leb k1 (k2 - (left + 1))) more (getD after k 0) (getD after (T + k) 0)
             (step c n f (tupleOf N n k)) (d ^ (n * (left + 1))) (le-of-eq power) (omega arith))
 
-  pub untiling-all : {all left : ℕ} {after now : List ℕ} → Untiling rows N n T d k1 k2 before all left after → k2 ≤ left →
+  pub untiling-all : {all left : ℕ} {after now : List ℕ} → Untiling rows N n T d k1 k2 before all left after →
+      k2 ≤ left →
       WrittenAt 0 T (λ k. getD after (T + T + k) 0) after now → UntilTaken rows N n T d k1 k2 before now
   untiling-all {left = left} {after = after} {now = now} h done w = record {
     each = λ c held e first second one two. record {

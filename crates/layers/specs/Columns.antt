@@ -1,5 +1,5 @@
--- One variable's step at list level: the numbers of the tuples that differ in that variable alone are a column, N places
--- `stride` apart.
+-- One variable's step at list level: the numbers of the tuples that differ in that variable alone are a column, N
+-- places `stride` apart.
 use Prim.Native.Nat.{ℕ, _+_, _*_, _/_, _%_, _^_, _≤_, _<_}
 use mathlib.Core.List.{List, []}
 use mathlib.Core.Path.{_≡_}

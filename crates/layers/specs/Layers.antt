@@ -1,9 +1,10 @@
 -- A layer: T numbers at the front of the lent work area, one for each tuple of n states, in the order of the tuples'
 -- numbers. The contracts of this crate say what a layer holds after a call, and that what lies past it has stayed.
-use Prim.Native.Nat.{ℕ, _/_, _%_, _^_, _<_}
+use Prim.Native.Nat.{ℕ, _+_, _/_, _%_, _^_, _<_}
 use mathlib.Core.Bool.{Bool, cond}
 use mathlib.Core.List.{List}
 use mathlib.Core.Path.{_≡_}
+use lib.Dec.{eqb}
 use lib.ListN.{length, getD, drop}
 use Rattle.meaning.specs.Chain.{Tuple}
 use Rattle.meaning.proofs.Numbers.{tupleOf}
@@ -25,6 +26,14 @@ pub record Kept (count : ℕ) (before after : List ℕ) : Type 0 where
 pub record Written (count : ℕ) (f : ℕ → ℕ) (before after : List ℕ) : Type 0 where
   pub each : (k : ℕ) → k < count → getD after k 0 ≡ f k
   pub kept : Kept count before after
+
+-- not: 1 where the layer has 0, and 0 elsewhere
+abbrev pub negatedAt : List ℕ → ℕ → ℕ
+negatedAt w k = cond (eqb (getD w k 0) 0) 1 0
+
+-- and: the front layer's number, or 0 where the second layer has 0
+abbrev pub bothAt : (T : ℕ) → List ℕ → ℕ → ℕ
+bothAt T w k = cond (eqb (getD w (T + k) 0) 0) 0 (getD w k 0)
 
 -- bit l of the mask of state s
 abbrev pub bitAt : List ℕ → (l s : ℕ) → ℕ

@@ -23,6 +23,10 @@ pub record WrittenAt (base count : ℕ) (f : ℕ → ℕ) (before after : List �
 abbrev pub choice : (opened : Bool) → (all first second number : ℕ) → ℕ
 choice opened all first second number = cond (opened && not (eqb second 0)) all (cond (eqb first 0) 0 number)
 
+-- the choice at place k, from the numbers of the three layers
+abbrev pub choiceAt : (opened : Bool) → (all T : ℕ) → List ℕ → ℕ → ℕ
+choiceAt opened all T w k = choice opened all (getD w k 0) (getD w (T + k) 0) (getD w (T + T + k) 0)
+
 -- there are three layers, and the third can be stepped
 pub record TurnFits (rows : List (List ℕ)) (N n T : ℕ) (w : List ℕ) : Type 0 where
   pub room : T + T + T ≤ length w

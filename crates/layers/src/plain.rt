@@ -3,8 +3,8 @@ ghost use mathlib.Core.Path.{_≡_};
 ghost use mathlib.Core.Bool.{cond};
 ghost use Prim.Native.Nat.{ℕ, _+_, _/_, _%_, _^_, _≤_, _<_};
 ghost use lib.Dec.{eqb};
-ghost use lib.ListN.{length, getD};
-ghost use Rattle.layers.specs.Layers.{Written, bitAt};
+ghost use lib.ListN.{length};
+ghost use Rattle.layers.specs.Layers.{Written, negatedAt, bothAt, bitAt};
 
 // Sets the first numbers to 0.
 pub fn zero(count: usize, work: &mut [u64])
@@ -69,7 +69,7 @@ fn other(x: u64) -> u64
 // Not: 1 where the front layer has 0, and 0 elsewhere.
 pub fn negated(tuples: usize, work: &mut [u64])
     requires { ⌜ tuples ≤ length (now work) ⌝ }
-    ensures { λ r. ⌜ Written tuples (λ k. cond (eqb (getD (now (work .entry)) k 0) 0) 1 0) (now (work .entry)) (now (work .exit)) ⌝ }
+    ensures { λ r. ⌜ Written tuples (negatedAt (now (work .entry))) (now (work .entry)) (now (work .exit)) ⌝ }
 {
     let mut k: usize = 0;
     while k < tuples {
@@ -88,7 +88,7 @@ fn where_met(x: u64, y: u64) -> u64
 // And: 0 where the second layer has 0, and the front layer's number elsewhere.
 pub fn both(tuples: usize, work: &mut [u64])
     requires { ⌜ tuples + tuples ≤ length (now work) ⌝ }
-    ensures { λ r. ⌜ Written tuples (λ k. cond (eqb (getD (now (work .entry)) (tuples + k) 0) 0) 0 (getD (now (work .entry)) k 0)) (now (work .entry)) (now (work .exit)) ⌝ }
+    ensures { λ r. ⌜ Written tuples (bothAt tuples (now (work .entry))) (now (work .entry)) (now (work .exit)) ⌝ }
 {
     let mut k: usize = 0;
     while k < tuples {

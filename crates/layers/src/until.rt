@@ -3,7 +3,7 @@ ghost use mathlib.Core.Path.{_≡_};
 ghost use mathlib.Core.Logic.{_⊎_};
 ghost use Prim.Native.Nat.{ℕ, _+_, _*_, _^_, _≤_, _<_};
 ghost use lib.ListN.{length, getD};
-ghost use Rattle.layers.specs.Untils.{WrittenAt, choice, TurnFits, Turned, UntilFits, UntilTaken};
+ghost use Rattle.layers.specs.Untils.{WrittenAt, choice, choiceAt, TurnFits, Turned, UntilFits, UntilTaken};
 use crate::step;
 
 // x times d, as often as is said.
@@ -37,7 +37,7 @@ fn chosen(opened: bool, all: u64, first: u64, second: u64, number: u64) -> u64
 // The choice at all tuples, in the third layer.
 fn choose(opened: bool, all: u64, tuples: usize, work: &mut [u64])
     requires { ⌜ tuples + tuples + tuples ≤ length (now work) ⌝ }
-    ensures { λ r. ⌜ WrittenAt (tuples + tuples) tuples (λ k. choice opened all (getD (now (work .entry)) k 0) (getD (now (work .entry)) (tuples + k) 0) (getD (now (work .entry)) (tuples + tuples + k) 0)) (now (work .entry)) (now (work .exit)) ⌝ }
+    ensures { λ r. ⌜ WrittenAt (tuples + tuples) tuples (choiceAt opened all tuples (now (work .entry))) (now (work .entry)) (now (work .exit)) ⌝ }
 {
     let mut k: usize = 0;
     while k < tuples {

@@ -9,10 +9,12 @@ use Rattle.fractions.proofs.signs.times.Statement.{statement}
 use Rattle.fractions.proofs.signs.times.Tie as tie
 
 mul-result : tie.Need-mul-result
-mul-result c = op-fits _*ℤ_ (toZ-ofZ (c .fits .a)) (toZ-ofZ (c .fits .b)) (small-fits _ (le-trans (le-of-eq (abs-mul (c .args .a) (c .args .b))) (c .pre)))
+mul-result c = op-fits _*ℤ_ (toZ-ofZ (c .fits .a)) (toZ-ofZ (c .fits .b))
+    (small-fits _ (le-trans (le-of-eq (abs-mul (c .args .a) (c .args .b))) (c .pre)))
 
 returns : tie.Need-returns
-returns c = op-reads _*ℤ_ (toZ-ofZ (c .fits .a)) (toZ-ofZ (c .fits .b)) (small-fits _ (le-trans (le-of-eq (abs-mul (c .args .a) (c .args .b))) (c .pre)))
+returns c = op-reads _*ℤ_ (toZ-ofZ (c .fits .a)) (toZ-ofZ (c .fits .b))
+    (small-fits _ (le-trans (le-of-eq (abs-mul (c .args .a) (c .args .b))) (c .pre)))
 
 pub times-spec : {M : Type 1} → statement M
 times-spec = tie.close (tie.spec mul-result returns)

@@ -5,13 +5,13 @@ use mathlib.Core.Bool.{cond}
 use mathlib.Core.Path.{ap₂, _∙_}
 use native.Mathlib.Omega.{arith}
 use lib.Dec.{eqb}
-use lib.ListN.{getD}
+use Rattle.layers.specs.Layers.{bothAt}
 use Rattle.layers.proofs.Written.{Writing, writing-none, writing-next, writing-all}
 use Rattle.layers.proofs.plain.both.Statement.{statement}
 use Rattle.layers.proofs.plain.both.Tie as tie
 
 abbrev Inv-loop : tie.InvT-loop
-Inv-loop tuples work₀ k₀ work k = Writing 0 tuples (λ k. cond (eqb (getD work₀ (tuples + k) 0) 0) 0 (getD work₀ k 0)) work₀ k work
+Inv-loop tuples work₀ k₀ work k = Writing 0 tuples (bothAt tuples work₀) work₀ k work
 
 abbrev μ-loop : tie.MeasureT-loop
 μ-loop tuples work₀ k₀ work k = tuples - k

@@ -9,7 +9,8 @@ use Rattle.layers.proofs.plain.labelled.Statement.{statement}
 use Rattle.layers.proofs.plain.labelled.Tie as tie
 
 abbrev Inv-loop : tie.InvT-loop
-Inv-loop masks l states stride tuples work₀ k₀ work k = Writing 0 tuples (λ k. bitAt masks l (k / stride % states)) work₀ k work
+Inv-loop masks l states stride tuples work₀ k₀ work k =
+    Writing 0 tuples (λ k. bitAt masks l (k / stride % states)) work₀ k work
 
 abbrev μ-loop : tie.MeasureT-loop
 μ-loop masks l states stride tuples work₀ k₀ work k = tuples - k

@@ -5,13 +5,13 @@ use mathlib.Core.Bool.{cond}
 use mathlib.Core.Path.{ap, _∙_}
 use native.Mathlib.Omega.{arith}
 use lib.Dec.{eqb}
-use lib.ListN.{getD}
+use Rattle.layers.specs.Layers.{negatedAt}
 use Rattle.layers.proofs.Written.{Writing, writing-none, writing-next, writing-all}
 use Rattle.layers.proofs.plain.negated.Statement.{statement}
 use Rattle.layers.proofs.plain.negated.Tie as tie
 
 abbrev Inv-loop : tie.InvT-loop
-Inv-loop tuples work₀ k₀ work k = Writing 0 tuples (λ k. cond (eqb (getD work₀ k 0) 0) 1 0) work₀ k work
+Inv-loop tuples work₀ k₀ work k = Writing 0 tuples (negatedAt work₀) work₀ k work
 
 abbrev μ-loop : tie.MeasureT-loop
 μ-loop tuples work₀ k₀ work k = tuples - k
@@ -44,7 +44,8 @@ loop-again : tie.Need-loop-again Inv-loop μ-loop
 loop-again c =
     let h = c .before .before .before .loop .inv in
     let k = c .before .before .before .loop .k in
-    writing-next h (omega arith) (omega arith) (c .other .ensures ∙ ap (λ (x : ℕ). cond (eqb x 0) 1 0) (h .high k (omega arith)))
+    writing-next h (omega arith) (omega arith)
+    (c .other .ensures ∙ ap (λ (x : ℕ). cond (eqb x 0) 1 0) (h .high k (omega arith)))
 
 same-length : tie.Need-same-length Inv-loop μ-loop
 same-length c = search needs

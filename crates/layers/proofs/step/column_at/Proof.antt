@@ -9,7 +9,8 @@ use Rattle.layers.proofs.step.column_at.Statement.{statement}
 use Rattle.layers.proofs.step.column_at.Tie as tie
 
 abbrev Inv-loop : tie.InvT-loop
-Inv-loop states stride at layer column₀ s₀ column s = (s ≤ states) × Filled 32 (λ k. getD layer (at + k * stride) 0) 0 s column
+Inv-loop states stride at layer column₀ s₀ column s =
+    (s ≤ states) × Filled 32 (λ k. getD layer (at + k * stride) 0) 0 s column
 
 abbrev μ-loop : tie.MeasureT-loop
 μ-loop states stride at layer column₀ s₀ column s = states - s

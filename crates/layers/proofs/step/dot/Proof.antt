@@ -34,19 +34,28 @@ mul-total c = search needs
 element-copy-out-total : tie.Need-element-copy-out-total Inv-loop μ-loop
 element-copy-out-total c = search needs
 
+-- the product of the weight and the column's number at place t
+abbrev product : (c : tie.After-total Inv-loop μ-loop) → ℕ → ℕ
+product c t =
+    let args = c .before .before .before .before .before .args in
+    getD (args .row .now) t 0 * getD (args .column .now) t 0
+
+-- the next term is such a product, and the sum with it is at most the whole
+next-term : (c : tie.After-total Inv-loop μ-loop) →
+    let at-loop = c .before .before .before .before in
+    (c .before .wide .result * getD (at-loop .before .args .column .now) (at-loop .loop .t) 0 ≡ product c (at-loop .loop .t)) ×
+    (sum (at-loop .loop .t) (product c) + product c (at-loop .loop .t) ≤ sum (at-loop .before .args .states) (product c))
+next-term c =
+    let at-loop = c .before .before .before .before in (
+      ap (λ (x : ℕ). x * getD (at-loop .before .args .column .now) (at-loop .loop .t) 0) (c .before .wide .ensures .0),
+      part-le (at-loop .before .args .states) (product c) (at-loop .loop .t) (omega arith),
+    )
+
 mul-total-2 : tie.Need-mul-total-2 Inv-loop μ-loop
-mul-total-2 c =
-    let start = c .before .before .before .before .before in
-    let part = part-le (start .args .states) (λ t. getD (start .args .row .now) t 0 * getD (start .args .column .now) t 0) (c .before .before .before .before .loop .t) (omega arith) in
-    let weight = ap (λ (x : ℕ). x * getD (start .args .column .now) (c .before .before .before .before .loop .t) 0) (c .before .wide .ensures .0) in
-    omega arith
+mul-total-2 c = omega (arith, next-term c)
 
 add-total : tie.Need-add-total Inv-loop μ-loop
-add-total c =
-    let start = c .before .before .before .before .before in
-    let part = part-le (start .args .states) (λ t. getD (start .args .row .now) t 0 * getD (start .args .column .now) t 0) (c .before .before .before .before .loop .t) (omega arith) in
-    let weight = ap (λ (x : ℕ). x * getD (start .args .column .now) (c .before .before .before .before .loop .t) 0) (c .before .wide .ensures .0) in
-    omega arith
+add-total c = omega (arith, next-term c)
 
 add-t : tie.Need-add-t Inv-loop μ-loop
 add-t c = search needs
@@ -55,14 +64,11 @@ loop-less : tie.Need-loop-less Inv-loop μ-loop
 loop-less c = search needs
 
 loop-again : tie.Need-loop-again Inv-loop μ-loop
-loop-again c =
-    let start = c .before .before .before .before .before in
-    let part = part-le (start .args .states) (λ t. getD (start .args .row .now) t 0 * getD (start .args .column .now) t 0) (c .before .before .before .before .loop .t) (omega arith) in
-    let weight = ap (λ (x : ℕ). x * getD (start .args .column .now) (c .before .before .before .before .loop .t) 0) (c .before .wide .ensures .0) in (
-      omega arith,
-      ap₂ (λ (a b : ℕ). a + b) (c .before .before .before .before .loop .inv .1) weight ∙
-          sym (sum-more (c .before .before .before .before .loop .t) (λ k. getD (start .args .row .now) k 0 * getD (start .args .column .now) k 0)),
-    )
+loop-again c = (
+  omega arith,
+  ap₂ (λ (a b : ℕ). a + b) (c .before .before .before .before .loop .inv .1) (next-term c .0) ∙
+      sym (sum-more (c .before .before .before .before .loop .t) (product c)),
+)
 
 returns : tie.Need-returns Inv-loop μ-loop
 returns c =

@@ -7,7 +7,8 @@ use Rattle.layers.proofs.step.joint_step.Statement.{statement}
 use Rattle.layers.proofs.step.joint_step.Tie as tie
 
 abbrev Inv-loop : tie.InvT-loop
-Inv-loop rows states variables tuples work₀ stride₀ m₀ work stride m = Stepping rows states variables tuples work₀ m stride work
+Inv-loop rows states variables tuples work₀ stride₀ m₀ work stride m =
+    Stepping rows states variables tuples work₀ m stride work
 
 abbrev μ-loop : tie.MeasureT-loop
 μ-loop rows states variables tuples work₀ stride₀ m₀ work stride m = variables - m

@@ -3,7 +3,8 @@ use borrow.Author.Needs.{needs}
 use Prim.Native.Nat.{_-_, _/_}
 use native.Mathlib.Nat.{div-le-self}
 use native.Mathlib.Omega.{arith}
-use Rattle.layers.proofs.Columns.{LayerStepping, layer-none, layer-next, layer-all, column-fits, columns-are, column-small}
+use Rattle.layers.proofs.Columns.{LayerStepping, layer-none, layer-next, layer-all}
+use Rattle.layers.proofs.Columns.{column-fits, columns-are, column-small}
 use Rattle.layers.proofs.step.step_variable.Statement.{statement}
 use Rattle.layers.proofs.step.step_variable.Tie as tie
 

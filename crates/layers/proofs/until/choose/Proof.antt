@@ -3,15 +3,15 @@ use borrow.Author.Needs.{needs}
 use Prim.Native.Nat.{ℕ, _+_, _-_}
 use mathlib.Core.Path.{_∙_}
 use native.Mathlib.Omega.{arith}
-use lib.ListN.{getD}
-use Rattle.layers.specs.Untils.{choice}
+use Rattle.layers.specs.Untils.{choiceAt}
 use Rattle.layers.proofs.Untils.{choice-same}
 use Rattle.layers.proofs.Written.{Writing, writing-none, writing-next, writing-at-all}
 use Rattle.layers.proofs.until.choose.Statement.{statement}
 use Rattle.layers.proofs.until.choose.Tie as tie
 
 abbrev Inv-loop : tie.InvT-loop
-Inv-loop opened all tuples work₀ k₀ work k = Writing (tuples + tuples) tuples (λ k. choice opened all (getD work₀ k 0) (getD work₀ (tuples + k) 0) (getD work₀ (tuples + tuples + k) 0)) work₀ k work
+Inv-loop opened all tuples work₀ k₀ work k =
+    Writing (tuples + tuples) tuples (choiceAt opened all tuples work₀) work₀ k work
 
 abbrev μ-loop : tie.MeasureT-loop
 μ-loop opened all tuples work₀ k₀ work k = tuples - k

@@ -25,7 +25,8 @@ mul-product c =
     let i = c .before .loop .i in
     let e = ap (λ (y : ℕ). y * args .d) (c .before .loop .inv .1) in
     let p = ap (λ (y : ℕ). args .x * y) (pow-suc (args .d) i) in
-    let q = mul-le-mul-left (args .x) (pow-le-pow-right (c .before .before .pre .0) {i = suc i} {j = args .times} (omega arith)) in
+    let more = pow-le-pow-right (c .before .before .pre .0) {i = suc i} {j = args .times} (omega arith) in
+    let q = mul-le-mul-left (args .x) more in
     omega arith
 
 add-i : tie.Need-add-i Inv-loop μ-loop

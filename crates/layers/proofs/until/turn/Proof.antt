@@ -55,7 +55,8 @@ returns c =
     let back = put-back (T + T) w tail (omega (arith, start .pre .room)) (stepped .kept .long) in
     let args = start .args in
     turned-from (start .pre .step .sizes .whole)
-    (subst (λ (l : List ℕ). Stepped (args .rows .now) (args .states) (args .variables) T l tail) (lent-tail (T + T) w) stepped)
+    (subst (λ (l : List ℕ). Stepped (args .rows .now) (args .states) (args .variables) T l tail) (lent-tail (T + T) w)
+    stepped)
     back (c .before .before .choose .ensures)
 
 pub turn-spec : {M : Type 1} → statement M

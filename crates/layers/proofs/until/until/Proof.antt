@@ -4,13 +4,15 @@ use Prim.Native.Nat.{ℕ, _+_, _*_, _-_, _^_, _≤_}
 use mathlib.Core.Logic.{inl, inr}
 use mathlib.Core.Path.{_≡_, sym, subst, _∙_}
 use native.Mathlib.Omega.{arith}
-use Rattle.layers.proofs.Untils.{Untiling, untiling-none, untiling-next, untiling-all, next-power, power-fits, turn-fits}
+use Rattle.layers.proofs.Untils.{Untiling, untiling-none, untiling-next, untiling-all}
+use Rattle.layers.proofs.Untils.{next-power, power-fits, turn-fits}
 use Rattle.layers.proofs.Untils.{copied-fits, copied-same, copied-taken}
 use Rattle.layers.proofs.until.until.Statement.{statement}
 use Rattle.layers.proofs.until.until.Tie as tie
 
 abbrev Inv-loop : tie.InvT-loop
-Inv-loop rows states variables d k1 k2 tuples work₀ all₀ left₀ work all left = Untiling rows states variables tuples d k1 k2 work₀ all left work
+Inv-loop rows states variables d k1 k2 tuples work₀ all₀ left₀ work all left =
+    Untiling rows states variables tuples d k1 k2 work₀ all left work
 
 abbrev μ-loop : tie.MeasureT-loop
 μ-loop rows states variables d k1 k2 tuples work₀ all₀ left₀ work all left = k2 - left
@@ -61,7 +63,8 @@ loop-again c =
     let start = at-loop .before .before .before .before .before .before in
     let copied = at-loop .before .before .before .copy .ensures in
     let fits = copied-fits (start .pre) copied in
-    untiling-next fits (at-loop .loop .inv) (omega arith) (c .before .before .before .before .scaled .ensures) (c .before .before .turn .ensures)
+    untiling-next fits (at-loop .loop .inv) (omega arith) (c .before .before .before .before .scaled .ensures)
+    (c .before .before .turn .ensures)
 
 add-copy-2 : tie.Need-add-copy-2 Inv-loop μ-loop
 add-copy-2 c =
