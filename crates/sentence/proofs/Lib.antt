@@ -13,3 +13,5 @@ pub mod Sizes
 pub mod Puts
 pub mod WriteAll
 pub mod RoundTrips
+pub mod Nesting
+pub mod Numbered

@@ -308,10 +308,27 @@ fn window(text: &[u8], letters: usize, p: Progress) -> Progress
     passed(p, Node::Until { from, to }, read.next, bad)
 }
 
-// A state formula, from the next byte on.
-fn state_formula(text: &[u8], letters: usize, p: Progress) -> Progress
+// The state past an operator of one byte.
+fn operator(p: Progress, node: Node) -> Progress
+    requires { ⌜ (p .at + 1 < 2 ^ 64) × (p .kept .count + 1 < 2 ^ 64) × (length (p .kept .nodes) ≡ 64) ⌝ }
+    ensures { λ r. ⌜ r ≡ passedTo p node (p .at + 1) false ⌝ }
+{
+    let at = p.at;
+    passed(p, node, at + 1, false)
+}
+
+// The state past a comparison.
+fn compare(p: Progress, relation: Relation) -> Progress
+    requires { ⌜ (p .at + 1 < 2 ^ 64) × (p .kept .count + 1 < 2 ^ 64) × (length (p .kept .nodes) ≡ 64) ⌝ }
+    ensures { λ r. ⌜ r ≡ passedTo p (Node.Compare relation) (p .at + 1) false ⌝ }
+{
+    operator(p, Node::Compare(relation))
+}
+
+// A state formula, from the next byte on, in a sentence of n letters.
+fn state_formula(text: &[u8], n: usize, p: Progress) -> Progress
     requires { ⌜ Inside (now text) p ⌝ }
-    ensures { λ r. ⌜ Reads (Kind.State ∷ []) (now (text .entry)) letters p r ⌝ }
+    ensures { λ r. ⌜ Reads (Kind.State ∷ []) (now (text .entry)) n p r ⌝ }
 {
     let ok = p.ok;
     let at = p.at;
@@ -320,61 +337,23 @@ fn state_formula(text: &[u8], letters: usize, p: Progress) -> Progress
     }
     let b = byte_at(text, at);
     match b {
-        b'T' => passed(p, Node::True, at + 1, false),
-        b'a'..=b'p' => label(text, letters, p),
-        b'!' => state_formula(text, letters, passed(p, Node::Not, at + 1, false)),
-        b'&' => {
-            let one = state_formula(text, letters, passed(p, Node::And, at + 1, false));
-            state_formula(text, letters, one)
-        }
-        b'<' => {
-            let one = expression(
-                text,
-                letters,
-                passed(p, Node::Compare(Relation::Less), at + 1, false),
-            );
-            expression(text, letters, one)
-        }
-        b'L' => {
-            let one = expression(
-                text,
-                letters,
-                passed(p, Node::Compare(Relation::AtMost), at + 1, false),
-            );
-            expression(text, letters, one)
-        }
-        b'=' => {
-            let one = expression(
-                text,
-                letters,
-                passed(p, Node::Compare(Relation::Equal), at + 1, false),
-            );
-            expression(text, letters, one)
-        }
-        b'G' => {
-            let one = expression(
-                text,
-                letters,
-                passed(p, Node::Compare(Relation::AtLeast), at + 1, false),
-            );
-            expression(text, letters, one)
-        }
-        b'>' => {
-            let one = expression(
-                text,
-                letters,
-                passed(p, Node::Compare(Relation::Greater), at + 1, false),
-            );
-            expression(text, letters, one)
-        }
+        b'T' => operator(p, Node::True),
+        b'a'..=b'p' => label(text, n, p),
+        b'!' => state_formula(text, n, operator(p, Node::Not)),
+        b'&' => state_formula(text, n, state_formula(text, n, operator(p, Node::And))),
+        b'<' => expression(text, n, expression(text, n, compare(p, Relation::Less))),
+        b'L' => expression(text, n, expression(text, n, compare(p, Relation::AtMost))),
+        b'=' => expression(text, n, expression(text, n, compare(p, Relation::Equal))),
+        b'G' => expression(text, n, expression(text, n, compare(p, Relation::AtLeast))),
+        b'>' => expression(text, n, expression(text, n, compare(p, Relation::Greater))),
         _ => stopped(p, at),
     }
 }
 
-// An expression, from the next byte on.
-fn expression(text: &[u8], letters: usize, p: Progress) -> Progress
+// An expression, from the next byte on, in a sentence of n letters.
+fn expression(text: &[u8], n: usize, p: Progress) -> Progress
     requires { ⌜ Inside (now text) p ⌝ }
-    ensures { λ r. ⌜ Reads (Kind.Expression ∷ []) (now (text .entry)) letters p r ⌝ }
+    ensures { λ r. ⌜ Reads (Kind.Expression ∷ []) (now (text .entry)) n p r ⌝ }
 {
     let ok = p.ok;
     let at = p.at;
@@ -383,28 +362,19 @@ fn expression(text: &[u8], letters: usize, p: Progress) -> Progress
     }
     let b = byte_at(text, at);
     match b {
-        b'P' => path(text, letters, passed(p, Node::Probability, at + 1, false)),
-        b'#' => constant(text, letters, p),
-        b'+' => {
-            let one = expression(text, letters, passed(p, Node::Sum, at + 1, false));
-            expression(text, letters, one)
-        }
-        b'-' => {
-            let one = expression(text, letters, passed(p, Node::Difference, at + 1, false));
-            expression(text, letters, one)
-        }
-        b'*' => {
-            let one = expression(text, letters, passed(p, Node::Product, at + 1, false));
-            expression(text, letters, one)
-        }
+        b'P' => path(text, n, operator(p, Node::Probability)),
+        b'#' => constant(text, n, p),
+        b'+' => expression(text, n, expression(text, n, operator(p, Node::Sum))),
+        b'-' => expression(text, n, expression(text, n, operator(p, Node::Difference))),
+        b'*' => expression(text, n, expression(text, n, operator(p, Node::Product))),
         _ => stopped(p, at),
     }
 }
 
-// A path, from the next byte on.
-fn path(text: &[u8], letters: usize, p: Progress) -> Progress
+// A path, from the next byte on, in a sentence of n letters.
+fn path(text: &[u8], n: usize, p: Progress) -> Progress
     requires { ⌜ Inside (now text) p ⌝ }
-    ensures { λ r. ⌜ Reads (Kind.Path ∷ []) (now (text .entry)) letters p r ⌝ }
+    ensures { λ r. ⌜ Reads (Kind.Path ∷ []) (now (text .entry)) n p r ⌝ }
 {
     let ok = p.ok;
     let at = p.at;
@@ -413,11 +383,8 @@ fn path(text: &[u8], letters: usize, p: Progress) -> Progress
     }
     let b = byte_at(text, at);
     match b {
-        b'X' => state_formula(text, letters, passed(p, Node::Next, at + 1, false)),
-        b'U' => {
-            let one = state_formula(text, letters, window(text, letters, p));
-            state_formula(text, letters, one)
-        }
+        b'X' => state_formula(text, n, operator(p, Node::Next)),
+        b'U' => state_formula(text, n, state_formula(text, n, window(text, n, p))),
         _ => stopped(p, at),
     }
 }
@@ -549,12 +516,12 @@ fn finished(letters: usize, exists: [bool; 4], kept: Kept) -> SentenceRead
     ensures { λ r. ⌜ r ≡ finishedAs letters exists kept ⌝ }
 {
     let fault = kept.fault;
-    let count = kept.count;
+    let read = kept.count;
     let nodes = kept.nodes;
     if fault {
         return refused(7);
     }
-    if 64 < count {
+    if 64 < read {
         return refused(8);
     }
     SentenceRead {
@@ -562,7 +529,7 @@ fn finished(letters: usize, exists: [bool; 4], kept: Kept) -> SentenceRead
         sentence: Sentence {
             letters,
             exists,
-            count,
+            count: read,
             nodes,
         },
     }
