@@ -104,6 +104,51 @@ pub struct PrefixRead {
     pub exists: [bool; 4],
 }
 
+// What write sentence answers: how many bytes it wrote, or the refusal's number.
+pub enum Written {
+    Wrote(usize),
+    Refused(u8),
+}
+
+// What a node wants after it: nothing, one thing, or two of one kind.
+pub enum Wants {
+    Nothing,
+    One(Kind),
+    Two(Kind),
+}
+
+// A place in a node list, and whether the list nests so far.
+pub struct Place {
+    pub ok: bool,
+    pub at: usize,
+}
+
+// The length of a list's text, and whether a node of it is out of its range.
+pub struct Survey {
+    pub size: usize,
+    pub fault: bool,
+}
+
+// A node is out of its range, in a sentence of so many letters.
+fn is_fault(letters: usize, node: Node) -> bool
+    ensures { λ r. ⌜ r ≡ outOfRange letters node ⌝ }
+{
+    match node {
+        Node::True => false,
+        Node::Label { label: _, variable } => letters < variable as usize,
+        Node::Not => false,
+        Node::And => false,
+        Node::Compare(_) => false,
+        Node::Probability => false,
+        Node::Constant { top, bottom } => (65535 < top) | (bottom == 0) | (65535 < bottom),
+        Node::Sum => false,
+        Node::Difference => false,
+        Node::Product => false,
+        Node::Next => false,
+        Node::Until { from, to } => (to < from) | (60 < to),
+    }
+}
+
 // The byte at a place, and 0, which no text of the grammar has, past the end.
 fn byte_at(text: &[u8], at: usize) -> u8
     ensures { λ r. ⌜ r ≡ getD (now (text .entry)) at 0 ⌝ }
@@ -267,8 +312,8 @@ fn label(text: &[u8], letters: usize, p: Progress) -> Progress
         b'1'..=b'4' => {
             let label = letter - b'a';
             let variable = digit - b'0';
-            let bad = letters < variable as usize;
-            passed(p, Node::Label { label, variable }, at + 2, bad)
+            let node = Node::Label { label, variable };
+            passed(p, node, at + 2, is_fault(letters, node))
         }
         _ => stopped(p, at + 1),
     }
@@ -287,8 +332,8 @@ fn constant(text: &[u8], letters: usize, p: Progress) -> Progress
     if !ok {
         return stopped(p, at + 1);
     }
-    let bad = (65535 < top) | (bottom == 0) | (65535 < bottom);
-    passed(p, Node::Constant { top, bottom }, read.next, bad)
+    let node = Node::Constant { top, bottom };
+    passed(p, node, read.next, is_fault(letters, node))
 }
 
 // An until and its window: the next byte is its `U`.
@@ -304,8 +349,8 @@ fn window(text: &[u8], letters: usize, p: Progress) -> Progress
     if !ok {
         return stopped(p, at + 1);
     }
-    let bad = (to < from) | (60 < to);
-    passed(p, Node::Until { from, to }, read.next, bad)
+    let node = Node::Until { from, to };
+    passed(p, node, read.next, is_fault(letters, node))
 }
 
 // The state past an operator of one byte.
@@ -535,31 +580,6 @@ fn finished(letters: usize, exists: [bool; 4], kept: Kept) -> SentenceRead
     }
 }
 
-// What write sentence answers: how many bytes it wrote, or the refusal's number.
-pub enum Written {
-    Wrote(usize),
-    Refused(u8),
-}
-
-// What a node wants after it: nothing, one thing, or two of one kind.
-pub enum Wants {
-    Nothing,
-    One(Kind),
-    Two(Kind),
-}
-
-// A place in a node list, and whether the list nests so far.
-pub struct Place {
-    pub ok: bool,
-    pub at: usize,
-}
-
-// The length of a list's text, and whether a node of it is out of its range.
-pub struct Survey {
-    pub size: usize,
-    pub fault: bool,
-}
-
 // The kind of a node.
 fn kind_of(node: Node) -> Kind
     ensures { λ r. ⌜ r ≡ kindOf node ⌝ }
@@ -646,26 +666,6 @@ fn has_text(node: Node) -> bool
         Node::Product => true,
         Node::Next => true,
         Node::Until { from, to } => (from < 100000) & (to < 100000),
-    }
-}
-
-// A node is out of its range, in a sentence of so many letters.
-fn is_fault(letters: usize, node: Node) -> bool
-    ensures { λ r. ⌜ r ≡ outOfRange letters node ⌝ }
-{
-    match node {
-        Node::True => false,
-        Node::Label { label: _, variable } => letters < variable as usize,
-        Node::Not => false,
-        Node::And => false,
-        Node::Compare(_) => false,
-        Node::Probability => false,
-        Node::Constant { top, bottom } => (65535 < top) | (bottom == 0) | (65535 < bottom),
-        Node::Sum => false,
-        Node::Difference => false,
-        Node::Product => false,
-        Node::Next => false,
-        Node::Until { from, to } => (to < from) | (60 < to),
     }
 }
 
