@@ -14,7 +14,7 @@ use Rattle.sentence.specs.Reading.{NodeReads}
 use Rattle.sentence.specs.declared.Kind.the-variants.{State, Expression, Path}
 use Rattle.sentence.specs.declared.Relation.the-variants.{Less, AtMost, Equal, AtLeast, Greater}
 use Rattle.sentence.specs.declared.Node.the-variants.{True, Not, And, Compare, Probability, Sum, Difference, Product, Next}
-use Rattle.sentence.proofs.Results.{reads-then, reads-node, reads-leaf}
+use Rattle.sentence.proofs.Results.{reads-then, reads-node, reads-leaf, first-call, second-call}
 use Rattle.sentence.proofs.NodeAt.{operator-passed, stays, no-reading, no-letter}
 use Prim.Native.Nat.{ℕ, _-_, _≤_, _<_}
 use borrow.Fn.Kinds.{In}
@@ -185,78 +185,55 @@ expression-operator-requires : (t : ℕ) → expression-lts.Need-operator-requir
 expression-operator-requires t c κs = search needs
 
 expression-path-requires : (t : ℕ) → expression-lts.Need-path-requires (expression-claims t) (expression-at t) expression.Post
-expression-path-requires t c κs =
-    let r = expression-probability t c in
-    (omega (arith, r .forward, r .inside .within, c .before .before .before .before .before .pre .0), r .inside)
+expression-path-requires t c κs = first-call (expression-probability t c) (c .before .before .before .before .before .pre .0)
 
 expression-constant-requires : (t : ℕ) → expression-lts.Need-constant-requires (expression-claims t) (expression-at t) expression.Post
-expression-constant-requires t c κs =
-    (c .before .before .before .before .pre .1, sym (c .before .byte-at .ensures) ∙ c .match .keys2)
+expression-constant-requires t c κs = (c .before .before .before .before .pre .1, sym (c .before .byte-at .ensures) ∙ c .match .keys2)
 
 expression-operator-requires-2 : (t : ℕ) → expression-lts.Need-operator-requires-2 (expression-claims t) (expression-at t) expression.Post
 expression-operator-requires-2 t c κs = search needs
 
 expression-expression-requires : (t : ℕ) → expression-lts.Need-expression-requires (expression-claims t) (expression-at t) expression.Post
-expression-expression-requires t c κs =
-    let r = expression-sum t c in
-    (omega (arith, r .forward, r .inside .within, c .before .before .before .before .before .pre .0), r .inside)
+expression-expression-requires t c κs = first-call (expression-sum t c) (c .before .before .before .before .before .pre .0)
 
 expression-expression-requires-2 : (t : ℕ) → expression-lts.Need-expression-requires-2 (expression-claims t) (expression-at t) expression.Post
-expression-expression-requires-2 t c κs =
-    let r = expression-sum t (c .before) in
-    let q = c .expression .ensures in
-    (omega (arith, r .forward, q .forward, q .inside .within, c .before .before .before .before .before .before .pre .0), q .inside)
+expression-expression-requires-2 t c κs = second-call (expression-sum t (c .before)) (c .expression .ensures) (c .before .before .before .before .before .before .pre .0)
 
 expression-operator-requires-3 : (t : ℕ) → expression-lts.Need-operator-requires-3 (expression-claims t) (expression-at t) expression.Post
 expression-operator-requires-3 t c κs = search needs
 
 expression-expression-requires-3 : (t : ℕ) → expression-lts.Need-expression-requires-3 (expression-claims t) (expression-at t) expression.Post
-expression-expression-requires-3 t c κs =
-    let r = expression-difference t c in
-    (omega (arith, r .forward, r .inside .within, c .before .before .before .before .before .pre .0), r .inside)
+expression-expression-requires-3 t c κs = first-call (expression-difference t c) (c .before .before .before .before .before .pre .0)
 
 expression-expression-requires-4 : (t : ℕ) → expression-lts.Need-expression-requires-4 (expression-claims t) (expression-at t) expression.Post
-expression-expression-requires-4 t c κs =
-    let r = expression-difference t (c .before) in
-    let q = c .expression3 .ensures in
-    (omega (arith, r .forward, q .forward, q .inside .within, c .before .before .before .before .before .before .pre .0), q .inside)
+expression-expression-requires-4 t c κs = second-call (expression-difference t (c .before)) (c .expression3 .ensures) (c .before .before .before .before .before .before .pre .0)
 
 expression-operator-requires-4 : (t : ℕ) → expression-lts.Need-operator-requires-4 (expression-claims t) (expression-at t) expression.Post
 expression-operator-requires-4 t c κs = search needs
 
 expression-expression-requires-5 : (t : ℕ) → expression-lts.Need-expression-requires-5 (expression-claims t) (expression-at t) expression.Post
-expression-expression-requires-5 t c κs =
-    let r = expression-product t c in
-    (omega (arith, r .forward, r .inside .within, c .before .before .before .before .before .pre .0), r .inside)
+expression-expression-requires-5 t c κs = first-call (expression-product t c) (c .before .before .before .before .before .pre .0)
 
 expression-expression-requires-6 : (t : ℕ) → expression-lts.Need-expression-requires-6 (expression-claims t) (expression-at t) expression.Post
-expression-expression-requires-6 t c κs =
-    let r = expression-product t (c .before) in
-    let q = c .expression5 .ensures in
-    (omega (arith, r .forward, q .forward, q .inside .within, c .before .before .before .before .before .before .pre .0), q .inside)
+expression-expression-requires-6 t c κs = second-call (expression-product t (c .before)) (c .expression5 .ensures) (c .before .before .before .before .before .before .pre .0)
 
 expression-stopped-requires : (t : ℕ) → expression-lts.Need-stopped-requires (expression-claims t) (expression-at t) expression.Post
 expression-stopped-requires t c κs = search needs
 
 expression-returns-2 : (t : ℕ) → expression-lts.Need-returns-2 (expression-claims t) (expression-at t) expression.Post
-expression-returns-2 t c =
-    reads-node (not-false _ (c .before .before .before .before .if1 .left)) (expression-probability t (c .before)) (c .path .ensures)
+expression-returns-2 t c = reads-node (not-false _ (c .before .before .before .before .if1 .left)) (expression-probability t (c .before)) (c .path .ensures)
 
 expression-returns-3 : (t : ℕ) → expression-lts.Need-returns-3 (expression-claims t) (expression-at t) expression.Post
-expression-returns-3 t c =
-    reads-leaf (not-false _ (c .before .before .before .if1 .left)) (c .constant .ensures)
+expression-returns-3 t c = reads-leaf (not-false _ (c .before .before .before .if1 .left)) (c .constant .ensures)
 
 expression-returns-4 : (t : ℕ) → expression-lts.Need-returns-4 (expression-claims t) (expression-at t) expression.Post
-expression-returns-4 t c =
-    reads-node (not-false _ (c .before .before .before .before .before .if1 .left)) (expression-sum t (c .before .before)) (reads-then (Expression ∷ []) (c .before .expression .ensures) (c .expression2 .ensures))
+expression-returns-4 t c = reads-node (not-false _ (c .before .before .before .before .before .if1 .left)) (expression-sum t (c .before .before)) (reads-then (Expression ∷ []) (c .before .expression .ensures) (c .expression2 .ensures))
 
 expression-returns-5 : (t : ℕ) → expression-lts.Need-returns-5 (expression-claims t) (expression-at t) expression.Post
-expression-returns-5 t c =
-    reads-node (not-false _ (c .before .before .before .before .before .if1 .left)) (expression-difference t (c .before .before)) (reads-then (Expression ∷ []) (c .before .expression3 .ensures) (c .expression4 .ensures))
+expression-returns-5 t c = reads-node (not-false _ (c .before .before .before .before .before .if1 .left)) (expression-difference t (c .before .before)) (reads-then (Expression ∷ []) (c .before .expression3 .ensures) (c .expression4 .ensures))
 
 expression-returns-6 : (t : ℕ) → expression-lts.Need-returns-6 (expression-claims t) (expression-at t) expression.Post
-expression-returns-6 t c =
-    reads-node (not-false _ (c .before .before .before .before .before .if1 .left)) (expression-product t (c .before .before)) (reads-then (Expression ∷ []) (c .before .expression5 .ensures) (c .expression6 .ensures))
+expression-returns-6 t c = reads-node (not-false _ (c .before .before .before .before .before .if1 .left)) (expression-product t (c .before .before)) (reads-then (Expression ∷ []) (c .before .expression5 .ensures) (c .expression6 .ensures))
 
 expression-returns-7 : (t : ℕ) → expression-lts.Need-returns-7 (expression-claims t) (expression-at t) expression.Post
 expression-returns-7 t c =
@@ -277,35 +254,25 @@ path-operator-requires : (t : ℕ) → path-lts.Need-operator-requires (path-cla
 path-operator-requires t c κs = search needs
 
 path-state-formula-requires : (t : ℕ) → path-lts.Need-state-formula-requires (path-claims t) (path-at t) path.Post
-path-state-formula-requires t c κs =
-    let r = path-next t c in
-    (omega (arith, r .forward, r .inside .within, c .before .before .before .before .before .pre .0), r .inside)
+path-state-formula-requires t c κs = first-call (path-next t c) (c .before .before .before .before .before .pre .0)
 
 path-window-requires : (t : ℕ) → path-lts.Need-window-requires (path-claims t) (path-at t) path.Post
-path-window-requires t c κs =
-    (c .before .before .before .before .pre .1, sym (c .before .byte-at .ensures) ∙ c .match .keys2)
+path-window-requires t c κs = (c .before .before .before .before .pre .1, sym (c .before .byte-at .ensures) ∙ c .match .keys2)
 
 path-state-formula-requires-2 : (t : ℕ) → path-lts.Need-state-formula-requires-2 (path-claims t) (path-at t) path.Post
-path-state-formula-requires-2 t c κs =
-    let r = c .window .ensures in
-    (omega (arith, r .forward, r .inside .within, c .before .before .before .before .before .pre .0), r .inside)
+path-state-formula-requires-2 t c κs = first-call (c .window .ensures) (c .before .before .before .before .before .pre .0)
 
 path-state-formula-requires-3 : (t : ℕ) → path-lts.Need-state-formula-requires-3 (path-claims t) (path-at t) path.Post
-path-state-formula-requires-3 t c κs =
-    let r = c .before .window .ensures in
-    let q = c .state-formula2 .ensures in
-    (omega (arith, r .forward, q .forward, q .inside .within, c .before .before .before .before .before .before .pre .0), q .inside)
+path-state-formula-requires-3 t c κs = second-call (c .before .window .ensures) (c .state-formula2 .ensures) (c .before .before .before .before .before .before .pre .0)
 
 path-stopped-requires : (t : ℕ) → path-lts.Need-stopped-requires (path-claims t) (path-at t) path.Post
 path-stopped-requires t c κs = search needs
 
 path-returns-2 : (t : ℕ) → path-lts.Need-returns-2 (path-claims t) (path-at t) path.Post
-path-returns-2 t c =
-    reads-node (not-false _ (c .before .before .before .before .if1 .left)) (path-next t (c .before)) (c .state-formula .ensures)
+path-returns-2 t c = reads-node (not-false _ (c .before .before .before .before .if1 .left)) (path-next t (c .before)) (c .state-formula .ensures)
 
 path-returns-3 : (t : ℕ) → path-lts.Need-returns-3 (path-claims t) (path-at t) path.Post
-path-returns-3 t c =
-    reads-node (not-false _ (c .before .before .before .before .before .if1 .left)) (c .before .before .window .ensures) (reads-then (State ∷ []) (c .before .state-formula2 .ensures) (c .state-formula3 .ensures))
+path-returns-3 t c = reads-node (not-false _ (c .before .before .before .before .before .if1 .left)) (c .before .before .window .ensures) (reads-then (State ∷ []) (c .before .state-formula2 .ensures) (c .state-formula3 .ensures))
 
 path-returns-4 : (t : ℕ) → path-lts.Need-returns-4 (path-claims t) (path-at t) path.Post
 path-returns-4 t c =
@@ -329,93 +296,61 @@ state-formula-operator-requires-2 : (t : ℕ) → state-formula-lts.Need-operato
 state-formula-operator-requires-2 t c κs = search needs
 
 state-formula-state-formula-requires : (t : ℕ) → state-formula-lts.Need-state-formula-requires (state-formula-claims t) (state-formula-at t) state-formula.Post
-state-formula-state-formula-requires t c κs =
-    let r = state-formula-not t c in
-    (omega (arith, r .forward, r .inside .within, c .before .before .before .before .before .pre .0), r .inside)
+state-formula-state-formula-requires t c κs = first-call (state-formula-not t c) (c .before .before .before .before .before .pre .0)
 
 state-formula-operator-requires-3 : (t : ℕ) → state-formula-lts.Need-operator-requires-3 (state-formula-claims t) (state-formula-at t) state-formula.Post
 state-formula-operator-requires-3 t c κs = search needs
 
 state-formula-state-formula-requires-2 : (t : ℕ) → state-formula-lts.Need-state-formula-requires-2 (state-formula-claims t) (state-formula-at t) state-formula.Post
-state-formula-state-formula-requires-2 t c κs =
-    let r = state-formula-and t c in
-    (omega (arith, r .forward, r .inside .within, c .before .before .before .before .before .pre .0), r .inside)
+state-formula-state-formula-requires-2 t c κs = first-call (state-formula-and t c) (c .before .before .before .before .before .pre .0)
 
 state-formula-state-formula-requires-3 : (t : ℕ) → state-formula-lts.Need-state-formula-requires-3 (state-formula-claims t) (state-formula-at t) state-formula.Post
-state-formula-state-formula-requires-3 t c κs =
-    let r = state-formula-and t (c .before) in
-    let q = c .state-formula2 .ensures in
-    (omega (arith, r .forward, q .forward, q .inside .within, c .before .before .before .before .before .before .pre .0), q .inside)
+state-formula-state-formula-requires-3 t c κs = second-call (state-formula-and t (c .before)) (c .state-formula2 .ensures) (c .before .before .before .before .before .before .pre .0)
 
 state-formula-compare-requires : (t : ℕ) → state-formula-lts.Need-compare-requires (state-formula-claims t) (state-formula-at t) state-formula.Post
 state-formula-compare-requires t c κs = search needs
 
 state-formula-expression-requires : (t : ℕ) → state-formula-lts.Need-expression-requires (state-formula-claims t) (state-formula-at t) state-formula.Post
-state-formula-expression-requires t c κs =
-    let r = state-formula-compare-less t c in
-    (omega (arith, r .forward, r .inside .within, c .before .before .before .before .before .pre .0), r .inside)
+state-formula-expression-requires t c κs = first-call (state-formula-compare-less t c) (c .before .before .before .before .before .pre .0)
 
 state-formula-expression-requires-2 : (t : ℕ) → state-formula-lts.Need-expression-requires-2 (state-formula-claims t) (state-formula-at t) state-formula.Post
-state-formula-expression-requires-2 t c κs =
-    let r = state-formula-compare-less t (c .before) in
-    let q = c .expression .ensures in
-    (omega (arith, r .forward, q .forward, q .inside .within, c .before .before .before .before .before .before .pre .0), q .inside)
+state-formula-expression-requires-2 t c κs = second-call (state-formula-compare-less t (c .before)) (c .expression .ensures) (c .before .before .before .before .before .before .pre .0)
 
 state-formula-compare-requires-2 : (t : ℕ) → state-formula-lts.Need-compare-requires-2 (state-formula-claims t) (state-formula-at t) state-formula.Post
 state-formula-compare-requires-2 t c κs = search needs
 
 state-formula-expression-requires-3 : (t : ℕ) → state-formula-lts.Need-expression-requires-3 (state-formula-claims t) (state-formula-at t) state-formula.Post
-state-formula-expression-requires-3 t c κs =
-    let r = state-formula-compare-atmost t c in
-    (omega (arith, r .forward, r .inside .within, c .before .before .before .before .before .pre .0), r .inside)
+state-formula-expression-requires-3 t c κs = first-call (state-formula-compare-atmost t c) (c .before .before .before .before .before .pre .0)
 
 state-formula-expression-requires-4 : (t : ℕ) → state-formula-lts.Need-expression-requires-4 (state-formula-claims t) (state-formula-at t) state-formula.Post
-state-formula-expression-requires-4 t c κs =
-    let r = state-formula-compare-atmost t (c .before) in
-    let q = c .expression3 .ensures in
-    (omega (arith, r .forward, q .forward, q .inside .within, c .before .before .before .before .before .before .pre .0), q .inside)
+state-formula-expression-requires-4 t c κs = second-call (state-formula-compare-atmost t (c .before)) (c .expression3 .ensures) (c .before .before .before .before .before .before .pre .0)
 
 state-formula-compare-requires-3 : (t : ℕ) → state-formula-lts.Need-compare-requires-3 (state-formula-claims t) (state-formula-at t) state-formula.Post
 state-formula-compare-requires-3 t c κs = search needs
 
 state-formula-expression-requires-5 : (t : ℕ) → state-formula-lts.Need-expression-requires-5 (state-formula-claims t) (state-formula-at t) state-formula.Post
-state-formula-expression-requires-5 t c κs =
-    let r = state-formula-compare-equal t c in
-    (omega (arith, r .forward, r .inside .within, c .before .before .before .before .before .pre .0), r .inside)
+state-formula-expression-requires-5 t c κs = first-call (state-formula-compare-equal t c) (c .before .before .before .before .before .pre .0)
 
 state-formula-expression-requires-6 : (t : ℕ) → state-formula-lts.Need-expression-requires-6 (state-formula-claims t) (state-formula-at t) state-formula.Post
-state-formula-expression-requires-6 t c κs =
-    let r = state-formula-compare-equal t (c .before) in
-    let q = c .expression5 .ensures in
-    (omega (arith, r .forward, q .forward, q .inside .within, c .before .before .before .before .before .before .pre .0), q .inside)
+state-formula-expression-requires-6 t c κs = second-call (state-formula-compare-equal t (c .before)) (c .expression5 .ensures) (c .before .before .before .before .before .before .pre .0)
 
 state-formula-compare-requires-4 : (t : ℕ) → state-formula-lts.Need-compare-requires-4 (state-formula-claims t) (state-formula-at t) state-formula.Post
 state-formula-compare-requires-4 t c κs = search needs
 
 state-formula-expression-requires-7 : (t : ℕ) → state-formula-lts.Need-expression-requires-7 (state-formula-claims t) (state-formula-at t) state-formula.Post
-state-formula-expression-requires-7 t c κs =
-    let r = state-formula-compare-atleast t c in
-    (omega (arith, r .forward, r .inside .within, c .before .before .before .before .before .pre .0), r .inside)
+state-formula-expression-requires-7 t c κs = first-call (state-formula-compare-atleast t c) (c .before .before .before .before .before .pre .0)
 
 state-formula-expression-requires-8 : (t : ℕ) → state-formula-lts.Need-expression-requires-8 (state-formula-claims t) (state-formula-at t) state-formula.Post
-state-formula-expression-requires-8 t c κs =
-    let r = state-formula-compare-atleast t (c .before) in
-    let q = c .expression7 .ensures in
-    (omega (arith, r .forward, q .forward, q .inside .within, c .before .before .before .before .before .before .pre .0), q .inside)
+state-formula-expression-requires-8 t c κs = second-call (state-formula-compare-atleast t (c .before)) (c .expression7 .ensures) (c .before .before .before .before .before .before .pre .0)
 
 state-formula-compare-requires-5 : (t : ℕ) → state-formula-lts.Need-compare-requires-5 (state-formula-claims t) (state-formula-at t) state-formula.Post
 state-formula-compare-requires-5 t c κs = search needs
 
 state-formula-expression-requires-9 : (t : ℕ) → state-formula-lts.Need-expression-requires-9 (state-formula-claims t) (state-formula-at t) state-formula.Post
-state-formula-expression-requires-9 t c κs =
-    let r = state-formula-compare-greater t c in
-    (omega (arith, r .forward, r .inside .within, c .before .before .before .before .before .pre .0), r .inside)
+state-formula-expression-requires-9 t c κs = first-call (state-formula-compare-greater t c) (c .before .before .before .before .before .pre .0)
 
 state-formula-expression-requires-10 : (t : ℕ) → state-formula-lts.Need-expression-requires-10 (state-formula-claims t) (state-formula-at t) state-formula.Post
-state-formula-expression-requires-10 t c κs =
-    let r = state-formula-compare-greater t (c .before) in
-    let q = c .expression9 .ensures in
-    (omega (arith, r .forward, q .forward, q .inside .within, c .before .before .before .before .before .before .pre .0), q .inside)
+state-formula-expression-requires-10 t c κs = second-call (state-formula-compare-greater t (c .before)) (c .expression9 .ensures) (c .before .before .before .before .before .before .pre .0)
 
 state-formula-label-requires : (t : ℕ) → state-formula-lts.Need-label-requires (state-formula-claims t) (state-formula-at t) state-formula.Post
 state-formula-label-requires t c κs =
@@ -426,40 +361,31 @@ state-formula-stopped-requires : (t : ℕ) → state-formula-lts.Need-stopped-re
 state-formula-stopped-requires t c κs = search needs
 
 state-formula-returns-2 : (t : ℕ) → state-formula-lts.Need-returns-2 (state-formula-claims t) (state-formula-at t) state-formula.Post
-state-formula-returns-2 t c =
-    reads-leaf (not-false _ (c .before .before .before .if1 .left)) (state-formula-true t c)
+state-formula-returns-2 t c = reads-leaf (not-false _ (c .before .before .before .if1 .left)) (state-formula-true t c)
 
 state-formula-returns-3 : (t : ℕ) → state-formula-lts.Need-returns-3 (state-formula-claims t) (state-formula-at t) state-formula.Post
-state-formula-returns-3 t c =
-    reads-node (not-false _ (c .before .before .before .before .if1 .left)) (state-formula-not t (c .before)) (c .state-formula .ensures)
+state-formula-returns-3 t c = reads-node (not-false _ (c .before .before .before .before .if1 .left)) (state-formula-not t (c .before)) (c .state-formula .ensures)
 
 state-formula-returns-4 : (t : ℕ) → state-formula-lts.Need-returns-4 (state-formula-claims t) (state-formula-at t) state-formula.Post
-state-formula-returns-4 t c =
-    reads-node (not-false _ (c .before .before .before .before .before .if1 .left)) (state-formula-and t (c .before .before)) (reads-then (State ∷ []) (c .before .state-formula2 .ensures) (c .state-formula3 .ensures))
+state-formula-returns-4 t c = reads-node (not-false _ (c .before .before .before .before .before .if1 .left)) (state-formula-and t (c .before .before)) (reads-then (State ∷ []) (c .before .state-formula2 .ensures) (c .state-formula3 .ensures))
 
 state-formula-returns-5 : (t : ℕ) → state-formula-lts.Need-returns-5 (state-formula-claims t) (state-formula-at t) state-formula.Post
-state-formula-returns-5 t c =
-    reads-node (not-false _ (c .before .before .before .before .before .if1 .left)) (state-formula-compare-less t (c .before .before)) (reads-then (Expression ∷ []) (c .before .expression .ensures) (c .expression2 .ensures))
+state-formula-returns-5 t c = reads-node (not-false _ (c .before .before .before .before .before .if1 .left)) (state-formula-compare-less t (c .before .before)) (reads-then (Expression ∷ []) (c .before .expression .ensures) (c .expression2 .ensures))
 
 state-formula-returns-6 : (t : ℕ) → state-formula-lts.Need-returns-6 (state-formula-claims t) (state-formula-at t) state-formula.Post
-state-formula-returns-6 t c =
-    reads-node (not-false _ (c .before .before .before .before .before .if1 .left)) (state-formula-compare-atmost t (c .before .before)) (reads-then (Expression ∷ []) (c .before .expression3 .ensures) (c .expression4 .ensures))
+state-formula-returns-6 t c = reads-node (not-false _ (c .before .before .before .before .before .if1 .left)) (state-formula-compare-atmost t (c .before .before)) (reads-then (Expression ∷ []) (c .before .expression3 .ensures) (c .expression4 .ensures))
 
 state-formula-returns-7 : (t : ℕ) → state-formula-lts.Need-returns-7 (state-formula-claims t) (state-formula-at t) state-formula.Post
-state-formula-returns-7 t c =
-    reads-node (not-false _ (c .before .before .before .before .before .if1 .left)) (state-formula-compare-equal t (c .before .before)) (reads-then (Expression ∷ []) (c .before .expression5 .ensures) (c .expression6 .ensures))
+state-formula-returns-7 t c = reads-node (not-false _ (c .before .before .before .before .before .if1 .left)) (state-formula-compare-equal t (c .before .before)) (reads-then (Expression ∷ []) (c .before .expression5 .ensures) (c .expression6 .ensures))
 
 state-formula-returns-8 : (t : ℕ) → state-formula-lts.Need-returns-8 (state-formula-claims t) (state-formula-at t) state-formula.Post
-state-formula-returns-8 t c =
-    reads-node (not-false _ (c .before .before .before .before .before .if1 .left)) (state-formula-compare-atleast t (c .before .before)) (reads-then (Expression ∷ []) (c .before .expression7 .ensures) (c .expression8 .ensures))
+state-formula-returns-8 t c = reads-node (not-false _ (c .before .before .before .before .before .if1 .left)) (state-formula-compare-atleast t (c .before .before)) (reads-then (Expression ∷ []) (c .before .expression7 .ensures) (c .expression8 .ensures))
 
 state-formula-returns-9 : (t : ℕ) → state-formula-lts.Need-returns-9 (state-formula-claims t) (state-formula-at t) state-formula.Post
-state-formula-returns-9 t c =
-    reads-node (not-false _ (c .before .before .before .before .before .if1 .left)) (state-formula-compare-greater t (c .before .before)) (reads-then (Expression ∷ []) (c .before .expression9 .ensures) (c .expression10 .ensures))
+state-formula-returns-9 t c = reads-node (not-false _ (c .before .before .before .before .before .if1 .left)) (state-formula-compare-greater t (c .before .before)) (reads-then (Expression ∷ []) (c .before .expression9 .ensures) (c .expression10 .ensures))
 
 state-formula-returns-10 : (t : ℕ) → state-formula-lts.Need-returns-10 (state-formula-claims t) (state-formula-at t) state-formula.Post
-state-formula-returns-10 t c =
-    reads-leaf (not-false _ (c .before .before .before .before .before .if1 .left)) (c .label .ensures)
+state-formula-returns-10 t c = reads-leaf (not-false _ (c .before .before .before .before .before .if1 .left)) (c .label .ensures)
 
 state-formula-returns-11 : (t : ℕ) → state-formula-lts.Need-returns-11 (state-formula-claims t) (state-formula-at t) state-formula.Post
 state-formula-returns-11 t c =
