@@ -13,3 +13,6 @@ pub mod Sizes
 pub mod Puts
 pub mod WriteAll
 pub mod RoundTrips
+pub mod Nesting
+pub mod Numbered
+pub mod Examples

@@ -1,5 +1,5 @@
 -- How the results of reading join: one thing after another, a node and what it wants, a leaf. Assumes nothing.
-use Prim.Native.Nat.{ℕ, suc, _+_, _≤_, _<_}
+use Prim.Native.Nat.{ℕ, _-_, _≤_, _<_}
 use mathlib.Core.Bool.{Bool, true, false, true≢false}
 use mathlib.Core.List.{List, [], _∷_, _++_, append-assoc, append-nil}
 use mathlib.Core.Path.{_≡_, refl, sym, ap, _∙_, subst}
@@ -90,3 +90,10 @@ reads-node ok a b = record { forward = omega (arith, a .forward, b .forward); in
 -- a node that wants nothing
 pub reads-leaf : {k : Kind} {t : List ℕ} {letters : ℕ} {p q : Progress} → p .ok ≡ true → NodeReads k [] t letters p q → Reads (k ∷ []) t letters p q
 reads-leaf {k} {t} {letters} {p} {q} ok a = record { forward = omega (arith, a .forward); inside = a .inside; result = with-wants ok (a .result) (nothing t letters q) }
+
+-- past a node less of the text is left, so what it wants may be read; and after one thing of it the next
+pub first-call : {k : Kind} {js : List Kind} {t : List ℕ} {letters : ℕ} {p q : Progress} {m : ℕ} → NodeReads k js t letters p q → length t - p .at ≡ m → (length t - q .at < m) × Inside t q
+first-call a e = (omega (arith, a .forward, a .inside .within), a .inside)
+
+pub second-call : {k : Kind} {js ks : List Kind} {t : List ℕ} {letters : ℕ} {p q r : Progress} {m : ℕ} → NodeReads k js t letters p q → Reads ks t letters q r → length t - p .at ≡ m → (length t - r .at < m) × Inside t r
+second-call a b e = (omega (arith, a .forward, b .forward, b .inside .within), b .inside)

@@ -104,6 +104,51 @@ pub struct PrefixRead {
     pub exists: [bool; 4],
 }
 
+// What write sentence answers: how many bytes it wrote, or the refusal's number.
+pub enum Written {
+    Wrote(usize),
+    Refused(u8),
+}
+
+// What a node wants after it: nothing, one thing, or two of one kind.
+pub enum Wants {
+    Nothing,
+    One(Kind),
+    Two(Kind),
+}
+
+// A place in a node list, and whether the list nests so far.
+pub struct Place {
+    pub ok: bool,
+    pub at: usize,
+}
+
+// The length of a list's text, and whether a node of it is out of its range.
+pub struct Survey {
+    pub size: usize,
+    pub fault: bool,
+}
+
+// A node is out of its range, in a sentence of so many letters.
+fn is_fault(letters: usize, node: Node) -> bool
+    ensures { λ r. ⌜ r ≡ outOfRange letters node ⌝ }
+{
+    match node {
+        Node::True => false,
+        Node::Label { label: _, variable } => letters < variable as usize,
+        Node::Not => false,
+        Node::And => false,
+        Node::Compare(_) => false,
+        Node::Probability => false,
+        Node::Constant { top, bottom } => (65535 < top) | (bottom == 0) | (65535 < bottom),
+        Node::Sum => false,
+        Node::Difference => false,
+        Node::Product => false,
+        Node::Next => false,
+        Node::Until { from, to } => (to < from) | (60 < to),
+    }
+}
+
 // The byte at a place, and 0, which no text of the grammar has, past the end.
 fn byte_at(text: &[u8], at: usize) -> u8
     ensures { λ r. ⌜ r ≡ getD (now (text .entry)) at 0 ⌝ }
@@ -267,8 +312,8 @@ fn label(text: &[u8], letters: usize, p: Progress) -> Progress
         b'1'..=b'4' => {
             let label = letter - b'a';
             let variable = digit - b'0';
-            let bad = letters < variable as usize;
-            passed(p, Node::Label { label, variable }, at + 2, bad)
+            let node = Node::Label { label, variable };
+            passed(p, node, at + 2, is_fault(letters, node))
         }
         _ => stopped(p, at + 1),
     }
@@ -287,8 +332,8 @@ fn constant(text: &[u8], letters: usize, p: Progress) -> Progress
     if !ok {
         return stopped(p, at + 1);
     }
-    let bad = (65535 < top) | (bottom == 0) | (65535 < bottom);
-    passed(p, Node::Constant { top, bottom }, read.next, bad)
+    let node = Node::Constant { top, bottom };
+    passed(p, node, read.next, is_fault(letters, node))
 }
 
 // An until and its window: the next byte is its `U`.
@@ -304,14 +349,31 @@ fn window(text: &[u8], letters: usize, p: Progress) -> Progress
     if !ok {
         return stopped(p, at + 1);
     }
-    let bad = (to < from) | (60 < to);
-    passed(p, Node::Until { from, to }, read.next, bad)
+    let node = Node::Until { from, to };
+    passed(p, node, read.next, is_fault(letters, node))
 }
 
-// A state formula, from the next byte on.
-fn state_formula(text: &[u8], letters: usize, p: Progress) -> Progress
+// The state past an operator of one byte.
+fn operator(p: Progress, node: Node) -> Progress
+    requires { ⌜ (p .at + 1 < 2 ^ 64) × (p .kept .count + 1 < 2 ^ 64) × (length (p .kept .nodes) ≡ 64) ⌝ }
+    ensures { λ r. ⌜ r ≡ passedTo p node (p .at + 1) false ⌝ }
+{
+    let at = p.at;
+    passed(p, node, at + 1, false)
+}
+
+// The state past a comparison.
+fn compare(p: Progress, relation: Relation) -> Progress
+    requires { ⌜ (p .at + 1 < 2 ^ 64) × (p .kept .count + 1 < 2 ^ 64) × (length (p .kept .nodes) ≡ 64) ⌝ }
+    ensures { λ r. ⌜ r ≡ passedTo p (Node.Compare relation) (p .at + 1) false ⌝ }
+{
+    operator(p, Node::Compare(relation))
+}
+
+// A state formula, from the next byte on, in a sentence of n letters.
+fn state_formula(text: &[u8], n: usize, p: Progress) -> Progress
     requires { ⌜ Inside (now text) p ⌝ }
-    ensures { λ r. ⌜ Reads (Kind.State ∷ []) (now (text .entry)) letters p r ⌝ }
+    ensures { λ r. ⌜ Reads (Kind.State ∷ []) (now (text .entry)) n p r ⌝ }
 {
     let ok = p.ok;
     let at = p.at;
@@ -320,61 +382,23 @@ fn state_formula(text: &[u8], letters: usize, p: Progress) -> Progress
     }
     let b = byte_at(text, at);
     match b {
-        b'T' => passed(p, Node::True, at + 1, false),
-        b'a'..=b'p' => label(text, letters, p),
-        b'!' => state_formula(text, letters, passed(p, Node::Not, at + 1, false)),
-        b'&' => {
-            let one = state_formula(text, letters, passed(p, Node::And, at + 1, false));
-            state_formula(text, letters, one)
-        }
-        b'<' => {
-            let one = expression(
-                text,
-                letters,
-                passed(p, Node::Compare(Relation::Less), at + 1, false),
-            );
-            expression(text, letters, one)
-        }
-        b'L' => {
-            let one = expression(
-                text,
-                letters,
-                passed(p, Node::Compare(Relation::AtMost), at + 1, false),
-            );
-            expression(text, letters, one)
-        }
-        b'=' => {
-            let one = expression(
-                text,
-                letters,
-                passed(p, Node::Compare(Relation::Equal), at + 1, false),
-            );
-            expression(text, letters, one)
-        }
-        b'G' => {
-            let one = expression(
-                text,
-                letters,
-                passed(p, Node::Compare(Relation::AtLeast), at + 1, false),
-            );
-            expression(text, letters, one)
-        }
-        b'>' => {
-            let one = expression(
-                text,
-                letters,
-                passed(p, Node::Compare(Relation::Greater), at + 1, false),
-            );
-            expression(text, letters, one)
-        }
+        b'T' => operator(p, Node::True),
+        b'a'..=b'p' => label(text, n, p),
+        b'!' => state_formula(text, n, operator(p, Node::Not)),
+        b'&' => state_formula(text, n, state_formula(text, n, operator(p, Node::And))),
+        b'<' => expression(text, n, expression(text, n, compare(p, Relation::Less))),
+        b'L' => expression(text, n, expression(text, n, compare(p, Relation::AtMost))),
+        b'=' => expression(text, n, expression(text, n, compare(p, Relation::Equal))),
+        b'G' => expression(text, n, expression(text, n, compare(p, Relation::AtLeast))),
+        b'>' => expression(text, n, expression(text, n, compare(p, Relation::Greater))),
         _ => stopped(p, at),
     }
 }
 
-// An expression, from the next byte on.
-fn expression(text: &[u8], letters: usize, p: Progress) -> Progress
+// An expression, from the next byte on, in a sentence of n letters.
+fn expression(text: &[u8], n: usize, p: Progress) -> Progress
     requires { ⌜ Inside (now text) p ⌝ }
-    ensures { λ r. ⌜ Reads (Kind.Expression ∷ []) (now (text .entry)) letters p r ⌝ }
+    ensures { λ r. ⌜ Reads (Kind.Expression ∷ []) (now (text .entry)) n p r ⌝ }
 {
     let ok = p.ok;
     let at = p.at;
@@ -383,28 +407,19 @@ fn expression(text: &[u8], letters: usize, p: Progress) -> Progress
     }
     let b = byte_at(text, at);
     match b {
-        b'P' => path(text, letters, passed(p, Node::Probability, at + 1, false)),
-        b'#' => constant(text, letters, p),
-        b'+' => {
-            let one = expression(text, letters, passed(p, Node::Sum, at + 1, false));
-            expression(text, letters, one)
-        }
-        b'-' => {
-            let one = expression(text, letters, passed(p, Node::Difference, at + 1, false));
-            expression(text, letters, one)
-        }
-        b'*' => {
-            let one = expression(text, letters, passed(p, Node::Product, at + 1, false));
-            expression(text, letters, one)
-        }
+        b'P' => path(text, n, operator(p, Node::Probability)),
+        b'#' => constant(text, n, p),
+        b'+' => expression(text, n, expression(text, n, operator(p, Node::Sum))),
+        b'-' => expression(text, n, expression(text, n, operator(p, Node::Difference))),
+        b'*' => expression(text, n, expression(text, n, operator(p, Node::Product))),
         _ => stopped(p, at),
     }
 }
 
-// A path, from the next byte on.
-fn path(text: &[u8], letters: usize, p: Progress) -> Progress
+// A path, from the next byte on, in a sentence of n letters.
+fn path(text: &[u8], n: usize, p: Progress) -> Progress
     requires { ⌜ Inside (now text) p ⌝ }
-    ensures { λ r. ⌜ Reads (Kind.Path ∷ []) (now (text .entry)) letters p r ⌝ }
+    ensures { λ r. ⌜ Reads (Kind.Path ∷ []) (now (text .entry)) n p r ⌝ }
 {
     let ok = p.ok;
     let at = p.at;
@@ -413,11 +428,8 @@ fn path(text: &[u8], letters: usize, p: Progress) -> Progress
     }
     let b = byte_at(text, at);
     match b {
-        b'X' => state_formula(text, letters, passed(p, Node::Next, at + 1, false)),
-        b'U' => {
-            let one = state_formula(text, letters, window(text, letters, p));
-            state_formula(text, letters, one)
-        }
+        b'X' => state_formula(text, n, operator(p, Node::Next)),
+        b'U' => state_formula(text, n, state_formula(text, n, window(text, n, p))),
         _ => stopped(p, at),
     }
 }
@@ -549,12 +561,12 @@ fn finished(letters: usize, exists: [bool; 4], kept: Kept) -> SentenceRead
     ensures { λ r. ⌜ r ≡ finishedAs letters exists kept ⌝ }
 {
     let fault = kept.fault;
-    let count = kept.count;
+    let read = kept.count;
     let nodes = kept.nodes;
     if fault {
         return refused(7);
     }
-    if 64 < count {
+    if 64 < read {
         return refused(8);
     }
     SentenceRead {
@@ -562,35 +574,10 @@ fn finished(letters: usize, exists: [bool; 4], kept: Kept) -> SentenceRead
         sentence: Sentence {
             letters,
             exists,
-            count,
+            count: read,
             nodes,
         },
     }
-}
-
-// What write sentence answers: how many bytes it wrote, or the refusal's number.
-pub enum Written {
-    Wrote(usize),
-    Refused(u8),
-}
-
-// What a node wants after it: nothing, one thing, or two of one kind.
-pub enum Wants {
-    Nothing,
-    One(Kind),
-    Two(Kind),
-}
-
-// A place in a node list, and whether the list nests so far.
-pub struct Place {
-    pub ok: bool,
-    pub at: usize,
-}
-
-// The length of a list's text, and whether a node of it is out of its range.
-pub struct Survey {
-    pub size: usize,
-    pub fault: bool,
 }
 
 // The kind of a node.
@@ -679,26 +666,6 @@ fn has_text(node: Node) -> bool
         Node::Product => true,
         Node::Next => true,
         Node::Until { from, to } => (from < 100000) & (to < 100000),
-    }
-}
-
-// A node is out of its range, in a sentence of so many letters.
-fn is_fault(letters: usize, node: Node) -> bool
-    ensures { λ r. ⌜ r ≡ outOfRange letters node ⌝ }
-{
-    match node {
-        Node::True => false,
-        Node::Label { label: _, variable } => letters < variable as usize,
-        Node::Not => false,
-        Node::And => false,
-        Node::Compare(_) => false,
-        Node::Probability => false,
-        Node::Constant { top, bottom } => (65535 < top) | (bottom == 0) | (65535 < bottom),
-        Node::Sum => false,
-        Node::Difference => false,
-        Node::Product => false,
-        Node::Next => false,
-        Node::Until { from, to } => (to < from) | (60 < to),
     }
 }
 

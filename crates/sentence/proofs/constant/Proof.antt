@@ -36,15 +36,18 @@ returns c =
     rw (c .stopped .ensures)
     (numbers-none Constant Expression [] (s .args .text .now) (s .args .letters) (s .args .p) 35 47 59 (r .result) (λ x y. refl) (λ x y w. w) (λ l. refl) (s .pre .1) (omega arith) (s .pre .0) (r .ensures) (not-true _ (c .before .if1 .taken)))
 
+is-fault-requires : tie.Need-is-fault-requires
+is-fault-requires c κs = search needs
+
 passed-requires : tie.Need-passed-requires
 passed-requires c κs = search needs
 
 returns-2 : tie.Need-returns-2
 returns-2 c =
-    let s = c .before .before .before .before in
-    let r = c .before .before .two-numbers in
+    let s = c .before .before .before .before .before in
+    let r = c .before .before .before .two-numbers in
     rw (c .passed .ensures)
-    (numbers-read (Constant (r .result .first) (r .result .second)) (s .args .text .now) (s .args .letters) (s .args .p) 35 47 59 (r .result) refl (λ x y. (x, y)) (s .pre .1) (omega arith) (s .pre .0) (r .ensures) (not-false _ (c .before .if1 .left)) _ refl)
+    (numbers-read (Constant (r .result .first) (r .result .second)) (s .args .text .now) (s .args .letters) (s .args .p) 35 47 59 (r .result) refl (λ x y. (x, y)) (s .pre .1) (omega arith) (s .pre .0) (r .ensures) (not-false _ (c .before .before .if1 .left)) _ (c .before .is-fault .ensures))
 
 pub constant-spec : {M : Type 1} → statement M
 constant-spec =
@@ -55,5 +58,6 @@ constant-spec =
     add-stopped
     stopped-requires
     returns
+    is-fault-requires
     passed-requires
     returns-2)

@@ -29,11 +29,11 @@ sub-label c = search needs
 sub-variable : tie.Need-sub-variable
 sub-variable c = search needs
 
-cast-bad : tie.Need-cast-bad
-cast-bad c = search needs
-
 add-passed : tie.Need-add-passed
 add-passed c = search needs
+
+is-fault-requires : tie.Need-is-fault-requires
+is-fault-requires c κs = search needs
 
 passed-requires : tie.Need-passed-requires
 passed-requires c κs = search needs
@@ -46,12 +46,12 @@ stopped-requires c κs = search needs
 
 returns : tie.Need-returns
 returns c =
-    let s = c .before .before .before .before .before .before in
-    let b = c .before .before .before .before .byte-at in
-    let d = c .before .before .before .byte-at2 in
+    let s = c .before .before .before .before .before .before .before in
+    let b = c .before .before .before .before .before .byte-at in
+    let d = c .before .before .before .before .byte-at2 in
     rw (c .passed .ensures)
     (label-read (s .args .text .now) (s .args .letters) (s .args .p) (b .result) (d .result) (sym (b .ensures)) (omega (arith, b .ensures, s .pre .1)) (omega (arith, b .ensures, s .pre .2)) (sym (d .ensures))
-    (c .before .before .if1 .left) (omega (arith, c .before .if2 .taken)) (s .pre .0) _ refl)
+    (c .before .before .before .if1 .left) (omega (arith, c .before .before .if2 .taken)) (s .pre .0) _ (c .before .is-fault .ensures))
 
 returns-2 : tie.Need-returns-2
 returns-2 c =
@@ -71,8 +71,8 @@ label-spec =
     byte-at-requires-2
     sub-label
     sub-variable
-    cast-bad
     add-passed
+    is-fault-requires
     passed-requires
     add-stopped
     stopped-requires
