@@ -35,11 +35,7 @@ pub fn constant(top: u64, tuples: usize, work: &mut [u64])
     requires { ⌜ tuples ≤ length (now work) ⌝ }
     ensures { λ r. ⌜ Written tuples (λ k. top) (now (work .entry)) (now (work .exit)) ⌝ }
 {
-    let mut k: usize = 0;
-    while k < tuples {
-        work[k] = top;
-        k += 1;
-    }
+    layers::plain::fill(top, tuples, work);
 }
 
 // Sum, difference or product of the front layer and the second, into the front layer.

@@ -8,3 +8,4 @@ pub mod Joint
 pub mod Tails
 pub mod Untils
 pub mod Paths
+pub mod Areas

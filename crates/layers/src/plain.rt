@@ -6,16 +6,24 @@ ghost use lib.Dec.{eqb};
 ghost use lib.ListN.{length};
 ghost use Rattle.layers.specs.Layers.{Written, negatedAt, bothAt, bitAt};
 
+// Sets the first numbers to one value.
+pub fn fill(value: u64, count: usize, work: &mut [u64])
+    requires { ⌜ count ≤ length (now work) ⌝ }
+    ensures { λ r. ⌜ Written count (λ k. value) (now (work .entry)) (now (work .exit)) ⌝ }
+{
+    let mut k: usize = 0;
+    while k < count {
+        work[k] = value;
+        k += 1;
+    }
+}
+
 // Sets the first numbers to 0.
 pub fn zero(count: usize, work: &mut [u64])
     requires { ⌜ count ≤ length (now work) ⌝ }
     ensures { λ r. ⌜ Written count (λ k. 0) (now (work .entry)) (now (work .exit)) ⌝ }
 {
-    let mut k: usize = 0;
-    while k < count {
-        work[k] = 0;
-        k += 1;
-    }
+    fill(0, count, work);
 }
 
 // The truth of `true`: 1 at every tuple.
@@ -23,11 +31,7 @@ pub fn always(tuples: usize, work: &mut [u64])
     requires { ⌜ tuples ≤ length (now work) ⌝ }
     ensures { λ r. ⌜ Written tuples (λ k. 1) (now (work .entry)) (now (work .exit)) ⌝ }
 {
-    let mut k: usize = 0;
-    while k < tuples {
-        work[k] = 1;
-        k += 1;
-    }
+    fill(1, tuples, work);
 }
 
 // Bit l of a mask.

@@ -1,17 +1,17 @@
--- `layers::plain::always` meets its contract: the ones are written from the front.
+-- `layers::plain::fill` meets its contract: the numbers are written from the front.
 use borrow.Author.Needs.{needs}
 use Prim.Native.Nat.{_-_}
 use mathlib.Core.Path.{refl}
 use native.Mathlib.Omega.{arith}
 use Rattle.layers.proofs.Written.{Writing, writing-none, writing-next, writing-all}
-use Rattle.layers.proofs.plain.always.Statement.{statement}
-use Rattle.layers.proofs.plain.always.Tie as tie
+use Rattle.layers.proofs.plain.fill.Statement.{statement}
+use Rattle.layers.proofs.plain.fill.Tie as tie
 
 abbrev Inv-loop : tie.InvT-loop
-Inv-loop tuples work₀ k₀ work k = Writing 0 tuples (λ k. 1) work₀ k work
+Inv-loop value count work₀ k₀ work k = Writing 0 count (λ k. value) work₀ k work
 
 abbrev μ-loop : tie.MeasureT-loop
-μ-loop tuples work₀ k₀ work k = tuples - k
+μ-loop value count work₀ k₀ work k = count - k
 
 loop-holds : tie.Need-loop-holds Inv-loop μ-loop
 loop-holds c = writing-none (omega arith)
@@ -37,8 +37,8 @@ same-length c = search needs
 returns : tie.Need-returns Inv-loop μ-loop
 returns c = writing-all (c .before .loop .inv) (omega arith)
 
-pub always-spec : {M : Type 1} → statement M
-always-spec =
+pub fill-spec : {M : Type 1} → statement M
+fill-spec =
     tie.close
     (tie.spec
     Inv-loop
