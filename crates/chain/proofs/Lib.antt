@@ -1,0 +1,4 @@
+-- What the layers above cite of the chain of a model.
+pub mod Totals
+pub mod Right
+pub mod Accepted
