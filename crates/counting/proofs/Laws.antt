@@ -1,15 +1,16 @@
 -- Laws of `sum`, `every` and `table`, each said once over the function or the test. Those that end in `-more` are for the
 -- next turn of a loop that counts up.
-use Prim.Native.Nat.{ℕ, zero, suc, _+_, _*_, _≤_, _<_}
+use Prim.Native.Nat.{ℕ, zero, suc, _+_, _-_, _≤_, _<_}
 use mathlib.Core.Bool.{Bool, true, false, _&&_, not, true≢false}
-use mathlib.Core.List.{List, [], _∷_, _++_}
+use mathlib.Core.List.{List, [], _∷_, _++_, append-assoc, append-nil}
 use mathlib.Core.Path.{_≡_, refl, sym, ap, ap₂, subst, _∙_}
 use native.Mathlib.Numerals.{add-one}
 use native.Mathlib.Nat.{le-of-lt, suc-mul, mul-le-mul-left, add-zero}
 use native.Mathlib.Omega.{arith}
 use native.Mathlib.Decide.{decLt}
-use lib.ListN.{length, getD, set, length-append, length-set, List·getD-append}
-use lib.Seq.{ext-getD, getD-at, getD-set-same, getD-set-other}
+use borrow.Rule.Slice.PartMut.{putMid}
+use lib.ListN.{length, getD, set, take, drop, drop-of-length-le, length-drop, length-append, length-set, List·getD-append}
+use lib.Seq.{ext-getD, take-all, getD-at, drop-cons, set-at, getD-set-same, getD-set-other}
 use Rattle.counting.specs.Below.{sum, every, table}
 
 -- a number below the next is below this one, or is it
@@ -183,3 +184,52 @@ module _ {A : Type 0} {n : ℕ} {f : ℕ → A} {d : A} where
 
   pub filled-all : {i : ℕ} {l : List A} → Filled n f d i l → n ≤ i → l ≡ table n f
   filled-all {i} {l} h done = table-is n f d l (h .long) (λ k less. h .each k (omega arith))
+
+-- ---- a loop that writes a table at the front of a longer list and leaves the rest
+
+-- one more store
+front-more : {A : Type 0} (f : ℕ → A) (l : List A) (i : ℕ) (v : A) → i < length l → v ≡ f i →
+    set (table i f ++ drop i l) i v ≡ table (i + 1) f ++ drop (i + 1) l
+unfolding table
+front-more {A} f l i v less e =
+    ap (λ (r : List A). set (table i f ++ r) i v) (drop-cons l i v less) ∙
+    set-at (table i f) (getD l i v) (drop (suc i) l) v i (length-table i f) ∙
+    ap (λ (x : A). table i f ++ x ∷ drop (suc i) l) e ∙
+    sym (append-assoc (table i f) (f i ∷ []) (drop (suc i) l)) ∙
+    ap (λ (k : ℕ). table k f ++ drop k l) (sym (add-one i))
+
+-- of n places the first i hold f's values, and the rest of the list is as it was
+pub record Fronted {A : Type 0} (n : ℕ) (f : ℕ → A) (before : List A) (i : ℕ) (now : List A) : Type 0 where
+  pub upTo : i ≤ n
+  pub long : length now ≡ length before
+  pub held : now ≡ table i f ++ drop i before
+
+module _ {A : Type 0} {n : ℕ} {f : ℕ → A} {before : List A} where
+  pub fronted-none : Fronted n f before 0 before
+  unfolding table
+  fronted-none = record { upTo = omega arith; long = refl; held = refl }
+
+  pub fronted-next : {i : ℕ} {now : List A} {v : A} → Fronted n f before i now → i < n → n ≤ length before → v ≡ f i →
+      Fronted n f before (i + 1) (set now i v)
+  fronted-next {i} {now} {v} h less room e = record {
+    upTo = omega arith;
+    long = length-set now i v ∙ h .long;
+    held = ap (λ (l : List A). set l i v) (h .held) ∙ front-more f before i v (omega arith) e;
+  }
+
+  pub fronted-all : {i : ℕ} {now : List A} → Fronted n f before i now → n ≤ i → now ≡ table n f ++ drop n before
+  fronted-all {i} {now} h done =
+      let e : i ≡ n = omega arith in
+      rw e at (h .held)
+
+-- ---- a list whose tail was lent
+
+-- what stood before the tail, then the tail as it came back
+pub tail-back : {A : Type 0} (a : ℕ) (xs ys : List A) → putMid a (length xs - a) xs ys ≡ take a xs ++ ys
+tail-back {A} a xs ys =
+    let past : length (drop a xs) ≤ length xs - a = omega (arith, length-drop a xs) in
+    ap (λ (l : List A). take a xs ++ l) (ap (λ (l : List A). ys ++ l) (drop-of-length-le (drop a xs) past) ∙ append-nil ys)
+
+-- the tail as it was lent
+pub tail-lent : {A : Type 0} (a : ℕ) (xs : List A) → take (length xs - a) (drop a xs) ≡ drop a xs
+tail-lent a xs = take-all (length xs - a) (drop a xs) (omega (arith, length-drop a xs))

@@ -1,5 +1,5 @@
--- What read model returns meets its contract, from the number of the rows.
-use Prim.Native.Nat.{ℕ, suc}
+-- The number of the rows, test by test, for read model and write model; and read model's contract from that number.
+use Prim.Native.Nat.{ℕ, suc, _*_, _<_, _≤_}
 use mathlib.Core.List.{List}
 use mathlib.Core.Path.{_≡_, ap, sym, _∙_}
 use mathlib.Core.Bool.{true, false, not}
@@ -7,9 +7,11 @@ use Rattle.refusal.proofs.Laws.{first-here, first-later, first-none}
 use Rattle.block.specs.Block.{checksRight}
 use Rattle.refusal.specs.Answers.{outcomeOf, unlessRefused}
 use Rattle.refusal.specs.declared.Outcome.the-variants.{Done, Refused}
+use borrow.Author.Tests.{lt-ltb, le-ltb}
+use Rattle.model.specs.declared.Model.{Model}
 use Rattle.model.specs.declared.ModelRead.{ModelRead}
-use Rattle.model.specs.Layout.{fieldsOf}
-use Rattle.model.specs.Rows.{lengthRight, laidOut, rowsRight, fileNumber, emptyModel, Reads}
+use Rattle.model.specs.Layout.{fieldsOf, blocks}
+use Rattle.model.specs.Rows.{lengthRight, fieldsRight, laidOut, rowsRight, fileNumber, recordNumber, emptyModel, Reads}
 
 -- ---- the number, test by test
 
@@ -36,6 +38,24 @@ module _ (file : List ℕ) where
   unfolding fileNumber
   number-0 a b d e =
       first-later 2 _ (ap not a) ∙ first-later 3 _ (ap not b) ∙ first-later 4 _ (ap not d) ∙ first-later 5 _ (ap not e) ∙ first-none
+
+module _ (m : Model) (room : ℕ) where
+  pub record-4 : fieldsRight m ≡ false → recordNumber m room ≡ 4
+  unfolding recordNumber
+  record-4 e = first-here 4 _ (ap not e)
+
+  pub record-5 : fieldsRight m ≡ true → rowsRight m ≡ false → recordNumber m room ≡ 5
+  unfolding recordNumber
+  record-5 a e = first-later 4 _ (ap not a) ∙ first-here 5 _ (ap not e)
+
+  pub record-14 : fieldsRight m ≡ true → rowsRight m ≡ true → room < 512 * blocks (m .n) → recordNumber m room ≡ 14
+  unfolding recordNumber
+  record-14 a b e = first-later 4 _ (ap not a) ∙ first-later 5 _ (ap not b) ∙ first-here 14 _ (lt-ltb room (512 * blocks (m .n)) e)
+
+  pub record-0 : fieldsRight m ≡ true → rowsRight m ≡ true → 512 * blocks (m .n) ≤ room → recordNumber m room ≡ 0
+  unfolding recordNumber
+  record-0 a b e =
+      first-later 4 _ (ap not a) ∙ first-later 5 _ (ap not b) ∙ first-later 14 _ (le-ltb room (512 * blocks (m .n)) e) ∙ first-none
 
 -- ---- the contract, from the number
 

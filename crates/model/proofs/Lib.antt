@@ -4,3 +4,4 @@ pub mod Places
 pub mod Rightness
 pub mod Spelled
 pub mod Standing
+pub mod Written

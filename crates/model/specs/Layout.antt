@@ -2,7 +2,7 @@
 -- `byteAt` says which byte stands where in the file of a model, and `fileOf` is that file.
 use Prim.Native.Nat.{ℕ, zero, suc, _+_, _-_, _*_, _/_, _%_}
 use mathlib.Core.Bool.{Bool, cond}
-use mathlib.Core.List.{List, [], _∷_}
+use mathlib.Core.List.{List, [], _∷_, _++_}
 use lib.Dec.{ltb}
 use lib.ListN.{getD}
 use Rattle.counting.specs.Below.{table}
@@ -17,6 +17,10 @@ maskOf m s = getD (m .masks) s 0
 
 abbrev pub weightOf : Model → ℕ → ℕ → ℕ
 weightOf m s t = getD (getD (m .weights .rows) s []) t 0
+
+-- the model of these fields
+abbrev pub modelOf : (n a d : ℕ) → List ℕ → List (List ℕ) → Model
+modelOf n a d masks rows = record { n = n; a = a; d = d; masks = masks; weights = record { rows = rows } }
 
 -- ---- the fields as they stand in a file
 
@@ -81,10 +85,19 @@ contentByte m (suc i) j = rowByte m (suc i) j
 unfoldable pub byteAt : Model → ℕ → ℕ → ℕ
 byteAt m i j = cond (ltb j 510) (contentByte m i j) (byteOfTwo (checkOf (contentByte m i)) (j - 510))
 
+-- all the bytes of block i
+unfoldable pub blockBytes : Model → ℕ → List ℕ
+blockBytes m i = table 512 (byteAt m i)
+
 -- blocks in all: 1 + N / 7 rounded up
 abbrev pub blocks : ℕ → ℕ
 blocks n = 1 + (n + 6) / 7
 
+-- the bytes of the blocks below a number, one block after another
+unfoldable pub blocksBelow : Model → ℕ → List ℕ
+blocksBelow m zero = []
+blocksBelow m (suc i) = blocksBelow m i ++ blockBytes m i
+
 -- the file of a model
-unfoldable pub fileOf : Model → List ℕ
-fileOf m = table (512 * blocks (m .n)) (λ k. byteAt m (k / 512) (k % 512))
+abbrev pub fileOf : Model → List ℕ
+fileOf m = blocksBelow m (blocks (m .n))

@@ -1,9 +1,10 @@
 // The model file of document 01, read and written. The layout is said once, in specs/Layout; the rows in specs/Rows.
 mod fields;
 mod laid;
-mod matrix;
-mod reader;
+pub mod matrix;
+pub mod reader;
 mod rules;
+pub mod writer;
 
 ghost use mathlib.Core.Path.{_≡_};
 use matrix::Weights;

@@ -1,10 +1,12 @@
 -- What a reader's and a writer's contract leave: one answer, with the number of its rows.
 use Prim.Native.Nat.{ℕ, zero, suc}
 use mathlib.Core.List.{List}
-use mathlib.Core.Path.{_≡_, refl, sym, _∙_}
+use mathlib.Core.Path.{_≡_, refl, sym, ap, _∙_}
+use lib.ListN.{length}
 use Rattle.refusal.specs.declared.Outcome.{Outcome}
 use Rattle.refusal.specs.declared.Written.{Written}
-use Rattle.refusal.specs.Answers.{numberOf, outcomeOf, refusalOf, writtenOf, leftBy, Writes}
+use Rattle.refusal.specs.declared.Written.the-variants.{Wrote, Refused as Unwritten}
+use Rattle.refusal.specs.Answers.{numberOf, outcomeOf, unlessRefused, refusalOf, writtenOf, atFront, leftBy, Writes}
 
 -- the number that a reader's answer carries is the rows' number
 pub number-of-outcome : (n : ℕ) → numberOf (outcomeOf n) ≡ n
@@ -22,3 +24,21 @@ number-of-written (suc n) size = refl
 pub one-writing : {n : ℕ} {text before after after′ : List ℕ} {r r′ : Written} →
     Writes n text before after r → Writes n text before after′ r′ → (r ≡ r′) × (after ≡ after′)
 one-writing w w′ = (w .answered ∙ sym (w′ .answered), w .left ∙ sym (w′ .left))
+
+-- ---- a writer's contract, from the number
+
+pub writes-refused : {n : ℕ} (text : List ℕ) {before after : List ℕ} {r : Written} (k : ℕ) → n ≡ suc k → r ≡ Unwritten (suc k) →
+    after ≡ before → Writes n text before after r
+unfolding writtenOf unlessRefused
+writes-refused text {before} k e a l = record {
+  answered = a ∙ sym (ap (λ (n : ℕ). writtenOf n (length text)) e);
+  left = l ∙ sym (ap (λ (n : ℕ). leftBy n text before) e);
+}
+
+pub writes-done : {n : ℕ} (text : List ℕ) {before after : List ℕ} {r : Written} → n ≡ 0 → r ≡ Wrote (length text) →
+    after ≡ atFront text before → Writes n text before after r
+unfolding writtenOf unlessRefused
+writes-done text {before} e a l = record {
+  answered = a ∙ sym (ap (λ (n : ℕ). writtenOf n (length text)) e);
+  left = l ∙ sym (ap (λ (n : ℕ). leftBy n text before) e);
+}

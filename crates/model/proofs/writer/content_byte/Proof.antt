@@ -1,0 +1,36 @@
+-- `model::writer::content_byte` meets its contract: block 0 is the head.
+use borrow.Author.Needs.{needs}
+use Prim.Native.Nat.{ℕ}
+use mathlib.Core.Path.{ap, sym, _∙_}
+use native.Mathlib.Omega.{arith}
+use Rattle.model.specs.declared.Model.{Model}
+use Rattle.model.specs.Layout.{modelOf, headByte, rowByte, contentByte}
+use Rattle.model.proofs.Standing.{content-head, content-row}
+use Rattle.model.proofs.writer.content_byte.Statement.{statement}
+use Rattle.model.proofs.writer.content_byte.Tie as tie
+
+head-byte-requires : tie.Need-head-byte-requires
+head-byte-requires c κs = search needs
+
+row-byte-requires : tie.Need-row-byte-requires
+row-byte-requires c κs = search needs
+
+-- the model of the fields at hand
+abbrev fields : tie.Start → Model
+fields c = modelOf (c .args .n) (c .args .a) (c .args .d) (c .args .masks .now) (c .args .rows .now)
+
+returns : tie.Need-returns
+unfolding headByte
+returns c =
+    let m = fields (c .before .before) in
+    let j = c .before .before .args .j in
+    c .head-byte .ensures ∙ sym (content-head m j) ∙ ap (λ (i : ℕ). contentByte m i j) (sym (c .before .if1 .taken))
+
+returns-2 : tie.Need-returns-2
+unfolding rowByte
+returns-2 c =
+    let a = c .before .before .args in
+    c .row-byte .ensures ∙ sym (content-row (fields (c .before .before)) (a .i) (a .j) (omega arith))
+
+pub content-byte-spec : {M : Type 1} → statement M
+content-byte-spec = tie.close (tie.spec head-byte-requires row-byte-requires returns returns-2)

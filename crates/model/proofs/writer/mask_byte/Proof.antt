@@ -1,0 +1,41 @@
+-- `model::writer::mask_byte` meets its contract: a state that there is no room for has no mask.
+use borrow.Author.Needs.{needs}
+use Prim.Native.Nat.{ℕ, _/_, _%_, _≤_}
+use mathlib.Core.Path.{ap, sym, _∙_}
+use native.Mathlib.Omega.{arith}
+use lib.ListN.{length, List·getD-eq-default}
+use Rattle.model.specs.Layout.{byteOfTwo}
+use Rattle.model.proofs.writer.mask_byte.Statement.{statement}
+use Rattle.model.proofs.writer.mask_byte.Tie as tie
+
+mul-byte-of-two : tie.Need-mul-byte-of-two
+mul-byte-of-two c = search needs
+
+element-copy-out-byte-of-two : tie.Need-element-copy-out-byte-of-two
+element-copy-out-byte-of-two c = search needs
+
+byte-of-two-requires : tie.Need-byte-of-two-requires
+byte-of-two-requires c κs = search needs
+
+byte-of-two-requires-2 : tie.Need-byte-of-two-requires-2
+byte-of-two-requires-2 c κs = search needs
+
+returns : tie.Need-returns
+returns c = search needs
+
+returns-2 : tie.Need-returns-2
+returns-2 c =
+    let a = c .before .before .args in
+    let past : length (a .masks .now) ≤ a .k / 2 = omega arith in
+    c .byte-of-two2 .ensures ∙ ap (λ (x : ℕ). byteOfTwo x (a .k % 2)) (sym (List·getD-eq-default (a .masks .now) 0 past))
+
+pub mask-byte-spec : {M : Type 1} → statement M
+mask-byte-spec =
+    tie.close
+    (tie.spec
+    mul-byte-of-two
+    element-copy-out-byte-of-two
+    byte-of-two-requires
+    byte-of-two-requires-2
+    returns
+    returns-2)

@@ -1,0 +1,55 @@
+-- `model::writer::weight_byte` meets its contract: a state that there is no room for has no weights.
+use borrow.Author.Needs.{needs}
+use Prim.Native.Nat.{ℕ, _+_, _/_, _%_, _≤_}
+use mathlib.Core.List.{List, []}
+use mathlib.Core.Path.{ap, sym, _∙_}
+use native.Mathlib.Omega.{arith}
+use lib.ListN.{length, getD, List·getD-eq-default}
+use Rattle.model.specs.Layout.{byteOfTwo}
+use Rattle.model.proofs.writer.weight_byte.Statement.{statement}
+use Rattle.model.proofs.writer.weight_byte.Tie as tie
+
+add-state : tie.Need-add-state
+add-state c = search needs
+
+mul-byte-of-two : tie.Need-mul-byte-of-two
+mul-byte-of-two c = search needs
+
+mul-byte-of-two-2 : tie.Need-mul-byte-of-two-2
+mul-byte-of-two-2 c = search needs
+
+index-1-byte-of-two : tie.Need-index-1-byte-of-two
+index-1-byte-of-two c = search needs
+
+index-2-byte-of-two : tie.Need-index-2-byte-of-two
+index-2-byte-of-two c = search needs
+
+byte-of-two-requires : tie.Need-byte-of-two-requires
+byte-of-two-requires c κs = search needs
+
+byte-of-two-requires-2 : tie.Need-byte-of-two-requires-2
+byte-of-two-requires-2 c κs = search needs
+
+returns : tie.Need-returns
+returns c = search needs
+
+returns-2 : tie.Need-returns-2
+returns-2 c =
+    let a = c .before .before .args in
+    let past : length (a .rows .now) ≤ a .s + a .k / 64 = omega arith in
+    c .byte-of-two2 .ensures ∙
+    ap (λ (row : List ℕ). byteOfTwo (getD row (a .k % 64 / 2) 0) (a .k % 2)) (sym (List·getD-eq-default (a .rows .now) [] past))
+
+pub weight-byte-spec : {M : Type 1} → statement M
+weight-byte-spec =
+    tie.close
+    (tie.spec
+    add-state
+    mul-byte-of-two
+    mul-byte-of-two-2
+    index-1-byte-of-two
+    index-2-byte-of-two
+    byte-of-two-requires
+    byte-of-two-requires-2
+    returns
+    returns-2)

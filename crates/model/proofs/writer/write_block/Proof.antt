@@ -1,0 +1,48 @@
+-- `model::writer::write_block` meets its contract: the content, then its check.
+use borrow.Author.Needs.{needs}
+use mathlib.Core.Path.{_≡_}
+use Rattle.model.specs.Layout.{modelOf}
+use Rattle.model.proofs.Written.{block-written}
+use Rattle.model.proofs.writer.write_block.Statement.{statement}
+use Rattle.model.proofs.writer.write_block.Tie as tie
+
+write-content-requires : tie.Need-write-content-requires
+write-content-requires c κs = search needs
+
+check-of-requires : tie.Need-check-of-requires
+check-of-requires c κs = search needs
+
+cast-out : tie.Need-cast-out
+cast-out c = search needs
+
+slice-write-out : tie.Need-slice-write-out
+slice-write-out c = search needs
+
+cast-out-2 : tie.Need-cast-out-2
+cast-out-2 c = search needs
+
+slice-write-out-2 : tie.Need-slice-write-out-2
+slice-write-out-2 c = search needs
+
+same-length : tie.Need-same-length
+same-length c = search needs
+
+returns : tie.Need-returns
+returns c =
+    let a = c .before .before .before .before .before .before .before .args in
+    let w = c .before .before .before .before .write-content in
+    block-written (modelOf (a .n) (a .a) (a .d) (a .masks .now) (a .rows .now)) (a .i) (a .out .now) (w .last .1 .1 .1 .1 .1 .1 .0) (c .check-of .result)
+    (c .before .before .before .before .before .before .before .pre .3) (w .kept .1 .1 .1 .1 .1 .1 .0) (w .ensures) (c .check-of .ensures)
+
+pub write-block-spec : {M : Type 1} → statement M
+write-block-spec =
+    tie.close
+    (tie.spec
+    write-content-requires
+    check-of-requires
+    cast-out
+    slice-write-out
+    cast-out-2
+    slice-write-out-2
+    same-length
+    returns)

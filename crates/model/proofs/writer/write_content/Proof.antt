@@ -1,0 +1,53 @@
+-- `model::writer::write_content` meets its contract: the bytes are written from the front.
+use borrow.Author.Needs.{needs}
+use Prim.Native.Nat.{_-_}
+use native.Mathlib.Omega.{arith}
+use Rattle.counting.proofs.Laws.{Fronted, fronted-none, fronted-next, fronted-all}
+use Rattle.model.specs.Layout.{modelOf, contentByte}
+use Rattle.model.proofs.writer.write_content.Statement.{statement}
+use Rattle.model.proofs.writer.write_content.Tie as tie
+
+abbrev Inv-loop : tie.InvT-loop
+Inv-loop n a d masks rows i out₀ j₀ out j = Fronted 510 (contentByte (modelOf n a d masks rows) i) out₀ j out
+
+abbrev μ-loop : tie.MeasureT-loop
+μ-loop n a d masks rows i out₀ j₀ out j = 510 - j
+
+loop-holds : tie.Need-loop-holds Inv-loop μ-loop
+loop-holds c = fronted-none
+
+content-byte-requires : tie.Need-content-byte-requires Inv-loop μ-loop
+content-byte-requires c κs = search needs
+
+slice-write-out : tie.Need-slice-write-out Inv-loop μ-loop
+slice-write-out c = search needs
+
+add-j : tie.Need-add-j Inv-loop μ-loop
+add-j c = search needs
+
+loop-less : tie.Need-loop-less Inv-loop μ-loop
+loop-less c = search needs
+
+loop-again : tie.Need-loop-again Inv-loop μ-loop
+loop-again c = fronted-next (c .before .before .loop .inv) (omega arith) (omega arith) (c .content-byte .ensures)
+
+same-length : tie.Need-same-length Inv-loop μ-loop
+same-length c = c .before .loop .inv .long
+
+returns : tie.Need-returns Inv-loop μ-loop
+returns c = fronted-all (c .before .loop .inv) (omega arith)
+
+pub write-content-spec : {M : Type 1} → statement M
+write-content-spec =
+    tie.close
+    (tie.spec
+    Inv-loop
+    μ-loop
+    loop-holds
+    content-byte-requires
+    slice-write-out
+    add-j
+    loop-less
+    loop-again
+    same-length
+    returns)

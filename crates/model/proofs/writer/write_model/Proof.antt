@@ -1,0 +1,113 @@
+-- `model::writer::write_model` meets its contract: the rows are tested in the order of their numbers, and nothing is written
+-- before the last.
+use borrow.Author.Needs.{needs}
+use Prim.Native.Nat.{ℕ, _+_, _*_, _/_, _≤_}
+use mathlib.Core.Bool.{true}
+use mathlib.Core.List.{List}
+use mathlib.Core.Path.{_≡_, refl, ap, sym, _∙_}
+use native.Mathlib.Omega.{arith}
+use borrow.Author.Tests.{not-true, not-false}
+use lib.ListN.{length, length-map}
+use Rattle.refusal.specs.Answers.{atFront}
+use Rattle.refusal.specs.declared.Written.the-variants.{Wrote}
+use Rattle.refusal.proofs.Answered.{writes-refused, writes-done}
+use Rattle.model.specs.Layout.{modelOf, blocks, blocksBelow, fileOf}
+use Rattle.model.specs.Rows.{fieldsRight, rowsRight}
+use Rattle.model.proofs.Answer.{record-4, record-5, record-14, record-0}
+use Rattle.model.proofs.Rightness.{states-few}
+use Rattle.model.proofs.Written.{length-blocks}
+use Rattle.model.proofs.writer.write_model.Statement.{statement}
+use Rattle.model.proofs.writer.write_model.Tie as tie
+
+fields-right-requires : tie.Need-fields-right-requires
+fields-right-requires c κs = search needs
+
+-- what the tests say of the record
+right : (c : tie.Else1) → fieldsRight (c .before .before .before .args .m) ≡ true
+right c = sym (c .before .fields-right .ensures) ∙ not-false _ (c .if1 .left)
+
+adding : (c : tie.Else2) → rowsRight (c .before .before .before .before .before .args .m) ≡ true
+adding c = sym (c .before .rows-right .ensures) ∙ not-false _ (c .if2 .left)
+
+returns : tie.Need-returns
+returns c =
+    let a = c .before .before .before .args in
+    writes-refused (fileOf (a .m)) 3 (record-4 (a .m) (length (a .out .now)) (sym (c .before .fields-right .ensures) ∙ not-true _ (c .if1 .taken))) refl refl
+
+rows-right-requires : tie.Need-rows-right-requires
+rows-right-requires c κs = search needs
+
+returns-2 : tie.Need-returns-2
+returns-2 c =
+    let a = c .before .before .before .before .before .args in
+    writes-refused (fileOf (a .m)) 4
+    (record-5 (a .m) (length (a .out .now)) (right (c .before .before)) (sym (c .before .rows-right .ensures) ∙ not-true _ (c .if2 .taken))) refl refl
+
+cast-count : tie.Need-cast-count
+cast-count c = search needs
+
+add-count : tie.Need-add-count
+add-count c = search needs
+
+add-count-2 : tie.Need-add-count-2
+add-count-2 c = search needs
+
+mul-if3 : tie.Need-mul-if3
+mul-if3 c = search needs
+
+returns-3 : tie.Need-returns-3
+returns-3 c =
+    let a = c .before .before .before .before .before .before .before .args in
+    writes-refused (fileOf (a .m)) 13
+    (record-14 (a .m) (length (a .out .now)) (right (c .before .before .before .before)) (adding (c .before .before)) (c .if3 .taken)) refl refl
+
+rows-of-requires : tie.Need-rows-of-requires
+rows-of-requires c κs = search needs
+
+write-blocks-requires : tie.Need-write-blocks-requires
+write-blocks-requires c κs =
+    let e = c .before .before .before .before .before in
+    let start = e .before .before .before .before .before .before .before in
+    let few = states-few (start .args .m) (right (e .before .before .before .before)) in (
+      sym (length-map (start .args .m .masks) (λ v. v)) ∙ start .good .0 .1 .1 .1 .1 .1 .0 .1 .0 .1,
+      c .before .before .before .rows-of .ok .1 .0 .1,
+      omega arith,
+      e .if3 .left,
+    )
+
+mul-t9 : tie.Need-mul-t9
+mul-t9 c = search needs
+
+same-length : tie.Need-same-length
+same-length c = c .before .before .write-blocks .kept .1 .1 .1 .1 .1 .1 .0
+
+returns-4 : tie.Need-returns-4
+returns-4 c =
+    let e = c .before .before .before .before .before .before .before .before in
+    let a = e .before .before .before .before .before .before .before .args in
+    let size = length-blocks (a .m) (blocks (a .m .n)) in
+    writes-done (fileOf (a .m))
+    (record-0 (a .m) (length (a .out .now)) (right (e .before .before .before .before)) (adding (e .before .before)) (e .if3 .left))
+    (ap Wrote (sym size))
+    (c .before .before .write-blocks .ensures ∙
+    ap (λ (rows : List (List ℕ)). atFront (blocksBelow (modelOf (a .m .n) (a .m .a) (a .m .d) (a .m .masks) rows) (blocks (a .m .n))) (a .out .now))
+    (c .before .before .before .before .before .before .rows-of .ensures))
+
+pub write-model-spec : {M : Type 1} → statement M
+write-model-spec =
+    tie.close
+    (tie.spec
+    fields-right-requires
+    returns
+    rows-right-requires
+    returns-2
+    cast-count
+    add-count
+    add-count-2
+    mul-if3
+    returns-3
+    rows-of-requires
+    write-blocks-requires
+    mul-t9
+    same-length
+    returns-4)
