@@ -1,0 +1,3 @@
+-- What is said of merge beside its contract.
+pub mod Counts
+pub mod Members
