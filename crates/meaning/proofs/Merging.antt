@@ -274,7 +274,7 @@ module _ (c : Chain) (group : ℕ → ℕ) (m : Chain) (merge : Merged c group m
 
 module _ (group : ℕ → ℕ) (g : ℕ) where
   -- where the list has a member of the group g, the first one is a member of it and stands in the list
-  member-found : {s : ℕ} (ss : List ℕ) → List·Memᴰ s ss → group s ≡ g →
+  pub member-found : {s : ℕ} (ss : List ℕ) → List·Memᴰ s ss → group s ≡ g →
       (group (member group g ss) ≡ g) × List·Memᴰ (member group g ss) ss
   unfolding member
   member-found [] w e = absurd (List·Memᴰ·not-nil w)

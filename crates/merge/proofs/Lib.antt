@@ -1,3 +1,5 @@
 -- What is said of merge beside its contract.
 pub mod Counts
 pub mod Members
+pub mod Grouped
+pub mod Stability
