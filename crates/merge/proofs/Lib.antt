@@ -3,3 +3,4 @@ pub mod Counts
 pub mod Members
 pub mod Grouped
 pub mod Stability
+pub mod Merging
