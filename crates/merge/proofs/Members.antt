@@ -8,10 +8,13 @@ use native.Mathlib.Decide.{decLt}
 use native.Mathlib.Omega.{arith}
 use borrow.Author.Tests.{eqb-true, eq-eqb, lt-ltb, le-ltb, ltb-true}
 use lib.Dec.{ltb, eqb}
-use Rattle.counting.proofs.Laws.{same-truth}
+use lib.ListN.{length}
+use Rattle.counting.specs.Below.{every}
+use Rattle.counting.proofs.Laws.{same-truth, every-at}
 use Rattle.meaning.specs.Lists.{below, thereIs}
 use Rattle.meaning.specs.Merging.{member}
 use Rattle.meaning.proofs.Tests.{thereIs-found, thereIs-from, below-member, below-has}
+use Rattle.merge.specs.Groups.{groupOf, isUsed, memberOf}
 use Rattle.merge.specs.Working.{First}
 
 module _ (f : ℕ → ℕ) (g : ℕ) where
@@ -70,3 +73,12 @@ module _ (f : ℕ → ℕ) (g : ℕ) where
           member-right (below n) (n ∷ []) (sym (used-first (shorter (omega arith))) ∙ le-ltb r n (omega arith)) ∙
           ap (λ (b : Bool). cond b n 0) (eq-eqb (f n) g (ap f (sym e) ∙ h .found less)) ∙
           sym e
+
+-- where every group below a count is used, the first state of one is a state, and is its member
+module _ (grouping : List ℕ) (count : ℕ) (all : every count (isUsed grouping) ≡ true) (g : ℕ) (few : g < count) where
+  pub first-below : {r : ℕ} → First (groupOf grouping) g (length grouping) r → r < length grouping
+  first-below {r} h =
+      ltb-true r (length grouping) (used-first (groupOf grouping) g h ∙ every-at count (isUsed grouping) all g few)
+
+  pub first-member : {r : ℕ} → First (groupOf grouping) g (length grouping) r → memberOf (length grouping) grouping g ≡ r
+  first-member h = member-first (groupOf grouping) g h (first-below h)

@@ -2,4 +2,5 @@
 // refused and what the merged model is stands in specs/Groups; the rows of the call in specs/Rows.
 mod alike;
 mod grouping;
+mod merged;
 mod totals;
