@@ -2,7 +2,7 @@
 -- weights zero where the layout says, and a chain that is sound.
 use Prim.Native.Nat.{ℕ, _≤_, _<_}
 use mathlib.Core.Bool.{Bool, true, false, _&&_, _||_, true≢false}
-use mathlib.Core.Path.{_≡_, refl, sym, _∙_}
+use mathlib.Core.Path.{_≡_, refl, sym, ap, _∙_}
 use native.Mathlib.Omega.{arith}
 use borrow.Author.Tests.{leb-true, eqb-true, le-ltb, lt-leb}
 use lib.Dec.{leb, ltb, eqb}
@@ -88,6 +88,13 @@ module _ (m : Model) (right : fieldsRight m ≡ true) where
   pub column-zero : (s t : ℕ) → s < 32 → t < 32 → m .n ≤ t → weightOf m s t ≡ 0
   column-zero s t l k past =
       let away : (ltb s (m .n) && ltb t (m .n)) ≡ false = not-second (ltb s (m .n)) (le-ltb t (m .n) past) in
+      eqb-true (weightOf m s t) 0
+      (second-of (ltb s (m .n) && ltb t (m .n)) (eqb (weightOf m s t) 0) (weight-at s t l k) away)
+
+  -- and so are rows from N on
+  pub row-zero : (s t : ℕ) → s < 32 → t < 32 → m .n ≤ s → weightOf m s t ≡ 0
+  row-zero s t l k past =
+      let away : (ltb s (m .n) && ltb t (m .n)) ≡ false = ap (λ (b : Bool). b && ltb t (m .n)) (le-ltb s (m .n) past) in
       eqb-true (weightOf m s t) 0
       (second-of (ltb s (m .n) && ltb t (m .n)) (eqb (weightOf m s t) 0) (weight-at s t l k) away)
 

@@ -4,3 +4,4 @@ pub mod Members
 pub mod Grouped
 pub mod Stability
 pub mod Merging
+pub mod Built
