@@ -18,7 +18,8 @@ use Rattle.model.specs.Rows.{fieldsRight, rowsRight}
 use Rattle.meaning.specs.Merging.{weightInto}
 use Rattle.chain.specs.Of.{chainOf}
 use Rattle.chain.proofs.Totals.{total-sum, sum-first}
-use Rattle.chain.proofs.Right as right
+use Rattle.model.proofs.Rightness as right
+use Rattle.chain.proofs.Right as chain
 use Rattle.merge.specs.Groups.{groupOf, groupCount, groupingRight, memberOf, alike, groupsAlike, mergedModel}
 use Rattle.merge.specs.Working.{pairAlike, masksOfGroups, rowsOfGroups}
 use Rattle.merge.proofs.Grouped.{as-long, grouping-is, member-of}
@@ -38,12 +39,12 @@ module _ (m : Model) (fields : fieldsRight m ≡ true) (adds : rowsRight m ≡ t
       go (yes k) =
           le-trans
           (le-of-eq
-          (sym (sum-first (m .n) 32 (weightOf m s) (right.states-few m fields) (λ t past k. right.column-zero m fields s t l k past)) ∙
-          right.row-at m fields adds s k))
-          (right.total-small m fields)
+          (sym (sum-first (m .n) 32 (weightOf m s) (right.states-few m fields) (λ t past k. chain.column-zero m fields s t l k past)) ∙
+          chain.row-at m fields adds s k))
+          (right.total-few m fields)
       go (no past) =
           let states = right.states-few m fields in
-          let none = sum-zero (m .n) {f = weightOf m s} (λ t k. right.row-zero m fields s t l (omega arith) (omega arith)) in
+          let none = sum-zero (m .n) {f = weightOf m s} (λ t k. chain.row-zero m fields s t l (omega arith) (omega arith)) in
           omega arith
 
 module _ (m : Model) (grouping : List ℕ) (fields : fieldsRight m ≡ true) where

@@ -20,7 +20,8 @@ use Rattle.meaning.specs.Merging.{weightInto, Merged}
 use Rattle.meaning.proofs.Merging.{sound-merged}
 use Rattle.chain.specs.Of.{bit, chainOf}
 use Rattle.chain.proofs.Totals.{total-sum, sum-first}
-use Rattle.chain.proofs.Right as right
+use Rattle.model.proofs.Rightness as right
+use Rattle.chain.proofs.Right as chain
 use Rattle.merge.specs.Groups.{groupOf, groupCount, memberOf, groupingRight, groupsAlike, mergedModel}
 use Rattle.merge.proofs.Grouped.{grouping-is, count-few, member-of}
 use Rattle.merge.proofs.Stability.{Alike, alike-is}
@@ -132,7 +133,7 @@ module _ (m : Model) (grouping : List ℕ) (fields : fieldsRight m ≡ true) (gr
             (not-either (ltb s (groupCount grouping)) (ltb t (groupCount grouping)) (le-ltb t (groupCount grouping) past))) ∙
             sym (total-sum (groupCount grouping) (weightOf (mergedModel m grouping) s)) ∙
             sound-merged (chainOf m) (groupOf grouping) (chainOf (mergedModel m grouping)) merged-chain
-            (right.sound-right m fields adds) s k
+            (chain.sound-right m fields adds) s k
 
         row : (s : ℕ) → s < 32 → Dec (s < mergedModel m grouping .n) →
             (leb (mergedModel m grouping .n) s || rowRight (mergedModel m grouping) s) ≡ true
@@ -150,7 +151,7 @@ module _ (m : Model) (grouping : List ℕ) (fields : fieldsRight m ≡ true) (gr
       and-true
       (and-true (and-true (le-leb 1 (groupCount grouping) some) (le-leb (groupCount grouping) 32 few))
       (and-true (le-leb 1 (m .a) (right.labels-some m fields)) (le-leb (m .a) 16 (right.labels-few m fields))))
-      (and-true (le-leb 1 (m .d) (right.total-some m fields)) (le-leb (m .d) 65535 (right.total-small m fields)))
+      (and-true (le-leb 1 (m .d) (right.total-some m fields)) (le-leb (m .d) 65535 (right.total-few m fields)))
 
   -- a group's mask is a state's
   masks-merged : (g : ℕ) → g < 32 → maskRight (mergedModel m grouping) g ≡ true

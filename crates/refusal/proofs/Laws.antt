@@ -1,7 +1,7 @@
 -- The first row that applies is the smallest that applies, where the rows stand in the order of their numbers; and the
 -- document's words leave one number only.
 use Prim.Native.Nat.{ℕ, suc, _≤_, _<_}
-use mathlib.Core.Bool.{Bool, true, false, not, false≢true}
+use mathlib.Core.Bool.{Bool, true, false, false≢true}
 use mathlib.Core.List.{List, [], _∷_}
 use mathlib.Core.Path.{_≡_, refl, ap, sym, subst}
 use native.Mathlib.Omega.{arith}
@@ -71,9 +71,9 @@ pub first-none : first [] ≡ 0
 unfolding first
 first-none = refl
 
--- where no number is given, a test that a row is given for the lack of is met, and no row after it applies
-pub first-passed : (k : ℕ) (met : Bool) (rows : List Row) → first (record { number = suc k; applies = not met } ∷ rows) ≡ 0 →
-    (met ≡ true) × (first rows ≡ 0)
+-- the number is 0: the first row does not apply, and the number of the rest is 0
+pub none-here : (n : ℕ) (a : Bool) (rows : List Row) → first (record { number = suc n; applies = a } ∷ rows) ≡ 0 →
+    (a ≡ false) × (first rows ≡ 0)
 unfolding first
-first-passed k true rows e = (refl, e)
-first-passed k false rows e = absurd (omega arith)
+none-here n true rows e = absurd (omega arith)
+none-here n false rows e = (refl, e)
