@@ -5,3 +5,4 @@ pub mod Grouped
 pub mod Stability
 pub mod Merging
 pub mod Built
+pub mod Numbers
