@@ -6,3 +6,5 @@ pub mod Stability
 pub mod Merging
 pub mod Built
 pub mod Numbers
+pub mod Shape
+pub mod Theorems

@@ -1,3 +1,4 @@
 pub mod Groups
 pub mod Rows
 pub mod Working
+pub mod Kept
