@@ -37,7 +37,7 @@ pick-none f g M l =
     ap (λ b. cond b (f h) 0) (ne-eqb g h (λ e. omega arith))) ∙
     total-zero (below M)
 
-pick : (f : ℕ → ℕ) (g M : ℕ) → g < M → total (λ h. cond (eqb g h) (f h) 0) (below M) ≡ f g
+pub pick : (f : ℕ → ℕ) (g M : ℕ) → g < M → total (λ h. cond (eqb g h) (f h) 0) (below M) ≡ f g
 pick f g zero l = absurd (not-suc-le-zero l)
 pick f g (suc M) l = total-below (λ h. cond (eqb g h) (f h) 0) M ∙ last (ℕ-discrete g M) (pick f g M)
   where

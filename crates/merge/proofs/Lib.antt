@@ -8,3 +8,4 @@ pub mod Built
 pub mod Numbers
 pub mod Shape
 pub mod Theorems
+pub mod Unmerged
