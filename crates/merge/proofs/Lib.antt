@@ -9,3 +9,4 @@ pub mod Numbers
 pub mod Shape
 pub mod Theorems
 pub mod Unmerged
+pub mod Exact

@@ -20,10 +20,22 @@ use Rattle.model.proofs.Rightness.{labels-few, states-few, total-few, mask-at}
 use Rattle.model.proofs.Roundtrip.{Shaped}
 use Rattle.chain.proofs.Right.{row-at, row-zero}
 
+-- a mask has its bits A and up zero, and A is at most 16
+pub mask-two : (m : Model) → fieldsRight m ≡ true → (s : ℕ) → s < 32 → maskOf m s < 2 ^ 16
+mask-two m fields s l = look (ltb s (m .n)) (ltb (maskOf m s) (2 ^ m .a)) refl (mask-at m fields s l)
+  where
+    look : (b d : Bool) → ltb (maskOf m s) (2 ^ m .a) ≡ d → (b && d || eqb (maskOf m s) 0) ≡ true → maskOf m s < 2 ^ 16
+    look b true p e = le-trans (ltb-true (maskOf m s) (2 ^ m .a) p) (pow-mono (labels-few m fields))
+    look true false p e =
+        let z = eqb-true (maskOf m s) 0 e in
+        omega arith
+    look false false p e =
+        let z = eqb-true (maskOf m s) 0 e in
+        omega arith
+
 module _ (m : Model) (fields : fieldsRight m ≡ true) (adds : rowsRight m ≡ true)
     (masks : length (m .masks) ≡ 32) (rows : length (m .weights .rows) ≡ 32)
     (row : (s : ℕ) → s < 32 → length (getD (m .weights .rows) s []) ≡ 32) where
-  -- a mask has its bits A and up zero, and A is at most 16
   mask-small : (s : ℕ) → Dec (s < 32) → maskOf m s < 65536
   mask-small s (no past) =
       let e = List·getD-eq-default (m .masks) 0 (past-end past) in
@@ -31,17 +43,7 @@ module _ (m : Model) (fields : fieldsRight m ≡ true) (adds : rowsRight m ≡ t
     where
       past-end : (s < 32 → ⊥) → length (m .masks) ≤ s
       past-end h = omega arith
-  mask-small s (yes l) = look (ltb s (m .n)) (ltb (maskOf m s) (2 ^ m .a)) refl (mask-at m fields s l)
-    where
-      look : (b d : Bool) → ltb (maskOf m s) (2 ^ m .a) ≡ d → (b && d || eqb (maskOf m s) 0) ≡ true → maskOf m s < 65536
-      look b true p e =
-          le-trans (ltb-true (maskOf m s) (2 ^ m .a) p) (pow-mono (labels-few m fields))
-      look true false p e =
-          let z = eqb-true (maskOf m s) 0 e in
-          omega arith
-      look false false p e =
-          let z = eqb-true (maskOf m s) 0 e in
-          omega arith
+  mask-small s (yes l) = mask-two m fields s l
 
   -- a weight is at most D
   weight-small : (s t : ℕ) → Dec (s < 32) → Dec (t < 32) → Dec (s < m .n) → weightOf m s t < 65536
