@@ -10,3 +10,4 @@ pub mod Shape
 pub mod Theorems
 pub mod Unmerged
 pub mod Exact
+pub mod Examples

@@ -1,5 +1,5 @@
 -- The number that merge gives, test by test.
-use Prim.Native.Nat.{ℕ, zero, suc}
+use Prim.Native.Nat.{ℕ, zero, suc, _≤_}
 use mathlib.Core.Bool.{Bool, true, false, not}
 use mathlib.Core.List.{List, [], _∷_}
 use mathlib.Core.Path.{_≡_, refl, sym, ap, _∙_}
@@ -14,6 +14,8 @@ use Rattle.refusal.proofs.Joined.{joined-refused, joined-accepted}
 use Rattle.model.specs.declared.Model.{Model}
 use Rattle.model.specs.Layout.{blocks, fieldsOf, fileOf}
 use Rattle.model.specs.Rows.{fieldsRight, rowsRight, fileRows, fileNumber, recordNumber}
+use Rattle.model.proofs.Answer.{record-0}
+use Rattle.model.proofs.Rightness.{states-few}
 use Rattle.model.proofs.Written.{length-blocks}
 use Rattle.merge.specs.Groups.{groupingRight, groupsAlike, mergedModel}
 use Rattle.merge.specs.Rows.{groupRows, mergeNumber}
@@ -40,6 +42,15 @@ module _ (m : Model) (grouping : List ℕ) (room : ℕ) where
       first-later 5 _ (ap not (rows-merged m grouping fields a e adds)) ∙
       ap (λ (size : ℕ). first (last size)) (sym (length-blocks merged (blocks (merged .n)))) ∙
       sym (first-later 12 _ (ap not a) ∙ first-later 13 _ (ap not e))
+
+  -- an output of 3,072 bytes has room for every merged file
+  pub enough-room : fieldsRight m ≡ true → rowsRight m ≡ true → groupingRight (m .n) grouping ≡ true →
+      groupsAlike m grouping ≡ true → 3072 ≤ room → first (groupRows m grouping room) ≡ 0
+  enough-room fields adds a e big =
+      let right = fields-merged m grouping fields a in
+      let few = states-few (mergedModel m grouping) right in
+      sym (groups-14 fields adds a e) ∙
+      record-0 (mergedModel m grouping) room right (rows-merged m grouping fields a e adds) (omega arith)
 
 -- ---- of a file
 
