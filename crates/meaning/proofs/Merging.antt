@@ -37,7 +37,7 @@ pick-none f g M l =
     ap (λ b. cond b (f h) 0) (ne-eqb g h (λ e. omega arith))) ∙
     total-zero (below M)
 
-pick : (f : ℕ → ℕ) (g M : ℕ) → g < M → total (λ h. cond (eqb g h) (f h) 0) (below M) ≡ f g
+pub pick : (f : ℕ → ℕ) (g M : ℕ) → g < M → total (λ h. cond (eqb g h) (f h) 0) (below M) ≡ f g
 pick f g zero l = absurd (not-suc-le-zero l)
 pick f g (suc M) l = total-below (λ h. cond (eqb g h) (f h) 0) M ∙ last (ℕ-discrete g M) (pick f g M)
   where
@@ -274,7 +274,7 @@ module _ (c : Chain) (group : ℕ → ℕ) (m : Chain) (merge : Merged c group m
 
 module _ (group : ℕ → ℕ) (g : ℕ) where
   -- where the list has a member of the group g, the first one is a member of it and stands in the list
-  member-found : {s : ℕ} (ss : List ℕ) → List·Memᴰ s ss → group s ≡ g →
+  pub member-found : {s : ℕ} (ss : List ℕ) → List·Memᴰ s ss → group s ≡ g →
       (group (member group g ss) ≡ g) × List·Memᴰ (member group g ss) ss
   unfolding member
   member-found [] w e = absurd (List·Memᴰ·not-nil w)

@@ -41,12 +41,28 @@ module _ (m : Model) (right : fieldsRight m ≡ true) where
   pub states-few : m .n ≤ 32
   states-few = within-high 1 32 (m .n) states
 
+  -- A is 1..16
+  labels : within 1 16 (m .a) ≡ true
+  labels = right-of (within 1 32 (m .n)) (within 1 16 (m .a)) (left-of (within 1 32 (m .n) && within 1 16 (m .a)) (within 1 65535 (m .d)) numbers)
+
+  pub labels-some : 1 ≤ m .a
+  labels-some = within-low 1 16 (m .a) labels
+
+  pub labels-few : m .a ≤ 16
+  labels-few = within-high 1 16 (m .a) labels
+
   -- D is 1..65,535
   pub total-some : 1 ≤ m .d
   total-some = within-low 1 65535 (m .d) (right-of (within 1 32 (m .n) && within 1 16 (m .a)) (within 1 65535 (m .d)) numbers)
 
   pub total-few : m .d ≤ 65535
   total-few = within-high 1 65535 (m .d) (right-of (within 1 32 (m .n) && within 1 16 (m .a)) (within 1 65535 (m .d)) numbers)
+
+  -- every state's mask is right
+  pub mask-at : (s : ℕ) → s < 32 → maskRight m s ≡ true
+  unfolding fieldsRight
+  mask-at s l = every-at 32 (maskRight m)
+      (right-of (numbersRight m) (every 32 (maskRight m)) (left-of (numbersRight m && every 32 (maskRight m)) (every 32 (λ s. every 32 (weightRight m s))) right)) s l
 
   -- rows and columns from N on are zero
   weights-end : every 32 (λ s. every 32 (weightRight m s)) ≡ true

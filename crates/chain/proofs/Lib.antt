@@ -1,0 +1,5 @@
+-- What the layers above cite of the chain of a model.
+pub mod Bits
+pub mod Totals
+pub mod Right
+pub mod Accepted

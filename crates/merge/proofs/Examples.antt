@@ -1,0 +1,107 @@
+-- Document 01's starred line on merging M2 holds of the definitions, said of the files.
+use Prim.Native.Nat.{ℕ}
+use mathlib.Core.Bool.{true, false}
+use mathlib.Core.List.{List, [], _∷_}
+use mathlib.Core.Path.{_≡_, refl, ap, _∙_}
+use native.Mathlib.Omega.{arith}
+use lib.ListN.{length, getD}
+use Rattle.counting.specs.Below.{sum, every, table}
+use Rattle.counting.proofs.Laws.{length-table, table-at}
+use Rattle.refusal.specs.Rows.{first}
+use Rattle.model.specs.declared.Model.{Model}
+use Rattle.model.specs.Layout.{fileOf}
+use Rattle.model.specs.Rows.{fieldsRight, rowsRight}
+use Rattle.model.proofs.Roundtrip.{Shaped, fields-written, file-written}
+use Rattle.meaning.specs.Lists.{below, thereIs, total, Each, nothing, further}
+use Rattle.meaning.specs.Merging.{weightInto, member}
+use Rattle.merge.specs.Groups.{overAll, groupingRight, groupsAlike, mergedModel}
+use Rattle.merge.specs.Rows.{groupRows, mergeNumber, mergedFile}
+use Rattle.merge.specs.Examples.{M2, M2merged, merges, Met, claims}
+use Rattle.merge.proofs.Numbers.{file-accepted, groups-12, groups-13, enough-room}
+use Rattle.merge.proofs.Shape.{shaped}
+
+-- ---- merging the file of a record is merging the record
+
+module _ (m : Model) (fields : fieldsRight m ≡ true) (adds : rowsRight m ≡ true) (long : Shaped m) (grouping : List ℕ) where
+  number-of : (room : ℕ) → mergeNumber (fileOf m) grouping room ≡ first (groupRows m grouping room)
+  number-of room =
+      file-accepted (fileOf m) grouping room (file-written m fields adds long) ∙
+      ap (λ (x : Model). first (groupRows x grouping room)) (fields-written m fields adds long)
+
+  file-of : mergedFile (fileOf m) grouping ≡ fileOf (mergedModel m grouping)
+  file-of = ap (λ (x : Model). fileOf (mergedModel x grouping)) (fields-written m fields adds long)
+
+-- ---- M2
+
+fields-M2 : fieldsRight M2 ≡ true
+unfolding M2 fieldsRight every table
+fields-M2 = refl
+
+adds-M2 : rowsRight M2 ≡ true
+unfolding M2 rowsRight every table sum
+adds-M2 = refl
+
+long-M2 : Shaped M2
+unfolding M2
+long-M2 =
+    shaped M2 fields-M2 adds-M2 (length-table 32 _) (length-table 32 _)
+    (λ s l. ap length (table-at 32 _ [] s l) ∙ length-table 32 _)
+
+-- 0 1 1 and 0 1 2 pass rows 12 and 13, 0 0 1 passes 12 only, 0 2 2 does not pass 12
+grouped-0-1-1 : groupingRight (M2 .n) (0 ∷ 1 ∷ 1 ∷ []) ≡ true
+unfolding M2 groupingRight every overAll thereIs below
+grouped-0-1-1 = refl
+
+alike-0-1-1 : groupsAlike M2 (0 ∷ 1 ∷ 1 ∷ []) ≡ true
+unfolding M2 groupsAlike every overAll table weightInto total below
+alike-0-1-1 = refl
+
+grouped-0-0-1 : groupingRight (M2 .n) (0 ∷ 0 ∷ 1 ∷ []) ≡ true
+unfolding M2 groupingRight every overAll thereIs below
+grouped-0-0-1 = refl
+
+unlike-0-0-1 : groupsAlike M2 (0 ∷ 0 ∷ 1 ∷ []) ≡ false
+unfolding M2 groupsAlike every overAll table weightInto total below
+unlike-0-0-1 = refl
+
+unused-0-2-2 : groupingRight (M2 .n) (0 ∷ 2 ∷ 2 ∷ []) ≡ false
+unfolding M2 groupingRight every overAll thereIs below
+unused-0-2-2 = refl
+
+grouped-0-1-2 : groupingRight (M2 .n) (0 ∷ 1 ∷ 2 ∷ []) ≡ true
+unfolding M2 groupingRight every overAll thereIs below
+grouped-0-1-2 = refl
+
+alike-0-1-2 : groupsAlike M2 (0 ∷ 1 ∷ 2 ∷ []) ≡ true
+unfolding M2 groupsAlike every overAll table weightInto total below
+alike-0-1-2 = refl
+
+-- what the two merge to
+merged-0-1-1 : mergedModel M2 (0 ∷ 1 ∷ 1 ∷ []) ≡ M2merged
+unfolding mergedModel M2 M2merged table weightInto member below total overAll
+merged-0-1-1 = refl
+
+merged-0-1-2 : mergedModel M2 (0 ∷ 1 ∷ 2 ∷ []) ≡ M2
+unfolding mergedModel M2 table weightInto member below total overAll
+merged-0-1-2 = refl
+
+-- a claim from the facts of the record
+number-M2 : (grouping : List ℕ) → mergeNumber (fileOf M2) grouping 3072 ≡ first (groupRows M2 grouping 3072)
+number-M2 grouping = number-of M2 fields-M2 adds-M2 long-M2 grouping 3072
+
+merging-M2 : (grouping : List ℕ) (merged : Model) → groupingRight (M2 .n) grouping ≡ true → groupsAlike M2 grouping ≡ true →
+    mergedModel M2 grouping ≡ merged → Met (merges M2 grouping merged)
+unfolding Met
+merging-M2 grouping merged grouped alike e = (
+  number-M2 grouping ∙ enough-room M2 grouping 3072 fields-M2 adds-M2 grouped alike (omega arith),
+  file-of M2 fields-M2 adds-M2 long-M2 grouping ∙ ap fileOf e,
+)
+
+-- every line marked * agrees with the definitions
+pub examples : Each Met 4 claims
+unfolding Met claims
+examples =
+    further (merging-M2 (0 ∷ 1 ∷ 1 ∷ []) M2merged grouped-0-1-1 alike-0-1-1 merged-0-1-1)
+    (further (number-M2 (0 ∷ 0 ∷ 1 ∷ []) ∙ groups-13 M2 (0 ∷ 0 ∷ 1 ∷ []) 3072 grouped-0-0-1 unlike-0-0-1)
+    (further (number-M2 (0 ∷ 2 ∷ 2 ∷ []) ∙ groups-12 M2 (0 ∷ 2 ∷ 2 ∷ []) 3072 unused-0-2-2)
+    (further (merging-M2 (0 ∷ 1 ∷ 2 ∷ []) M2 grouped-0-1-2 alike-0-1-2 merged-0-1-2) nothing)))

@@ -1,0 +1,13 @@
+-- What is said of merge beside its contract.
+pub mod Counts
+pub mod Members
+pub mod Grouped
+pub mod Stability
+pub mod Merging
+pub mod Built
+pub mod Numbers
+pub mod Shape
+pub mod Theorems
+pub mod Unmerged
+pub mod Exact
+pub mod Examples

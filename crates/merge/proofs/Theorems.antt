@@ -1,0 +1,163 @@
+-- What is promised of merge beside its contract, said of its definitions: the number given is the smallest that applies,
+-- the merged file is always accepted, and what it says is what the full file says (document 00, demand 3).
+use Prim.Native.Nat.{ℕ, zero, suc, _≤_, _<_}
+use mathlib.Core.Bool.{true, not}
+use mathlib.Core.List.{List, [], _∷_, _++_, map}
+use mathlib.Core.Path.{_≡_, refl, sym, ap, subst, _∙_}
+use native.Mathlib.Nat.{le-trans, pow-le-pow-left}
+use native.Mathlib.Omega.{arith}
+use borrow.Author.Tests.{not-false, ltb-false}
+use lib.Dec.{ltb}
+use lib.ListN.{length, getD, take}
+use lib.Seq.{take-at}
+use Rattle.counting.specs.Below.{table}
+use Rattle.counting.proofs.Laws.{length-table, table-at}
+use Rattle.refusal.specs.Rows.{Given, none, more, first}
+use Rattle.refusal.specs.Answers.{Writes, writtenOf, unlessRefused, atFront, leftBy}
+use Rattle.refusal.specs.declared.Written.{Written}
+use Rattle.refusal.specs.declared.Written.the-variants.{Wrote}
+use Rattle.refusal.proofs.Laws.{smallest, none-here}
+use Rattle.model.specs.declared.Model.{Model}
+use Rattle.model.specs.Layout.{fieldsOf, fileOf}
+use Rattle.model.specs.Rows.{fieldsRight, rowsRight, fileRows, fileNumber}
+use Rattle.model.proofs.Roundtrip.{Shaped, fields-written, file-written}
+use Rattle.meaning.specs.Chain.{Chain, tupleCount}
+use Rattle.meaning.specs.Merging.{Merged}
+use Rattle.meaning.proofs.Merging as merging
+use Rattle.chain.specs.Of.{chainOf}
+use Rattle.chain.proofs.Accepted.{fields-right, rows-right}
+use Rattle.chain.proofs.Right.{sound-right}
+use Rattle.merge.specs.Groups.{groupOf, groupCount, groupingRight, groupsAlike, mergedModel}
+use Rattle.merge.specs.Rows.{groupRows, mergeRows, mergeNumber, mergedFile}
+use Rattle.merge.specs.Kept.{Kept}
+use Rattle.merge.proofs.Grouped.{count-few}
+use Rattle.merge.proofs.Merging.{merged-chain, fields-merged, rows-merged}
+use Rattle.merge.proofs.Numbers.{file-refused, file-accepted}
+use Rattle.merge.proofs.Shape.{shaped}
+
+-- ---- the smallest number that applies
+
+pub merge-smallest : (file grouping : List ℕ) (room : ℕ) → Given (mergeRows file grouping room) (mergeNumber file grouping room)
+unfolding mergeNumber
+merge-smallest file grouping room =
+    smallest
+    (more {low = 0} (omega arith)
+    (more (omega arith)
+    (more (omega arith) (more (omega arith) (more (omega arith) (more (omega arith) (more (omega arith) none)))))))
+
+-- ---- what is not refused
+
+pub record Mergeable (file grouping : List ℕ) (room : ℕ) : Type 0 where
+  pub accepted : fileNumber file ≡ 0
+  pub grouped : groupingRight (fieldsOf file .n) grouping ≡ true
+  pub alike : groupsAlike (fieldsOf file) grouping ≡ true
+  pub fits : length (mergedFile file grouping) ≤ room
+
+pub mergeable : (file grouping : List ℕ) (room : ℕ) → mergeNumber file grouping room ≡ 0 → Mergeable file grouping room
+mergeable file grouping room e = look (fileNumber file) refl
+  where
+    look : (n : ℕ) → fileNumber file ≡ n → Mergeable file grouping room
+    look (suc k) p =
+        let q = file-refused file grouping room k p in
+        absurd (omega arith)
+    look zero p =
+        let m = fieldsOf file in
+        let own = sym (file-accepted file grouping room p) ∙ e in
+        let twelve = none-here 11 (not (groupingRight (m .n) grouping)) _ own in
+        let thirteen = none-here 12 (not (groupsAlike m grouping)) _ (twelve .1) in
+        let last = none-here 13 (ltb room (length (mergedFile file grouping))) [] (thirteen .1) in
+        record {
+          accepted = p;
+          grouped = not-false _ (twelve .0);
+          alike = not-false _ (thirteen .0);
+          fits = ltb-false room (length (mergedFile file grouping)) (last .0);
+        }
+
+-- ---- the merged file
+
+-- the merged model of a right model can stand in a file
+shaped-merged : (m : Model) (grouping : List ℕ) → fieldsRight (mergedModel m grouping) ≡ true →
+    rowsRight (mergedModel m grouping) ≡ true → Shaped (mergedModel m grouping)
+unfolding mergedModel
+shaped-merged m grouping fields adds =
+    shaped (mergedModel m grouping) fields adds (length-table 32 _) (length-table 32 _)
+    (λ s l. ap length (table-at 32 _ [] s l) ∙ length-table 32 _)
+
+module _ (file grouping : List ℕ) (accepted : fileNumber file ≡ 0) (grouped : groupingRight (fieldsOf file .n) grouping ≡ true)
+    (alike : groupsAlike (fieldsOf file) grouping ≡ true) where
+  right : (fieldsRight (mergedModel (fieldsOf file) grouping) ≡ true) × (rowsRight (mergedModel (fieldsOf file) grouping) ≡ true)
+  right =
+      let fields = fields-right file accepted in (
+        fields-merged (fieldsOf file) grouping fields grouped,
+        rows-merged (fieldsOf file) grouping fields grouped alike (rows-right file accepted),
+      )
+
+  -- the merged file is always accepted by the reader
+  pub merged-accepted : fileNumber (mergedFile file grouping) ≡ 0
+  merged-accepted =
+      let r = right in
+      file-written (mergedModel (fieldsOf file) grouping) (r .0) (r .1)
+      (shaped-merged (fieldsOf file) grouping (r .0) (r .1))
+
+  -- and what is read from it is the merged model
+  pub merged-read : fieldsOf (mergedFile file grouping) ≡ mergedModel (fieldsOf file) grouping
+  merged-read =
+      let r = right in
+      fields-written (mergedModel (fieldsOf file) grouping) (r .0) (r .1)
+      (shaped-merged (fieldsOf file) grouping (r .0) (r .1))
+
+-- ---- demand 3
+
+-- a model with right fields and rows and its merged model
+pub kept : (m : Model) (grouping : List ℕ) → fieldsRight m ≡ true → rowsRight m ≡ true →
+    groupingRight (m .n) grouping ≡ true → groupsAlike m grouping ≡ true → Kept m (groupOf grouping) (mergedModel m grouping)
+unfolding mergedModel tupleCount
+kept m grouping fields adds grouped alike =
+    let full = chainOf m in
+    let group = groupOf grouping in
+    let merged = chainOf (mergedModel m grouping) in
+    let is = merged-chain m grouping fields grouped alike in
+    let sound = sound-right m fields adds in
+    record {
+      labels = refl;
+      sizes = λ body n e. e;
+      tuples = λ n few. le-trans (pow-le-pow-left (count-few full grouping grouped) n) few;
+      numerators = λ p n s i. merging.numerator-merged full group merged is sound p n i;
+      denominators = λ p n. refl;
+      inside = λ n s i. merging.groups-inside full group merged is i;
+      verdicts = λ letters body. merging.verdict-merged full group merged is sound letters body;
+    }
+
+-- of a file that merge does not refuse and the file that it is merged to
+pub kept-file : (file grouping : List ℕ) → fileNumber file ≡ 0 → groupingRight (fieldsOf file .n) grouping ≡ true →
+    groupsAlike (fieldsOf file) grouping ≡ true →
+    Kept (fieldsOf file) (groupOf grouping) (fieldsOf (mergedFile file grouping))
+kept-file file grouping accepted grouped alike =
+    subst (λ (m : Model). Kept (fieldsOf file) (groupOf grouping) m) (sym (merged-read file grouping accepted grouped alike))
+    (kept (fieldsOf file) grouping (fields-right file accepted) (rows-right file accepted) grouped alike)
+
+-- of the bytes that merge leaves: where it answers that it wrote so many, those at the front of the output are a file that
+-- the reader accepts and that keeps what the full file says
+pub kept-written : (file grouping before after : List ℕ) (size : ℕ) →
+    Writes (mergeNumber file grouping (length before)) (mergedFile file grouping) before after (Wrote size) →
+    (fileNumber (take size after) ≡ 0) × Kept (fieldsOf file) (groupOf grouping) (fieldsOf (take size after))
+unfolding writtenOf unlessRefused
+kept-written file grouping before after size w = look (mergeNumber file grouping (length before)) refl (w .answered) (w .left)
+  where
+    Result : List ℕ → Type 0
+    Result written = (fileNumber written ≡ 0) × Kept (fieldsOf file) (groupOf grouping) (fieldsOf written)
+
+    text : List ℕ
+    text = mergedFile file grouping
+
+    look : (n : ℕ) → mergeNumber file grouping (length before) ≡ n → Wrote size ≡ writtenOf n (length text) →
+        after ≡ leftBy n text before → Result (take size after)
+    look (suc k) e answered left =
+        let z : _≡_ {A = ℕ} 0 1 = cc in
+        absurd (omega arith)
+    look zero e answered left =
+        let long : length text ≡ size = cc in
+        let m = mergeable file grouping (length before) e in
+        let same : take size after ≡ text = ap (take size) left ∙ take-at text _ size long in
+        subst Result (sym same)
+        (merged-accepted file grouping (m .accepted) (m .grouped) (m .alike), kept-file file grouping (m .accepted) (m .grouped) (m .alike))

@@ -1,0 +1,168 @@
+-- The grouping 0, 1, 2, .., each state by itself: it is never refused, and gives the same file back.
+use Prim.Native.Nat.{ℕ, _≤_, _<_, _^_}
+use mathlib.Core.Bool.{Bool, true, false, cond, not, _&&_, _||_}
+use mathlib.Core.List.{List, []}
+use mathlib.Core.Path.{_≡_, refl, sym, ap, ap₂, _∙_}
+use native.Mathlib.Decide.{decLt, ℕ-discrete}
+use native.Mathlib.Nat.{le-trans, le-of-eq}
+use native.Mathlib.Omega.{arith}
+use borrow.Author.Tests.{ltb-true, lt-ltb, le-ltb, eqb-true, eq-eqb, ne-eqb}
+use lib.Dec.{ltb, eqb}
+use lib.ListN.{length, getD}
+use Rattle.counting.specs.Below.{table}
+use Rattle.counting.proofs.Laws.{table-at, table-is, length-table, left-of, right-of}
+use Rattle.refusal.proofs.Laws.{first-later, first-none}
+use Rattle.model.specs.declared.Model.{Model}
+use Rattle.model.specs.Layout.{maskOf, weightOf, fieldsOf, fileOf}
+use Rattle.model.specs.Rows.{fieldsRight, fileNumber}
+use Rattle.model.proofs.Rightness.{mask-at, weight-past}
+use Rattle.model.proofs.Theorems.{write-of-read}
+use Rattle.meaning.specs.Lists.{below}
+use Rattle.meaning.specs.Merging.{weightInto, Grouping}
+use Rattle.meaning.proofs.Merging.{pick}
+use Rattle.meaning.proofs.Sums.{total-same}
+use Rattle.meaning.proofs.Tests.{below-member}
+use Rattle.chain.specs.Of.{chainOf}
+use Rattle.chain.proofs.Accepted.{fields-right}
+use Rattle.merge.specs.Groups.{groupOf, groupCount, groupingRight, groupsAlike, memberOf, mergedModel}
+use Rattle.merge.specs.Rows.{mergeNumber, mergedFile}
+use Rattle.merge.proofs.Grouped.{count-is, grouping-right}
+use Rattle.merge.proofs.Members.{member-first}
+use Rattle.merge.proofs.Numbers.{file-accepted}
+use Rattle.merge.proofs.Stability.{is-alike}
+
+-- the grouping 0, 1, 2, .. of n states
+abbrev pub eachAlone : ℕ → List ℕ
+eachAlone n = table n (λ s. s)
+
+-- the order of a comparison
+eqb-turn : (a b : ℕ) → eqb a b ≡ eqb b a
+eqb-turn a b = go (ℕ-discrete a b)
+  where
+    go : Dec (a ≡ b) → eqb a b ≡ eqb b a
+    go (yes e) = eq-eqb a b e ∙ sym (eq-eqb b a (sym e))
+    go (no d) = ne-eqb a b d ∙ sym (ne-eqb b a (λ e. d (sym e)))
+
+module _ (m : Model) where
+  group-own : (s : ℕ) → s < m .n → groupOf (eachAlone (m .n)) s ≡ s
+  group-own s l = table-at (m .n) (λ s. s) 0 s l
+
+  alone : Grouping (chainOf m) (groupOf (eachAlone (m .n))) (m .n)
+  alone =
+      record {
+        inside = λ s l.
+            let e = group-own s l in
+            omega arith;
+        used = λ g l. (g, l, group-own g l);
+      }
+
+  -- there are as many groups as states
+  count-own : groupCount (eachAlone (m .n)) ≡ m .n
+  count-own = count-is (chainOf m) (eachAlone (m .n)) (m .n) (length-table (m .n) (λ s. s)) alone
+
+  -- rows 12 and 13 do not apply
+  pub grouped-own : groupingRight (m .n) (eachAlone (m .n)) ≡ true
+  grouped-own = grouping-right (chainOf m) (eachAlone (m .n)) (m .n) (length-table (m .n) (λ s. s)) alone
+
+  one : (s t : ℕ) → s < m .n → t < m .n → groupOf (eachAlone (m .n)) s ≡ groupOf (eachAlone (m .n)) t → s ≡ t
+  one s t l k e = sym (group-own s l) ∙ e ∙ group-own t k
+
+  pub alike-own : groupsAlike m (eachAlone (m .n)) ≡ true
+  alike-own =
+      is-alike m (eachAlone (m .n))
+      (record {
+        masks = λ s t l k e. ap (maskOf m) (one s t l k e);
+        weights = λ s t l k e h w.
+            ap (λ (x : ℕ). weightInto (chainOf m) (groupOf (eachAlone (m .n))) x h) (one s t l k e);
+      })
+
+  -- a state is its group's only member
+  member-own : (g : ℕ) → g < m .n → memberOf (m .n) (eachAlone (m .n)) g ≡ g
+  member-own g l =
+      member-first (groupOf (eachAlone (m .n))) g
+      (record {
+        within = omega arith;
+        before = λ k less e.
+            let p = group-own k (omega arith) in
+            omega arith;
+        found = λ less. group-own g l;
+      })
+      l
+
+  -- the weight into its group is the weight to it
+  into-own : (s h : ℕ) → h < m .n → weightInto (chainOf m) (groupOf (eachAlone (m .n))) s h ≡ weightOf m s h
+  unfolding weightInto
+  into-own s h l =
+      total-same _ (λ t. cond (eqb h t) (weightOf m s t) 0) (below (m .n))
+      (λ t w.
+      ap (λ (b : Bool). cond b (weightOf m s t) 0)
+      (ap (λ (x : ℕ). eqb x h) (group-own t (below-member (m .n) w)) ∙ eqb-turn t h)) ∙
+      pick (weightOf m s) h (m .n) l
+
+  module _ (fields : fieldsRight m ≡ true) where
+    -- its mask, and 0 from N on
+    mask-own : (g : ℕ) → g < 32 → Dec (g < m .n) →
+        maskOf m g ≡ cond (ltb g (groupCount (eachAlone (m .n)))) (maskOf m (memberOf (m .n) (eachAlone (m .n)) g)) 0
+    mask-own g l (yes k) =
+        sym
+        (ap₂ (λ (b : Bool) (s : ℕ). cond b (maskOf m s) 0)
+        (ap (ltb g) count-own ∙ lt-ltb g (m .n) k) (member-own g k))
+    mask-own g l (no past) =
+        let out = le-ltb g (m .n) (omega arith) in
+        eqb-true (maskOf m g) 0
+        (ap (λ (b : Bool). b && ltb (maskOf m g) (2 ^ m .a) || eqb (maskOf m g) 0) (sym out) ∙ mask-at m fields g l) ∙
+        sym (ap (λ (b : Bool). cond b (maskOf m (memberOf (m .n) (eachAlone (m .n)) g)) 0) (ap (ltb g) count-own ∙ out))
+
+    -- its weights, and 0 from N on
+    weight-own : (g h : ℕ) → g < 32 → h < 32 → (b : Bool) → (ltb g (m .n) && ltb h (m .n)) ≡ b →
+        weightOf m g h ≡
+        cond (ltb g (groupCount (eachAlone (m .n))) && ltb h (groupCount (eachAlone (m .n))))
+        (weightInto (chainOf m) (groupOf (eachAlone (m .n))) (memberOf (m .n) (eachAlone (m .n)) g) h) 0
+    weight-own g h l k b e =
+        let into = weightInto (chainOf m) (groupOf (eachAlone (m .n))) (memberOf (m .n) (eachAlone (m .n)) g) h in
+        go b e ∙ sym (ap (λ (b : Bool). cond b into 0) (ap (λ (n : ℕ). ltb g n && ltb h n) count-own ∙ e))
+      where
+        go : (b : Bool) → (ltb g (m .n) && ltb h (m .n)) ≡ b →
+            weightOf m g h ≡ cond b (weightInto (chainOf m) (groupOf (eachAlone (m .n))) (memberOf (m .n) (eachAlone (m .n)) g) h) 0
+        go false e = weight-past m fields g h l k e
+        go true e =
+            let p = ltb-true g (m .n) (left-of (ltb g (m .n)) (ltb h (m .n)) e) in
+            let q = ltb-true h (m .n) (right-of (ltb g (m .n)) (ltb h (m .n)) e) in
+            sym
+            (ap (λ (s : ℕ). weightInto (chainOf m) (groupOf (eachAlone (m .n))) s h) (member-own g p) ∙ into-own g h q)
+
+    -- the merged model is the model
+    pub model-own : length (m .masks) ≡ 32 → length (m .weights .rows) ≡ 32 →
+        ((s : ℕ) → s < 32 → length (getD (m .weights .rows) s []) ≡ 32) → mergedModel m (eachAlone (m .n)) ≡ m
+    unfolding mergedModel
+    model-own masks-long rows-long row-long =
+        let n = count-own in
+        let masks = sym (table-is 32 _ 0 (m .masks) masks-long (λ g l. mask-own g l (decLt g (m .n)))) in
+        let rows =
+        sym
+        (table-is 32 _ [] (m .weights .rows) rows-long
+        (λ g l.
+        table-is 32 _ 0 (getD (m .weights .rows) g []) (row-long g l)
+        (λ h k. weight-own g h l k (ltb g (m .n) && ltb h (m .n)) refl))) in
+        λ i. record { n = n i; a = m .a; d = m .d; masks = masks i; weights = record { rows = rows i } }
+
+module _ (file : List ℕ) (accepted : fileNumber file ≡ 0) where
+  -- 0, 1, 2, .. gives the same file back
+  pub same-file : mergedFile file (eachAlone (fieldsOf file .n)) ≡ file
+  unfolding fieldsOf
+  same-file =
+      ap fileOf
+      (model-own (fieldsOf file) (fields-right file accepted) (length-table 32 _) (length-table 32 _)
+      (λ s l. ap length (table-at 32 _ [] s l) ∙ length-table 32 _)) ∙
+      write-of-read file accepted
+
+  -- and an output with room for it is not refused
+  pub same-file-fits : (room : ℕ) → length file ≤ room → mergeNumber file (eachAlone (fieldsOf file .n)) room ≡ 0
+  same-file-fits room fits =
+      let m = fieldsOf file in
+      let grouping = eachAlone (m .n) in
+      file-accepted file grouping room accepted ∙
+      first-later 12 _ (ap not (grouped-own m)) ∙
+      first-later 13 _ (ap not (alike-own m)) ∙
+      first-later 14 _ (le-ltb room (length (mergedFile file grouping)) (le-trans (le-of-eq (ap length same-file)) fits)) ∙
+      first-none

@@ -1,0 +1,17 @@
+-- `merge::grouping::is_used` meets its contract: a group is used exactly if its first state is below the length.
+use borrow.Author.Needs.{needs}
+use Rattle.merge.specs.Groups.{groupOf}
+use Rattle.merge.proofs.Members.{used-first}
+use Rattle.merge.proofs.grouping.is_used.Statement.{statement}
+use Rattle.merge.proofs.grouping.is_used.Tie as tie
+
+first-of-requires : tie.Need-first-of-requires
+first-of-requires c κs = search needs
+
+returns : tie.Need-returns
+returns c =
+    let a = c .before .before .args in
+    used-first (groupOf (a .grouping .now)) (a .g) (c .first-of .ensures)
+
+pub is-used-spec : {M : Type 1} → statement M
+is-used-spec = tie.close (tie.spec first-of-requires returns)

@@ -1,0 +1,174 @@
+-- `merge::merge_model` meets its contract: the rows are tested in the order of their numbers, and what the writer is
+-- given is the merged model.
+use borrow.Author.Needs.{needs}
+use Prim.Native.Nat.{ℕ, _≤_, _<_}
+use mathlib.Core.Bool.{true}
+use mathlib.Core.List.{List, []}
+use mathlib.Core.Path.{_≡_, refl, sym, ap, ap₂, subst, _∙_}
+use native.Mathlib.Omega.{arith}
+use borrow.Author.Tests.{not-true, not-false}
+use lib.ListN.{length, getD}
+use Rattle.counting.specs.Below.{sum, every}
+use Rattle.refusal.specs.Answers.{Writes}
+use Rattle.model.specs.declared.Model.{Model}
+use Rattle.model.specs.Layout.{modelOf, fileOf}
+use Rattle.model.specs.Rows.{recordNumber}
+use Rattle.model.proofs.Rightness as right
+use Rattle.merge.specs.Groups.{groupCount, isUsed, groupingRight, groupsAlike, mergedModel}
+use Rattle.merge.specs.Working.{pairAlike, masksOfGroups, rowsOfGroups}
+use Rattle.merge.proofs.Grouped.{as-long, all-used}
+use Rattle.merge.proofs.Merging.{few}
+use Rattle.merge.proofs.Built.{totalsOf, row-small, alike-built, model-built}
+use Rattle.merge.proofs.Numbers.{groups-12, groups-13, groups-14}
+use Rattle.refusal.proofs.Answered.{writes-refused}
+use Rattle.merge.proofs.merge_model.Statement.{statement}
+use Rattle.merge.proofs.merge_model.Tie as tie
+
+cast-n : tie.Need-cast-n
+cast-n c = search needs
+
+grouping-right-requires : tie.Need-grouping-right-requires
+grouping-right-requires c κs = search needs
+
+-- what the tests say
+grouped : (c : tie.Else1) →
+    let a = c .before .before .before .before .before .args in
+    groupingRight (a .m .n) (a .grouping .now) ≡ true
+grouped c = sym (c .before .grouping-right .ensures) ∙ not-false _ (c .if1 .left)
+
+-- the count and the totals
+counted : (c : tie.After-group-count) → c .group-count .result ≡ groupCount (c .before .before .before .before .before .before .args .grouping .now)
+counted c = c .group-count .ensures .0
+
+totalled : (c : tie.After-totals-of) →
+    let a = c .before .before .before .before .before .before .before .before .before .args in
+    c .totals-of .result ≡ totalsOf (a .m .weights .rows) (a .grouping .now) (a .m .n)
+totalled c =
+    let a = c .before .before .before .before .before .before .before .before .before .args in
+    c .totals-of .ensures ∙ ap (λ (rows : List (List ℕ)). totalsOf rows (a .grouping .now) (a .m .n)) (c .before .rows-of .ensures)
+
+tested : (c : tie.After-states-alike) →
+    let a = c .before .before .before .before .before .before .before .before .before .before .before .args in
+    c .states-alike .result ≡ groupsAlike (a .m) (a .grouping .now)
+tested c =
+    let t = c .before .before in
+    let e = t .before .before .before .before in
+    let start = e .before .before .before .before .before in
+    let a = start .args in
+    c .states-alike .ensures ∙
+    ap₂
+    (λ (totals : List (List ℕ)) (count : ℕ).
+    every (a .m .n) (λ s. every (a .m .n) (pairAlike (a .m .masks) totals (a .grouping .now) count s)))
+    (totalled t) (counted (t .before .before .before)) ∙
+    alike-built (a .m) (a .grouping .now) (start .pre .0) (grouped e)
+
+returns : tie.Need-returns
+returns c =
+    let a = c .before .before .before .before .before .args in
+    writes-refused (fileOf (mergedModel (a .m) (a .grouping .now))) 11
+    (groups-12 (a .m) (a .grouping .now) (length (a .out .now))
+    (sym (c .before .grouping-right .ensures) ∙ not-true _ (c .if1 .taken))) refl refl
+
+group-count-requires : tie.Need-group-count-requires
+group-count-requires c κs = search needs
+
+rows-of-requires : tie.Need-rows-of-requires
+rows-of-requires c κs = search needs
+
+totals-of-requires : tie.Need-totals-of-requires
+totals-of-requires c κs =
+    let start = c .before .before .before .before .before .before .before .before in
+    let a = start .args in (
+      right.states-few (a .m) (start .pre .0),
+      λ s l.
+          subst (λ (rows : List (List ℕ)). sum (a .m .n) (λ t. getD (getD rows s []) t 0) ≤ 65535) (sym (c .rows-of .ensures))
+          (row-small (a .m) (start .pre .0) (start .pre .1) s l),
+    )
+
+states-alike-requires : tie.Need-states-alike-requires
+states-alike-requires c κs =
+    let e = c .before .before .before .before .before in
+    let start = e .before .before .before .before .before in
+    let a = start .args in
+    let states = right.states-few (a .m) (start .pre .0) in
+    let groups = few (a .m) (a .grouping .now) (start .pre .0) (grouped e) in
+    let count = counted (c .before .before .before .before) in
+    (omega arith, omega arith)
+
+returns-2 : tie.Need-returns-2
+returns-2 c =
+    let e = c .before .before .before .before .before .before .before in
+    let a = e .before .before .before .before .before .args in
+    writes-refused (fileOf (mergedModel (a .m) (a .grouping .now))) 12
+    (groups-13 (a .m) (a .grouping .now) (length (a .out .now)) (grouped e) (sym (tested (c .before)) ∙ not-true _ (c .if2 .taken)))
+    refl refl
+
+model-of-groups-requires : tie.Need-model-of-groups-requires
+model-of-groups-requires c κs =
+    let e = c .before .before .before .before .before .before .before in
+    let start = e .before .before .before .before .before in
+    let a = start .args in
+    let states = right.states-few (a .m) (start .pre .0) in
+    let long = as-long (a .m .n) (a .grouping .now) (grouped e) in
+    let groups = few (a .m) (a .grouping .now) (start .pre .0) (grouped e) in
+    let count = counted (c .before .before .before .before .before .before) in (
+      omega arith,
+      omega arith,
+      subst (λ (k : ℕ). every k (isUsed (a .grouping .now)) ≡ true) (sym count) (all-used (a .m .n) (a .grouping .now) (grouped e)),
+    )
+
+write-model-requires : tie.Need-write-model-requires
+write-model-requires c κs = search needs
+
+same-length : tie.Need-same-length
+same-length c = search needs
+
+-- what the writer is given
+built : (c : tie.After-model-of-groups) →
+    let a = c .before .before .before .before .before .before .before .before .before .before .before .before .before .args in
+    c .model-of-groups .result ≡ mergedModel (a .m) (a .grouping .now)
+built c =
+    let t = c .before .before .before .before in
+    let e = t .before .before .before .before in
+    let start = e .before .before .before .before .before in
+    let a = start .args in
+    c .model-of-groups .ensures ∙
+    ap₂
+    (λ (totals : List (List ℕ)) (count : ℕ).
+    modelOf count (a .m .a) (a .m .d) (masksOfGroups (a .m .masks) (a .grouping .now) count)
+    (rowsOfGroups totals (a .grouping .now) count))
+    (totalled t) (counted (t .before .before .before)) ∙
+    model-built (a .m) (a .grouping .now) (start .pre .0) (grouped e)
+
+returns-3 : tie.Need-returns-3
+returns-3 c =
+    let w = c .before .before in
+    let g = w .before .before in
+    let e = g .before .before .before .before .before .before .before .before in
+    let start = e .before .before .before .before .before in
+    let a = start .args in
+    let room = length (a .out .now) in
+    let merged = mergedModel (a .m) (a .grouping .now) in
+    let last = w .write-model .last .1 .0 in
+    let r = w .write-model .result in
+    let alike = sym (tested (g .before .before)) ∙ not-false _ (g .before .if2 .left) in
+    subst (λ (n : ℕ). Writes n (fileOf merged) (a .out .now) last r)
+    (groups-14 (a .m) (a .grouping .now) room (start .pre .0) (start .pre .1) (grouped e) alike)
+    (subst (λ (m : Model). Writes (recordNumber m room) (fileOf m) (a .out .now) last r) (built g) (w .write-model .ensures))
+
+pub merge-model-spec : {M : Type 1} → statement M
+merge-model-spec =
+    tie.close
+    (tie.spec
+    cast-n
+    grouping-right-requires
+    returns
+    group-count-requires
+    rows-of-requires
+    totals-of-requires
+    states-alike-requires
+    returns-2
+    model-of-groups-requires
+    write-model-requires
+    same-length
+    returns-3)

@@ -1,0 +1,69 @@
+-- `merge::totals::totals_row` meets its contract: the totals are filled from the front.
+use borrow.Author.Needs.{needs}
+use Prim.Native.Nat.{_-_}
+use mathlib.Core.Bool.{cond}
+use mathlib.Core.Path.{refl}
+use native.Mathlib.Omega.{arith}
+use lib.Dec.{eqb}
+use lib.ListN.{getD}
+use Rattle.counting.specs.Below.{sum}
+use Rattle.counting.proofs.Laws.{Filled, filled-none, filled-next, filled-all}
+use Rattle.merge.specs.Groups.{groupOf}
+use Rattle.merge.proofs.Counts.{sum-part}
+use Rattle.merge.proofs.totals.totals_row.Statement.{statement}
+use Rattle.merge.proofs.totals.totals_row.Tie as tie
+
+abbrev Inv-loop : tie.InvT-loop
+Inv-loop row grouping n totals₀ h₀ totals h = Filled 32 (λ h. sum n (λ t. cond (eqb (groupOf grouping t) h) (getD row t 0) 0)) 0 h totals
+
+abbrev μ-loop : tie.MeasureT-loop
+μ-loop row grouping n totals₀ h₀ totals h = 32 - h
+
+loop-holds : tie.Need-loop-holds Inv-loop μ-loop
+loop-holds c = filled-none refl
+
+total-into-requires : tie.Need-total-into-requires Inv-loop μ-loop
+total-into-requires c κs = search needs
+
+cast-totals : tie.Need-cast-totals Inv-loop μ-loop
+cast-totals c =
+    let a = c .before .before .before .before .args in
+    omega (
+      arith,
+      sum-part (a .n) (λ t. eqb (groupOf (a .grouping .now) t) (c .before .before .loop .h)) (λ t. getD (a .row .now) t 0),
+      c .total-into .ensures,
+    )
+
+mul-totals : tie.Need-mul-totals Inv-loop μ-loop
+mul-totals c = search needs
+
+array-write-totals : tie.Need-array-write-totals Inv-loop μ-loop
+array-write-totals c = search needs
+
+add-h : tie.Need-add-h Inv-loop μ-loop
+add-h c = search needs
+
+loop-less : tie.Need-loop-less Inv-loop μ-loop
+loop-less c = search needs
+
+loop-again : tie.Need-loop-again Inv-loop μ-loop
+loop-again c = filled-next (c .before .before .loop .inv) (omega arith) (c .total-into .ensures)
+
+returns : tie.Need-returns Inv-loop μ-loop
+returns c = filled-all (c .before .loop .inv) (omega arith)
+
+pub totals-row-spec : {M : Type 1} → statement M
+totals-row-spec =
+    tie.close
+    (tie.spec
+    Inv-loop
+    μ-loop
+    loop-holds
+    total-into-requires
+    cast-totals
+    mul-totals
+    array-write-totals
+    add-h
+    loop-less
+    loop-again
+    returns)

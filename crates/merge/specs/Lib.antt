@@ -1,0 +1,5 @@
+pub mod Groups
+pub mod Rows
+pub mod Working
+pub mod Kept
+pub mod Examples

@@ -1,0 +1,57 @@
+// Merge: the model of a file, its states put together by a grouping, written as a file. What a grouping is, when it is
+// refused and what the merged model is stands in specs/Groups; the rows of the call in specs/Rows.
+mod alike;
+mod grouping;
+mod merged;
+mod totals;
+
+ghost use mathlib.Core.Path.{_≡_};
+ghost use mathlib.Core.Bool.{true};
+ghost use lib.ListN.{length};
+ghost use Rattle.refusal.specs.Rows.{first};
+ghost use Rattle.refusal.specs.Answers.{Writes};
+ghost use Rattle.model.specs.Layout.{fileOf};
+ghost use Rattle.model.specs.Rows.{fieldsRight, rowsRight};
+ghost use Rattle.merge.specs.Groups.{mergedModel};
+ghost use Rattle.merge.specs.Rows.{groupRows, mergeNumber, mergedFile};
+use alike::states_alike;
+use grouping::group_count;
+use grouping::grouping_right;
+use merged::model_of_groups;
+use model::Model;
+use model::matrix;
+use model::reader::read_model;
+use model::writer::write_model;
+use refusal::Outcome;
+use refusal::Written;
+use totals::totals_of;
+
+// Merge, of the model of an accepted file: rows 12, 13 and 14, then the merged model's file.
+fn merge_model(m: Model, grouping: &[u8], out: &mut [u8]) -> Written
+    requires { ⌜ (fieldsRight m ≡ true) × (rowsRight m ≡ true) ⌝ }
+    ensures { λ r. ⌜ Writes (first (groupRows m (now (grouping .entry)) (length (now (out .entry))))) (fileOf (mergedModel m (now (grouping .entry)))) (now (out .entry)) (now (out .exit)) r ⌝ }
+{
+    let n = m.n as usize;
+    if !grouping_right(grouping, n) {
+        return Written::Refused(12);
+    }
+    let count = group_count(grouping);
+    let masks = m.masks;
+    let totals = totals_of(matrix::rows_of(m.weights), grouping, n);
+    if !states_alike(&masks, totals, grouping, count, n) {
+        return Written::Refused(13);
+    }
+    write_model(model_of_groups(m, totals, grouping, count), out)
+}
+
+// Merge: the file of the merged model at the front of the output, or the smallest number of a row that applies.
+pub fn merge(file: &[u8], grouping: &[u8], out: &mut [u8]) -> Written
+    ensures { λ r. ⌜ Writes (mergeNumber (now (file .entry)) (now (grouping .entry)) (length (now (out .entry)))) (mergedFile (now (file .entry)) (now (grouping .entry))) (now (out .entry)) (now (out .exit)) r ⌝ }
+{
+    let read = read_model(file);
+    let outcome = read.outcome;
+    match outcome {
+        Outcome::Refused(number) => Written::Refused(number),
+        Outcome::Done => merge_model(read.model, grouping, out),
+    }
+}
