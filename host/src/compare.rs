@@ -20,22 +20,30 @@ use crate::second::meaning::WORK;
 use crate::second::{self, Model, Sentence};
 use std::fmt::{self, Debug, Display};
 
-pub use examples::compare_examples;
+pub use examples::{compare_examples, compare_model_examples};
 pub use meaning::{compare_numerator, compare_verdict};
-pub use merging::compare_merge;
+pub use merging::{compare_kept, compare_merge};
 pub use models::{compare_model_reader, compare_model_writer};
 pub use sentences::{compare_sentence_reader, compare_sentence_writer};
 
-/// The calls of the document, on numbers and byte slices. A refusal is its number.
-pub trait Library {
+/// Reading and writing model files. A refusal is its number, here and in every call below.
+pub trait Models {
     /// Reads a model file.
     fn read_model(&self, file: &[u8]) -> Result<Model, u8>;
     /// Writes a model's file to the front of `out`; tells its length.
     fn write_model(&self, model: &Model, out: &mut [u8]) -> Result<usize, u8>;
+}
+
+/// Reading and writing sentence texts.
+pub trait Sentences {
     /// Reads a sentence text.
     fn read_sentence(&self, text: &[u8]) -> Result<Sentence, u8>;
     /// Writes a sentence's text to the front of `out`; tells its length.
     fn write_sentence(&self, sentence: &Sentence, out: &mut [u8]) -> Result<usize, u8>;
+}
+
+/// Sentences asked of models.
+pub trait Questions {
     /// Whether a sentence holds on a model.
     fn verdict(&self, file: &[u8], text: &[u8], work: &mut [u64]) -> Result<bool, u8>;
     /// The numerator and denominator of a path formula at a tuple.
@@ -47,16 +55,25 @@ pub trait Library {
         path: usize,
         work: &mut [u64],
     ) -> Result<(u64, u64), u8>;
+}
+
+/// Merging.
+pub trait Merges {
     /// Writes the model merged by a grouping to the front of `out`; tells its length.
     fn merge(&self, file: &[u8], grouping: &[u8], out: &mut [u8]) -> Result<usize, u8>;
 }
+
+/// All the calls of the document, on numbers and byte slices.
+pub trait Library: Models + Sentences + Questions + Merges {}
+
+impl<L: Models + Sentences + Questions + Merges> Library for L {}
 
 /// The second program as a library: compared with itself it shows that the
 /// cases reach every answer.
 #[derive(Clone, Copy, Debug)]
 pub struct Second;
 
-impl Library for Second {
+impl Models for Second {
     fn read_model(&self, file: &[u8]) -> Result<Model, u8> {
         second::read_model(file)
     }
@@ -64,7 +81,9 @@ impl Library for Second {
     fn write_model(&self, model: &Model, out: &mut [u8]) -> Result<usize, u8> {
         second::write_model(model, out)
     }
+}
 
+impl Sentences for Second {
     fn read_sentence(&self, text: &[u8]) -> Result<Sentence, u8> {
         second::read_sentence(text)
     }
@@ -72,7 +91,9 @@ impl Library for Second {
     fn write_sentence(&self, sentence: &Sentence, out: &mut [u8]) -> Result<usize, u8> {
         second::write_sentence(sentence, out)
     }
+}
 
+impl Questions for Second {
     fn verdict(&self, file: &[u8], text: &[u8], work: &mut [u64]) -> Result<bool, u8> {
         second::verdict(file, text, work)
     }
@@ -87,7 +108,9 @@ impl Library for Second {
     ) -> Result<(u64, u64), u8> {
         second::numerator(file, text, tuple, path, work)
     }
+}
 
+impl Merges for Second {
     fn merge(&self, file: &[u8], grouping: &[u8], out: &mut [u8]) -> Result<usize, u8> {
         second::merge(file, grouping, out)
     }
@@ -161,6 +184,7 @@ pub fn full_run<L: Library>(lib: &L, seed: u64) -> Vec<Tally> {
         compare_verdict(lib, 200_000, seed + 4),
         compare_numerator(lib, 20_000, seed + 5),
         compare_merge(lib, 100_000, seed + 6),
+        compare_kept(lib, 20_000, seed + 7),
     ]
 }
 
@@ -261,6 +285,7 @@ mod tests {
         println!("{}", compare_verdict(&Second, 4_000, 5));
         println!("{}", compare_numerator(&Second, 500, 6));
         println!("{}", compare_merge(&Second, 2_000, 7));
+        println!("{}", compare_kept(&Second, 500, 8));
     }
 
     #[test]

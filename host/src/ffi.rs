@@ -6,7 +6,22 @@
 //! declarations against the library's source: they are kept few, and the
 //! comparisons with the second program run through them.
 
+use crate::compare::Models;
 use crate::second::Model;
+
+/// The proved library, to be compared with the second program.
+#[derive(Clone, Copy, Debug)]
+pub struct Proved;
+
+impl Models for Proved {
+    fn read_model(&self, file: &[u8]) -> Result<Model, u8> {
+        read_model(file)
+    }
+
+    fn write_model(&self, model: &Model, out: &mut [u8]) -> Result<usize, u8> {
+        write_model(model, out)
+    }
+}
 
 extern "C" {
     fn twolsken_read_model(

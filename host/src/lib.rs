@@ -4,9 +4,11 @@
 //! * [`second`] answers every call of the document by the plainest means.
 //! * [`gen`] makes seeded inputs: files, texts, records, groupings, right and wrong.
 //! * [`compare`] runs a [`compare::Library`] against `second` on those inputs.
+//! * [`ffi`] is the proved library behind safe functions.
 
 #![warn(missing_docs)]
 
 pub mod compare;
+pub mod ffi;
 pub mod gen;
 pub mod second;

@@ -1,6 +1,6 @@
 //! The document's examples on both sides, with the numbers that it gives.
 
-use super::{agree, shown_text, Library};
+use super::{agree, shown_text, Library, Models, Questions};
 use crate::gen::model::file_of;
 use crate::second::meaning::WORK;
 use crate::second::model::examples::{m1, m2};
@@ -9,7 +9,7 @@ use crate::second::Model;
 /// Runs every line of 'Examples on both sides' and compares with the numbers of
 /// the document itself.
 pub fn compare_examples<L: Library>(lib: &L) {
-    model_lines(lib);
+    compare_model_examples(lib);
     numerator_lines(lib);
     verdict_lines(lib);
     limit_lines(lib);
@@ -26,7 +26,7 @@ fn still(n: u8, d: u32) -> Model {
 }
 
 /// M1 and its checks.
-fn model_lines<L: Library>(lib: &L) {
+pub fn compare_model_examples<L: Models>(lib: &L) {
     let mut out = [0; 1_024];
     assert_eq!(lib.write_model(&m1(), &mut out), Ok(1_024));
     assert_eq!(out[..12], [1, 2, 1, 0, 4, 0, 0, 0, 0, 0, 1, 0]);
@@ -37,14 +37,14 @@ fn model_lines<L: Library>(lib: &L) {
 }
 
 /// One numerator and denominator, the path under as many letters as the tuple has members.
-fn fraction<L: Library>(lib: &L, model: &Model, path: &str, tuple: &[u8], expected: (u64, u64)) {
+fn fraction<L: Questions>(lib: &L, model: &Model, path: &str, tuple: &[u8], expected: (u64, u64)) {
     let text = format!("{}.={path}#0/1;", "A".repeat(tuple.len())).into_bytes();
     let got = lib.numerator(&file_of(model), &text, tuple, 0, &mut [1; WORK]);
     agree("the example's fraction", &Ok(expected), &got, || shown_text(&text));
 }
 
 /// The lines that give a fraction.
-fn numerator_lines<L: Library>(lib: &L) {
+fn numerator_lines<L: Questions>(lib: &L) {
     fraction(lib, &m1(), "PXa1", &[0], (1, 4));
     fraction(lib, &m1(), "PXa1", &[1], (4, 4));
     fraction(lib, &m1(), "PU0,2:Ta1", &[0], (7, 16));
@@ -58,13 +58,13 @@ fn numerator_lines<L: Library>(lib: &L) {
 }
 
 /// One verdict or refusal.
-fn said<L: Library>(lib: &L, model: &Model, text: &str, expected: Result<bool, u8>) {
+fn said<L: Questions>(lib: &L, model: &Model, text: &str, expected: Result<bool, u8>) {
     let got = lib.verdict(&file_of(model), text.as_bytes(), &mut [1; WORK]);
     agree("the example's verdict", &expected, &got, || shown_text(text.as_bytes()));
 }
 
 /// The lines that give a verdict.
-fn verdict_lines<L: Library>(lib: &L) {
+fn verdict_lines<L: Questions>(lib: &L) {
     said(lib, &m1(), "AA.=PXa1PXa2", Ok(false));
     said(lib, &m1(), "AE.=PXa1PXa2", Ok(true));
     said(lib, &m1(), "A.L-#1/4;PXa1#0/1;", Ok(true));
@@ -75,7 +75,7 @@ fn verdict_lines<L: Library>(lib: &L) {
 }
 
 /// The lines about limits.
-fn limit_lines<L: Library>(lib: &L) {
+fn limit_lines<L: Questions>(lib: &L) {
     said(lib, &m1(), "A.GPU0,32:Ta1#0/1;", Err(10));
     said(lib, &m1(), "A.GPU0,31:Ta1#0/2;", Err(10));
     said(lib, &still(32, 4), "AA.T", Ok(true));

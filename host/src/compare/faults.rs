@@ -177,7 +177,7 @@ fn separate(head: Node, until: Node, list: &[Node]) -> Option<Vec<Node>> {
     Some([&[Node::Product, head, until], first, left, &[head, until], first, right].concat())
 }
 
-impl Library for Faulty {
+impl Models for Faulty {
     fn read_model(&self, file: &[u8]) -> Result<Model, u8> {
         let mut file = file.to_vec();
         if self.has(Fault::CheckModuloOnly) {
@@ -211,7 +211,9 @@ impl Library for Faulty {
         self.leave(&answer, out, answer.unwrap_or(0), 1);
         answer
     }
+}
 
+impl Sentences for Faulty {
     fn read_sentence(&self, text: &[u8]) -> Result<Sentence, u8> {
         match second::read_sentence(text) {
             Err(6) if self.has(Fault::TrailingByteAllowed) && !text.is_empty() => {
@@ -226,7 +228,9 @@ impl Library for Faulty {
         self.leave(&answer, out, answer.unwrap_or(0), 1);
         answer
     }
+}
 
+impl Questions for Faulty {
     fn verdict(&self, file: &[u8], text: &[u8], work: &mut [u64]) -> Result<bool, u8> {
         let answer = match second::verdict(file, &self.mistaken(file, text), work) {
             Err(10) if self.has(Fault::NoSizeRule) => Ok(true),
@@ -263,7 +267,9 @@ impl Library for Faulty {
         self.leave(&answer, work, WORK, 1);
         answer
     }
+}
 
+impl Merges for Faulty {
     fn merge(&self, file: &[u8], grouping: &[u8], out: &mut [u8]) -> Result<usize, u8> {
         let before = out.to_vec();
         let mut answer = second::merge(file, grouping, out);

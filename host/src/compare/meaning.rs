@@ -1,6 +1,6 @@
 //! Verdicts and numerators.
 
-use super::{agree, shown_file, shown_text, work_after, work_area, Library, Tally};
+use super::{agree, shown_file, shown_text, work_after, work_area, Questions, Tally};
 use crate::gen::question::{self, Pair};
 use crate::gen::Rng;
 use crate::second;
@@ -12,7 +12,7 @@ const EVERY: usize = 60;
 
 /// Compares verdicts on `cases` random pairs and work areas of every length
 /// about the right one.
-pub fn compare_verdict<L: Library>(lib: &L, cases: usize, seed: u64) -> Tally {
+pub fn compare_verdict<L: Questions>(lib: &L, cases: usize, seed: u64) -> Tally {
     let mut rng = Rng::new(seed);
     let mut tally = Tally::new("verdict");
     for _ in 0..cases {
@@ -37,7 +37,7 @@ fn inputs_after(what: &str, pair: &Pair, lent: &Pair) {
 }
 
 /// One verdict.
-fn verdict_case<L: Library>(lib: &L, rng: &mut Rng, tally: &mut Tally, pair: &Pair, length: usize) {
+fn verdict_case<L: Questions>(lib: &L, rng: &mut Rng, tally: &mut Tally, pair: &Pair, length: usize) {
     let before = work_area(rng, length);
     let mut after = before.clone();
     let expected = second::verdict(&pair.file, &pair.text, &mut after);
@@ -56,7 +56,7 @@ fn verdict_case<L: Library>(lib: &L, rng: &mut Rng, tally: &mut Tally, pair: &Pa
 /// Compares numerators on `cases` random pairs: every path at every tuple where
 /// these are few and a sample elsewhere, and one call with any tuple, path
 /// number and work area.
-pub fn compare_numerator<L: Library>(lib: &L, cases: usize, seed: u64) -> Tally {
+pub fn compare_numerator<L: Questions>(lib: &L, cases: usize, seed: u64) -> Tally {
     let mut rng = Rng::new(seed);
     let mut tally = Tally::new("numerator");
     let mut every = 0;
@@ -73,7 +73,7 @@ pub fn compare_numerator<L: Library>(lib: &L, cases: usize, seed: u64) -> Tally 
 }
 
 /// Any tuple, path number and work area, most of them wrong in one thing.
-fn odd_case<L: Library>(lib: &L, rng: &mut Rng, tally: &mut Tally, pair: &Pair) {
+fn odd_case<L: Questions>(lib: &L, rng: &mut Rng, tally: &mut Tally, pair: &Pair) {
     let states = read_model(&pair.file).map_or(3, |model| usize::from(model.n));
     let letters = second::read_sentence(&pair.text).map_or(2, |sentence| sentence.letters);
     let mut tuple: Vec<u8> = (0..letters).map(|_| rng.below(states) as u8).collect();
@@ -99,7 +99,7 @@ fn odd_case<L: Library>(lib: &L, rng: &mut Rng, tally: &mut Tally, pair: &Pair) 
 }
 
 /// Every path at every tuple, or a sample of them; tells whether it was all.
-fn ask_all<L: Library>(lib: &L, rng: &mut Rng, tally: &mut Tally, pair: &Pair, found: &Answer) -> bool {
+fn ask_all<L: Questions>(lib: &L, rng: &mut Rng, tally: &mut Tally, pair: &Pair, found: &Answer) -> bool {
     let tuples = found.paths.first().map_or(0, |fractions| fractions.tops.len());
     let all = found.paths.len() * tuples;
     let mut work = vec![0; WORK];

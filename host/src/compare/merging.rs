@@ -1,7 +1,7 @@
 //! Merging, and what it keeps: numerators, denominators and verdicts.
 
 use super::meaning::members;
-use super::{agree, output, output_after, shown_file, shown_text, Library, Tally};
+use super::{agree, output, output_after, shown_file, shown_text, Merges, Questions, Tally};
 use crate::gen::grouping::{self, Merging};
 use crate::gen::{question, Rng};
 use crate::second::meaning::{answer, Answer, Way, WORK};
@@ -10,23 +10,32 @@ use crate::second::{self, read_model};
 /// The most tuples at which the library itself is asked, of one pair.
 const ASKED: usize = 40;
 
-/// Compares merging on `cases` random models, groupings and outputs. For a part
-/// of the accepted ones, a random sentence is asked of the full and of the
-/// merged model: numerators, denominators and verdicts must be equal.
-pub fn compare_merge<L: Library>(lib: &L, cases: usize, seed: u64) -> Tally {
+/// Compares merging on `cases` random models, groupings and outputs.
+pub fn compare_merge<L: Merges>(lib: &L, cases: usize, seed: u64) -> Tally {
     let mut rng = Rng::new(seed);
     let mut tally = Tally::new("merge");
+    for _ in 0..cases {
+        let merging = grouping::merging(&mut rng);
+        merge_case(lib, &mut rng, &mut tally, &merging);
+    }
+    tally.require(&[2, 3, 4, 5, 12, 13, 14]);
+    tally
+}
+
+/// What merging keeps: for accepted merges of `cases` random ones, a random
+/// sentence is asked of the full and of the merged model, and numerators,
+/// denominators and verdicts must be equal.
+pub fn compare_kept<L: Merges + Questions>(lib: &L, cases: usize, seed: u64) -> Tally {
+    let mut rng = Rng::new(seed);
+    let mut tally = Tally::new("what merging keeps");
     let mut kept = 0;
     for _ in 0..cases {
         let merging = grouping::merging(&mut rng);
         if let Some(small) = merge_case(lib, &mut rng, &mut tally, &merging) {
-            if rng.chance(1, 5) {
-                kept += usize::from(keeps(lib, &mut rng, &merging, &small));
-            }
+            kept += usize::from(keeps(lib, &mut rng, &merging, &small));
         }
     }
-    tally.require(&[2, 3, 4, 5, 12, 13, 14]);
-    assert!(kept > cases / 50, "{tally}: only {kept} merges were asked a sentence with a path");
+    assert!(kept > cases / 10, "{tally}: only {kept} merges were asked a sentence with a path");
     tally
 }
 
@@ -37,7 +46,7 @@ fn shown(merging: &Merging) -> String {
 }
 
 /// One merge; gives the merged file if it was accepted.
-fn merge_case<L: Library>(lib: &L, rng: &mut Rng, tally: &mut Tally, merging: &Merging) -> Option<Vec<u8>> {
+fn merge_case<L: Merges>(lib: &L, rng: &mut Rng, tally: &mut Tally, merging: &Merging) -> Option<Vec<u8>> {
     let before = output(rng, merging.room);
     let mut written = before.clone();
     let expected = second::merge(&merging.file, &merging.grouping, &mut written);
@@ -78,7 +87,7 @@ impl Both<'_> {
     }
 
     /// The library's verdicts are those of the second program, and equal.
-    fn verdicts<L: Library>(&self, lib: &L, on_full: bool, on_small: bool) {
+    fn verdicts<L: Questions>(&self, lib: &L, on_full: bool, on_small: bool) {
         let mut work = vec![0; WORK];
         let got = [&self.merging.file[..], self.small].map(|file| lib.verdict(file, &self.text, &mut work));
         agree("the verdict on full or merged", &[Ok(on_full), Ok(on_small)], &got, || self.told());
@@ -93,7 +102,7 @@ impl Both<'_> {
     }
 
     /// The library's fractions of a path at a tuple and at the tuple of its groups.
-    fn asked<L: Library>(&self, lib: &L, path: usize, at: usize, expected: (u64, u64)) {
+    fn asked<L: Questions>(&self, lib: &L, path: usize, at: usize, expected: (u64, u64)) {
         let (tuple, grouped) = self.tuples(at);
         let mut work = vec![0; WORK];
         let on_full = lib.numerator(&self.merging.file, &self.text, &tuple, path, &mut work);
@@ -105,7 +114,7 @@ impl Both<'_> {
 /// Asks one random sentence of both models: by the second program at every
 /// tuple, by the library at every tuple or a sample. Tells whether it had a path
 /// and was not refused.
-fn keeps<L: Library>(lib: &L, rng: &mut Rng, merging: &Merging, small: &[u8]) -> bool {
+fn keeps<L: Questions>(lib: &L, rng: &mut Rng, merging: &Merging, small: &[u8]) -> bool {
     let full = read_model(&merging.file).expect("a model that was merged");
     let most = rng.pick(&[36, 36, 100, 256]);
     let fits = |&letters: &usize| usize::from(full.n).pow(letters as u32) <= most;

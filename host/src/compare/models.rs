@@ -1,6 +1,6 @@
 //! The model reader and the model writer.
 
-use super::{agree, output, output_after, shown_file, Library, Tally};
+use super::{agree, output, output_after, shown_file, Models, Tally};
 use crate::gen::{model, Rng};
 use crate::second::model::{blocks_of, mend};
 use crate::second::{self, Model};
@@ -8,7 +8,7 @@ use crate::second::{self, Model};
 /// Compares reading on every length 0..3,600, every limit of the layout, every
 /// byte of a file changed, and `cases` random files; what is read is written
 /// again and gives the same file.
-pub fn compare_model_reader<L: Library>(lib: &L, cases: usize, seed: u64) -> Tally {
+pub fn compare_model_reader<L: Models>(lib: &L, cases: usize, seed: u64) -> Tally {
     let mut rng = Rng::new(seed);
     let mut tally = Tally::new("model reader");
     for length in 0..=3_600 {
@@ -30,7 +30,7 @@ pub fn compare_model_reader<L: Library>(lib: &L, cases: usize, seed: u64) -> Tal
 
 /// A file of three blocks with each of its bytes changed in turn, the checks as
 /// they were and mended.
-fn each_byte_changed<L: Library>(lib: &L, rng: &mut Rng, tally: &mut Tally) {
+fn each_byte_changed<L: Models>(lib: &L, rng: &mut Rng, tally: &mut Tally) {
     let good = model::file_of(&model::model_with(rng, 8, 9, 300));
     for place in 0..good.len() {
         let mut file = good.clone();
@@ -42,7 +42,7 @@ fn each_byte_changed<L: Library>(lib: &L, rng: &mut Rng, tally: &mut Tally) {
 }
 
 /// One file: read, and if accepted written again.
-fn reader_case<L: Library>(lib: &L, rng: &mut Rng, tally: &mut Tally, file: &[u8]) {
+fn reader_case<L: Models>(lib: &L, rng: &mut Rng, tally: &mut Tally, file: &[u8]) {
     let shown = || shown_file(file);
     let expected = second::read_model(file);
     let lent = file.to_vec();
@@ -61,7 +61,7 @@ fn reader_case<L: Library>(lib: &L, rng: &mut Rng, tally: &mut Tally, file: &[u8
 
 /// Compares writing on `cases` random records and outputs of every length about
 /// the right one; what is written is read again and gives the same model.
-pub fn compare_model_writer<L: Library>(lib: &L, cases: usize, seed: u64) -> Tally {
+pub fn compare_model_writer<L: Models>(lib: &L, cases: usize, seed: u64) -> Tally {
     let mut rng = Rng::new(seed);
     let mut tally = Tally::new("model writer");
     for _ in 0..cases {
@@ -73,7 +73,7 @@ pub fn compare_model_writer<L: Library>(lib: &L, cases: usize, seed: u64) -> Tal
 }
 
 /// One record: written, and if accepted read again.
-fn writer_case<L: Library>(lib: &L, rng: &mut Rng, tally: &mut Tally, record: &Model) {
+fn writer_case<L: Models>(lib: &L, rng: &mut Rng, tally: &mut Tally, record: &Model) {
     let shown = || format!("  record {record:?}\n");
     let exact = 512 * blocks_of(usize::from(record.n).min(32));
     let length = match rng.below(8) {

@@ -1,6 +1,6 @@
 //! The sentence reader and the sentence writer.
 
-use super::{agree, output, output_after, shown_text, Library, Tally};
+use super::{agree, output, output_after, shown_text, Sentences, Tally};
 use crate::gen::{sentence, Rng};
 use crate::second::sentence::{LETTERS, NODES};
 use crate::second::{self, Node, Sentence};
@@ -8,7 +8,7 @@ use crate::second::{self, Node, Sentence};
 /// Compares reading on `cases` random texts, and on texts of every length
 /// 0..600 and some far beyond, and on a text with every byte changed in every
 /// way; what is read is written again and gives the same text.
-pub fn compare_sentence_reader<L: Library>(lib: &L, cases: usize, seed: u64) -> Tally {
+pub fn compare_sentence_reader<L: Sentences>(lib: &L, cases: usize, seed: u64) -> Tally {
     let mut rng = Rng::new(seed);
     let mut tally = Tally::new("sentence reader");
     for length in (0..=600).chain([65_535, 65_536, 65_539, 1_000_000]) {
@@ -30,7 +30,7 @@ const FORMS: &[u8] =
 
 /// That text with each byte taken out, and each byte put in the place of one
 /// and before it.
-fn each_byte_changed<L: Library>(lib: &L, rng: &mut Rng, tally: &mut Tally) {
+fn each_byte_changed<L: Sentences>(lib: &L, rng: &mut Rng, tally: &mut Tally) {
     for place in 0..FORMS.len() {
         let (front, back) = FORMS.split_at(place);
         reader_case(lib, rng, tally, &[front, &back[1..]].concat());
@@ -56,7 +56,7 @@ fn of_length(rng: &mut Rng, length: usize) -> Vec<u8> {
 }
 
 /// One text: read, and if accepted written again.
-fn reader_case<L: Library>(lib: &L, rng: &mut Rng, tally: &mut Tally, text: &[u8]) {
+fn reader_case<L: Sentences>(lib: &L, rng: &mut Rng, tally: &mut Tally, text: &[u8]) {
     let shown = || shown_text(text);
     let expected = second::read_sentence(text);
     let lent = text.to_vec();
@@ -75,7 +75,7 @@ fn reader_case<L: Library>(lib: &L, rng: &mut Rng, tally: &mut Tally, text: &[u8
 
 /// Compares writing on `cases` random records and outputs of every length about
 /// the right one; what is written is read again and gives the same sentence.
-pub fn compare_sentence_writer<L: Library>(lib: &L, cases: usize, seed: u64) -> Tally {
+pub fn compare_sentence_writer<L: Sentences>(lib: &L, cases: usize, seed: u64) -> Tally {
     let mut rng = Rng::new(seed);
     let mut tally = Tally::new("sentence writer");
     for _ in 0..cases {
@@ -87,7 +87,7 @@ pub fn compare_sentence_writer<L: Library>(lib: &L, cases: usize, seed: u64) -> 
 }
 
 /// One record: written, and if accepted read again.
-fn writer_case<L: Library>(lib: &L, rng: &mut Rng, tally: &mut Tally, record: &Sentence) {
+fn writer_case<L: Sentences>(lib: &L, rng: &mut Rng, tally: &mut Tally, record: &Sentence) {
     let shown = || format!("  record {record:?}\n");
     let exact = second::write_sentence(record, &mut [0; 400]).unwrap_or(400);
     let length = match rng.below(8) {
