@@ -16,6 +16,7 @@ use Rattle.refusal.specs.Rows.{Given, none, more, first}
 use Rattle.refusal.specs.Answers.{Writes, writtenOf, unlessRefused, atFront, leftBy}
 use Rattle.refusal.specs.declared.Written.{Written}
 use Rattle.refusal.specs.declared.Written.the-variants.{Wrote}
+use Rattle.refusal.proofs.Answered.{one-writing}
 use Rattle.refusal.proofs.Laws.{smallest, none-here}
 use Rattle.model.specs.declared.Model.{Model}
 use Rattle.model.specs.Layout.{fieldsOf, fileOf}
@@ -44,6 +45,15 @@ merge-smallest file grouping room =
     (more {low = 0} (omega arith)
     (more (omega arith)
     (more (omega arith) (more (omega arith) (more (omega arith) (more (omega arith) (more (omega arith) none)))))))
+
+-- ---- one result
+
+-- any two results that merge's contract allows are equal: the answer, and what the output then holds
+pub one-merging : (file grouping : List ℕ) {before after after′ : List ℕ} {r r′ : Written} →
+    Writes (mergeNumber file grouping (length before)) (mergedFile file grouping) before after r →
+    Writes (mergeNumber file grouping (length before)) (mergedFile file grouping) before after′ r′ →
+    (r ≡ r′) × (after ≡ after′)
+one-merging file grouping w w′ = one-writing w w′
 
 -- ---- what is not refused
 
