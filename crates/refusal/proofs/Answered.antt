@@ -4,6 +4,8 @@ use mathlib.Core.List.{List}
 use mathlib.Core.Path.{_≡_, refl, sym, ap, _∙_}
 use lib.ListN.{length}
 use Rattle.refusal.specs.declared.Outcome.{Outcome}
+use native.Mathlib.Omega.{arith}
+use Rattle.refusal.specs.declared.Outcome.the-variants.{Done, Refused}
 use Rattle.refusal.specs.declared.Written.{Written}
 use Rattle.refusal.specs.declared.Written.the-variants.{Wrote, Refused as Unwritten}
 use Rattle.refusal.specs.Answers.{numberOf, outcomeOf, unlessRefused, refusalOf, writtenOf, atFront, leftBy, Writes}
@@ -42,3 +44,21 @@ writes-done text {before} e a l = record {
   answered = a ∙ sym (ap (λ (n : ℕ). writtenOf n (length text)) e);
   left = l ∙ sym (ap (λ (n : ℕ). leftBy n text before) e);
 }
+
+-- ---- what a caller learns from an answer
+
+-- a refusal: its number is the rows' number, and what depends on the number is the refusal's
+pub outcome-refused : (n k : ℕ) → outcomeOf n ≡ Refused k → (n ≡ k) × ((A : Type 0) (value empty : A) → unlessRefused n value empty ≡ empty)
+unfolding outcomeOf unlessRefused
+outcome-refused zero k e = let z : _≡_ {A = ℕ} 0 1 = cc in absurd (omega arith)
+outcome-refused (suc n) k e = (cc, λ A value empty. refl)
+
+-- no refusal
+pub outcome-done : (n : ℕ) → outcomeOf n ≡ Done → n ≡ 0
+unfolding outcomeOf
+outcome-done zero e = refl
+outcome-done (suc n) e = let z : _≡_ {A = ℕ} 0 1 = cc in absurd (omega arith)
+
+pub value-accepted : (n : ℕ) → n ≡ 0 → (A : Type 0) (value empty : A) → unlessRefused n value empty ≡ value
+unfolding unlessRefused
+value-accepted n e A value empty = ap (λ (k : ℕ). unlessRefused k value empty) e

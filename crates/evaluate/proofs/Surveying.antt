@@ -1,0 +1,175 @@
+-- What a survey finds of a node, from what it found of the nodes after it.
+use Prim.Native.Nat.{ℕ, suc, _+_, _≤_, _<_, max}
+use mathlib.Core.Bool.{Bool, true, false, cond}
+use mathlib.Core.List.{List}
+use mathlib.Core.Path.{_≡_, refl, sym, ap, ap₂, subst, _∙_}
+use native.Mathlib.Omega.{arith}
+use lib.Dec.{eqb}
+use Rattle.sentence.specs.declared.Relation as Spelled
+use Rattle.sentence.specs.declared.Slot.{Slot}
+use Rattle.sentence.specs.declared.Node.{Node}
+use Rattle.sentence.specs.declared.Node.the-variants.{True, Label, Not, And, Compare, Probability, Constant, Sum, Difference, Product, Next, Until}
+use Rattle.meaning.specs.Tree.{Formula, Expression, PathFormula}
+use Rattle.trees.specs.Need.{paired, need, needIn, needFrom}
+use Rattle.trees.specs.Standing.{nodeAt, FormulaAt, ExpressionAt, PathAt}
+use Rattle.trees.proofs.Cases.{FormulaCase, ExpressionCase, PathCase, formula-case, expression-case, path-case, formula-place, expression-place, path-place}
+use Rattle.evaluate.specs.declared.survey.Extent.{Extent}
+use Rattle.evaluate.specs.Surveys.{Surveyed, SurveyedTwo}
+
+-- two operands need at most one more than the larger
+paired-few : (a b : ℕ) → paired a b ≤ max a b + 1
+paired-few a b = go (eqb a b) refl
+  where
+    go : (t : Bool) → eqb a b ≡ t → cond t (suc a) (max a b) ≤ max a b + 1
+    go true e = omega arith
+    go false e = omega arith
+
+-- bounds that hold of any nodes
+pub record Bounded (at : ℕ) (r : Extent) : Type 0 where
+  pub forward : at ≤ r .next
+  pub within : r .next ≤ 64
+  pub few : r .layers + at ≤ r .next + 3
+
+module _ (slots : List Slot) (at : ℕ) (r : Extent) where
+  -- by the node at the place
+  by-node : (n : Node) → nodeAt slots at ≡ n → Bounded at r →
+      ((f : Formula) (q : ℕ) → FormulaCase slots at n f q → (r .next ≡ q) × (r .layers ≡ need f)) →
+      ((a : Expression) (q : ℕ) → ExpressionCase slots at n a q → (r .next ≡ q) × (r .layers ≡ needIn a)) →
+      ((w : PathFormula) (q : ℕ) → PathCase slots at n w q → (r .next ≡ q) × (r .layers ≡ needFrom w)) → Surveyed slots at r
+  by-node n e b f a w = record {
+    forward = b .forward;
+    within = b .within;
+    few = b .few;
+    formula = λ x q h. f x q (formula-case slots at n e h);
+    expression = λ x q h. a x q (expression-case slots at n e h);
+    path = λ x q h. w x q (path-case slots at n e h);
+  }
+
+  -- past the last place no tree stands
+  pub surveyed-past : 64 ≤ at → at ≤ 64 → r .next ≡ at → r .layers ≡ 1 → Surveyed slots at r
+  surveyed-past h l e k = record {
+    forward = omega arith;
+    within = omega arith;
+    few = omega arith;
+    formula = λ f q w. absurd (let p = formula-place slots at w in omega arith);
+    expression = λ f q w. absurd (let p = expression-place slots at w in omega arith);
+    path = λ f q w. absurd (let p = path-place slots at w in omega arith);
+  }
+
+  module _ (room : at < 64) where
+    module _ (e : r .next ≡ at + 1) (k : r .layers ≡ 1) where
+      leaf : Bounded at r
+      leaf = record { forward = omega arith; within = omega arith; few = omega arith }
+
+      pub surveyed-true : nodeAt slots at ≡ True → Surveyed slots at r
+      unfolding need
+      surveyed-true n = by-node True n leaf (λ f q w. (e ∙ sym (w .1), k ∙ ap need (sym (w .0)))) (λ a q w. absurd w) (λ a q w. absurd w)
+
+      pub surveyed-label : (l i : ℕ) → nodeAt slots at ≡ Label l i → Surveyed slots at r
+      unfolding need
+      surveyed-label l i n = by-node (Label l i) n leaf (λ f q w. (e ∙ sym (w .1), k ∙ ap need (sym (w .0)))) (λ a q w. absurd w) (λ a q w. absurd w)
+
+      pub surveyed-constant : (a b : ℕ) → nodeAt slots at ≡ Constant a b → Surveyed slots at r
+      unfolding needIn
+      surveyed-constant a b n = by-node (Constant a b) n leaf (λ f q w. absurd w) (λ a q w. (e ∙ sym (w .1), k ∙ ap needIn (sym (w .0)))) (λ a q w. absurd w)
+
+    module _ (s : Surveyed slots (at + 1) r) where
+      one : Bounded at r
+      one = record { forward = omega arith; within = s .within; few = omega arith }
+
+      pub surveyed-not : nodeAt slots at ≡ Not → Surveyed slots at r
+      unfolding need
+      surveyed-not n = by-node Not n one
+          (λ f q w.
+          let h = s .formula (w .0) q (w .2) in
+          (h .0, h .1 ∙ ap need (sym (w .1))))
+          (λ a q w. absurd w) (λ a q w. absurd w)
+
+      pub surveyed-probability : nodeAt slots at ≡ Probability → Surveyed slots at r
+      unfolding needIn
+      surveyed-probability n = by-node Probability n one (λ f q w. absurd w)
+          (λ f q w.
+          let h = s .path (w .0) q (w .2) in
+          (h .0, h .1 ∙ ap needIn (sym (w .1))))
+          (λ a q w. absurd w)
+
+      pub surveyed-next : nodeAt slots at ≡ Next → Surveyed slots at r
+      unfolding needFrom
+      surveyed-next n = by-node Next n one (λ f q w. absurd w) (λ a q w. absurd w)
+          (λ f q w.
+          let h = s .formula (w .0) q (w .2) in
+          (h .0, h .1 ∙ ap needFrom (sym (w .1))))
+
+    module _ (s : SurveyedTwo slots (at + 1) r) where
+      two : Bounded at r
+      two = record { forward = omega arith; within = s .within; few = omega arith }
+
+      pub surveyed-and : nodeAt slots at ≡ And → Surveyed slots at r
+      unfolding need
+      surveyed-and n = by-node And n two
+          (λ f q w.
+          let h = s .formulas (w .0) (w .1) (w .2) q (w .4) (w .5) in
+          (h .0, h .1 ∙ ap need (sym (w .3))))
+          (λ a q w. absurd w) (λ a q w. absurd w)
+
+      pub surveyed-compare : (rel : Spelled.Relation) → nodeAt slots at ≡ Compare rel → Surveyed slots at r
+      unfolding need
+      surveyed-compare rel n = by-node (Compare rel) n two
+          (λ f q w.
+          let h = s .expressions (w .1) (w .2) (w .3) q (w .6) (w .7) in
+          (h .0, h .1 ∙ ap need (sym (w .4))))
+          (λ a q w. absurd w) (λ a q w. absurd w)
+
+      pub surveyed-sum : nodeAt slots at ≡ Sum → Surveyed slots at r
+      unfolding needIn
+      surveyed-sum n = by-node Sum n two (λ a q w. absurd w)
+          (λ f q w.
+          let h = s .expressions (w .0) (w .1) (w .2) q (w .4) (w .5) in
+          (h .0, h .1 ∙ ap needIn (sym (w .3))))
+          (λ a q w. absurd w)
+
+      pub surveyed-difference : nodeAt slots at ≡ Difference → Surveyed slots at r
+      unfolding needIn
+      surveyed-difference n = by-node Difference n two (λ a q w. absurd w)
+          (λ f q w.
+          let h = s .expressions (w .0) (w .1) (w .2) q (w .4) (w .5) in
+          (h .0, h .1 ∙ ap needIn (sym (w .3))))
+          (λ a q w. absurd w)
+
+      pub surveyed-product : nodeAt slots at ≡ Product → Surveyed slots at r
+      unfolding needIn
+      surveyed-product n = by-node Product n two (λ a q w. absurd w)
+          (λ f q w.
+          let h = s .expressions (w .0) (w .1) (w .2) q (w .4) (w .5) in
+          (h .0, h .1 ∙ ap needIn (sym (w .3))))
+          (λ a q w. absurd w)
+
+-- an until computes in a third layer
+pub surveyed-until : (slots : List Slot) (at : ℕ) (t r : Extent) → at < 64 → SurveyedTwo slots (at + 1) t →
+    r .next ≡ t .next → r .layers ≡ max 3 (t .layers) → (k1 k2 : ℕ) → nodeAt slots at ≡ Until k1 k2 → Surveyed slots at r
+unfolding needFrom
+surveyed-until slots at t r room s e k k1 k2 n = by-node slots at r (Until k1 k2) n
+    (record { forward = omega arith; within = omega arith; few = omega arith })
+    (λ f q w. absurd w) (λ a q w. absurd w)
+    (λ f q w.
+    let h = s .formulas (w .0) (w .1) (w .2) q (w .4) (w .5) in
+    (e ∙ h .0, k ∙ ap (max 3) (h .1) ∙ ap needFrom (sym (w .3))))
+
+-- two trees, one after another
+pub surveyed-two : (slots : List Slot) (at : ℕ) (a b r : Extent) → Surveyed slots at a → Surveyed slots (a .next) b →
+    r .next ≡ b .next → r .layers ≡ paired (a .layers) (b .layers) → SurveyedTwo slots at r
+surveyed-two slots at a b r s t e k = record {
+  forward = omega arith;
+  within = omega arith;
+  few =
+      let p = paired-few (a .layers) (b .layers) in
+      omega arith;
+  formulas = λ f g m q v w.
+      let x = s .formula f m v in
+      let y = t .formula g q (subst (λ (m : ℕ). FormulaAt slots m g q) (sym (x .0)) w) in
+      (e ∙ y .0, k ∙ ap₂ paired (x .1) (y .1));
+  expressions = λ f g m q v w.
+      let x = s .expression f m v in
+      let y = t .expression g q (subst (λ (m : ℕ). ExpressionAt slots m g q) (sym (x .0)) w) in
+      (e ∙ y .0, k ∙ ap₂ paired (x .1) (y .1));
+}

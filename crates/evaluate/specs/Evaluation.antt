@@ -1,0 +1,170 @@
+-- What evaluating a tree's nodes asks and leaves: the front layer of the work area holds, at every tuple, the meaning's own
+-- function of the tree that stands at the place.
+use Prim.Native.Nat.{ℕ, _+_, _*_, _^_, _≤_, _<_}
+use mathlib.Core.Bool.{Bool, false}
+use mathlib.Core.List.{List}
+use mathlib.Core.Path.{_≡_}
+use lib.Dec.{eqb}
+use lib.ListN.{length, getD, drop}
+use Rattle.sentence.specs.declared.Relation as Spelled
+use Rattle.sentence.specs.declared.Relation.the-variants.{Less, AtMost, Equal, AtLeast, Greater}
+use Rattle.sentence.specs.declared.Slot.{Slot}
+use Rattle.meaning.specs.Chain.{Chain, Tuple}
+use Rattle.meaning.specs.Tree.{Relation, less, atMost, equal, atLeast, greater, Formula, Expression, PathFormula}
+use Rattle.meaning.specs.Meaning.{holds, hasLabel, numerator, denominator}
+use Rattle.meaning.specs.Size.{size, exceeds, exceedsIn, exceedsFrom}
+use Rattle.layers.specs.Layers.{Layer, truth, bitAt}
+use Rattle.layers.specs.Steps.{Holds, Sizes}
+use Rattle.fractions.specs.Values.{numerators, expressionOf}
+use Rattle.fractions.specs.declared.Operation.{Operation}
+use Rattle.trees.specs.Need.{paired, need, needIn, needFrom}
+use Rattle.trees.specs.Ranged.{Ranged, RangedIn, RangedFrom}
+use Rattle.trees.specs.Standing.{FormulaAt, ExpressionAt, PathAt}
+use Rattle.evaluate.specs.declared.Setting.{Setting}
+use Rattle.evaluate.specs.declared.Valued.{Valued}
+use Rattle.evaluate.specs.declared.ValuedTwo.{ValuedTwo}
+
+-- the relation that a comparison's node says
+abbrev pub unspelled : Spelled.Relation → Relation
+unspelled Less = less
+unspelled AtMost = atMost
+unspelled Equal = equal
+unspelled AtLeast = atLeast
+unspelled Greater = greater
+
+-- the first two layers have changed places, and no other number has changed
+pub record Swapped (T : ℕ) (before after : List ℕ) : Type 0 where
+  pub long : length after ≡ length before
+  pub first : (k : ℕ) → k < T → getD after k 0 ≡ getD before (T + k) 0
+  pub second : (k : ℕ) → k < T → getD after (T + k) 0 ≡ getD before k 0
+
+-- the chain is the one that the masks and the rows hold, in this setting
+pub record Fixed (c : Chain) (masks : List ℕ) (rows : List (List ℕ)) (g : Setting) : Type 0 where
+  pub held : Holds c rows (g .states)
+  pub labels : (l s : ℕ) → s < g .states → c .label l s ≡ eqb (bitAt masks l s) 1
+  pub sums : c .D ≡ g .d
+  pub weighed : 1 ≤ g .d
+  pub sizes : Sizes (g .states) (g .variables) (g .tuples)
+
+-- ---- a label
+
+pub record LabelReady (g : Setting) (masks : List ℕ) (l variable : ℕ) (w : List ℕ) : Type 0 where
+  pub letter : l < 16
+  pub some : 1 ≤ variable
+  pub bound : variable ≤ g .variables
+  pub few : g .variables ≤ 4
+  pub sizes : Sizes (g .states) (g .variables) (g .tuples)
+  pub room : g .tuples ≤ length w
+
+pub record LabelDone (g : Setting) (masks : List ℕ) (l variable : ℕ) (after : List ℕ) : Type 0 where
+  pub each : (c : Chain) → ((s : ℕ) → s < g .states → c .label l s ≡ eqb (bitAt masks l s) 1) →
+      Layer (g .states) (g .variables) (truth (hasLabel c l variable)) after
+
+module _ (nodes : List Slot) (g : Setting) (masks : List ℕ) (rows : List (List ℕ)) where
+  -- a tree of each kind stands at the place; its numbers are in their ranges, the size rule does not refuse it, and there
+  -- is room for the layers that it needs
+  pub record FormulaReady (at : ℕ) (w : List ℕ) : Type 0 where
+    pub chain : Chain
+    pub fixed : Fixed chain masks rows g
+    pub few : g .variables ≤ 4
+    pub formula : Formula
+    pub end : ℕ
+    pub stands : FormulaAt nodes at formula end
+    pub ranged : Ranged (g .variables) formula
+    pub fits : exceeds formula (chain .D) (g .variables) ≡ false
+    pub room : need formula * g .tuples ≤ length w
+
+  pub record ExpressionReady (at : ℕ) (w : List ℕ) : Type 0 where
+    pub chain : Chain
+    pub fixed : Fixed chain masks rows g
+    pub few : g .variables ≤ 4
+    pub expression : Expression
+    pub end : ℕ
+    pub stands : ExpressionAt nodes at expression end
+    pub ranged : RangedIn (g .variables) expression
+    pub fits : exceedsIn expression (chain .D) (g .variables) ≡ false
+    pub room : needIn expression * g .tuples ≤ length w
+
+  pub record PathReady (at : ℕ) (w : List ℕ) : Type 0 where
+    pub chain : Chain
+    pub fixed : Fixed chain masks rows g
+    pub few : g .variables ≤ 4
+    pub path : PathFormula
+    pub end : ℕ
+    pub stands : PathAt nodes at path end
+    pub ranged : RangedFrom (g .variables) path
+    pub fits : exceedsFrom path (chain .D) (g .variables) ≡ false
+    pub small : denominator path (chain .D) (g .variables) ≤ 2 ^ 62
+    pub room : needFrom path * g .tuples ≤ length w
+
+  -- two of a kind, one after another
+  pub record FormulasReady (at : ℕ) (w : List ℕ) : Type 0 where
+    pub chain : Chain
+    pub fixed : Fixed chain masks rows g
+    pub few : g .variables ≤ 4
+    pub first : Formula
+    pub second : Formula
+    pub middle : ℕ
+    pub end : ℕ
+    pub stands : FormulaAt nodes at first middle
+    pub follows : FormulaAt nodes middle second end
+    pub ranged : Ranged (g .variables) first × Ranged (g .variables) second
+    pub fits : exceeds first (chain .D) (g .variables) ≡ false
+    pub fits′ : exceeds second (chain .D) (g .variables) ≡ false
+    pub room : paired (need first) (need second) * g .tuples ≤ length w
+
+  pub record ExpressionsReady (at : ℕ) (w : List ℕ) : Type 0 where
+    pub chain : Chain
+    pub fixed : Fixed chain masks rows g
+    pub few : g .variables ≤ 4
+    pub first : Expression
+    pub second : Expression
+    pub middle : ℕ
+    pub end : ℕ
+    pub stands : ExpressionAt nodes at first middle
+    pub follows : ExpressionAt nodes middle second end
+    pub ranged : RangedIn (g .variables) first × RangedIn (g .variables) second
+    pub fits : exceedsIn first (chain .D) (g .variables) ≡ false
+    pub fits′ : exceedsIn second (chain .D) (g .variables) ≡ false
+    pub room : paired (needIn first) (needIn second) * g .tuples ≤ length w
+
+  -- what is left, of whatever tree stands there and of whatever chain is held
+  pub record FormulaDone (at : ℕ) (after : List ℕ) (r : ℕ) : Type 0 where
+    pub each : (c : Chain) (f : Formula) (q : ℕ) → Fixed c masks rows g → FormulaAt nodes at f q →
+        exceeds f (c .D) (g .variables) ≡ false →
+        (r ≡ q) × Layer (c .N) (g .variables) (truth (λ t. holds f c (g .variables) t)) after
+
+  pub record ExpressionDone (at : ℕ) (after : List ℕ) (r : Valued) : Type 0 where
+    pub each : (c : Chain) (a : Expression) (q : ℕ) → Fixed c masks rows g → ExpressionAt nodes at a q →
+        exceedsIn a (c .D) (g .variables) ≡ false →
+        (r .next ≡ q) × (r .bottom ≡ size a (c .D) (g .variables) .d) × Layer (c .N) (g .variables) (numerators a c (g .variables)) after
+
+  pub record PathDone (at : ℕ) (after : List ℕ) (r : Valued) : Type 0 where
+    pub each : (c : Chain) (w : PathFormula) (q : ℕ) → Fixed c masks rows g → PathAt nodes at w q →
+        exceedsFrom w (c .D) (g .variables) ≡ false →
+        (r .next ≡ q) × (r .bottom ≡ denominator w (c .D) (g .variables)) × Layer (c .N) (g .variables) (numerator w c (g .variables)) after
+
+  pub record FormulasDone (at : ℕ) (after : List ℕ) (r : ℕ) : Type 0 where
+    pub each : (c : Chain) (f h : Formula) (m q : ℕ) → Fixed c masks rows g → FormulaAt nodes at f m → FormulaAt nodes m h q →
+        exceeds f (c .D) (g .variables) ≡ false → exceeds h (c .D) (g .variables) ≡ false →
+        (r ≡ q) × Layer (c .N) (g .variables) (truth (λ t. holds f c (g .variables) t)) after ×
+        Layer (c .N) (g .variables) (truth (λ t. holds h c (g .variables) t)) (drop (g .tuples) after)
+
+  pub record ExpressionsDone (at : ℕ) (after : List ℕ) (r : ValuedTwo) : Type 0 where
+    pub each : (c : Chain) (a b : Expression) (m q : ℕ) → Fixed c masks rows g → ExpressionAt nodes at a m → ExpressionAt nodes m b q →
+        exceedsIn a (c .D) (g .variables) ≡ false → exceedsIn b (c .D) (g .variables) ≡ false →
+        (r .next ≡ q) × (r .first ≡ size a (c .D) (g .variables) .d) × (r .second ≡ size b (c .D) (g .variables) .d) ×
+        Layer (c .N) (g .variables) (numerators a c (g .variables)) after ×
+        Layer (c .N) (g .variables) (numerators b c (g .variables)) (drop (g .tuples) after)
+
+-- two expressions and what an operation makes of them
+module _ (op : Operation) (nodes : List Slot) (g : Setting) (masks : List ℕ) (rows : List (List ℕ)) where
+  pub record CombinedReady (at : ℕ) (w : List ℕ) : Type 0 where
+    pub two : ExpressionsReady nodes g masks rows at w
+    pub fits : exceedsIn (expressionOf op (two .first) (two .second)) (two .chain .D) (g .variables) ≡ false
+
+  pub record CombinedDone (at : ℕ) (after : List ℕ) (r : Valued) : Type 0 where
+    pub each : (c : Chain) (a b : Expression) (m q : ℕ) → Fixed c masks rows g → ExpressionAt nodes at a m → ExpressionAt nodes m b q →
+        exceedsIn (expressionOf op a b) (c .D) (g .variables) ≡ false →
+        (r .next ≡ q) × (r .bottom ≡ size (expressionOf op a b) (c .D) (g .variables) .d) ×
+        Layer (c .N) (g .variables) (numerators (expressionOf op a b) c (g .variables)) after

@@ -1,0 +1,28 @@
+-- What surveying the nodes of a tree finds: its end, and how many layers its evaluation needs.
+use Prim.Native.Nat.{ℕ, _+_, _-_, _≤_, _<_}
+use mathlib.Core.List.{List}
+use mathlib.Core.Path.{_≡_}
+use Rattle.sentence.specs.declared.Slot.{Slot}
+use Rattle.meaning.specs.Tree.{Formula, Expression, PathFormula}
+use Rattle.trees.specs.Need.{paired, need, needIn, needFrom}
+use Rattle.trees.specs.Standing.{FormulaAt, ExpressionAt, PathAt}
+use Rattle.evaluate.specs.declared.survey.Extent.{Extent}
+
+-- of whatever tree stands at the place; and bounds that hold of any nodes
+pub record Surveyed (slots : List Slot) (at : ℕ) (r : Extent) : Type 0 where
+  pub forward : at ≤ r .next
+  pub within : r .next ≤ 64
+  pub few : r .layers + at ≤ r .next + 3
+  pub formula : (f : Formula) (q : ℕ) → FormulaAt slots at f q → (r .next ≡ q) × (r .layers ≡ need f)
+  pub expression : (a : Expression) (q : ℕ) → ExpressionAt slots at a q → (r .next ≡ q) × (r .layers ≡ needIn a)
+  pub path : (w : PathFormula) (q : ℕ) → PathAt slots at w q → (r .next ≡ q) × (r .layers ≡ needFrom w)
+
+-- of two trees, one after another
+pub record SurveyedTwo (slots : List Slot) (at : ℕ) (r : Extent) : Type 0 where
+  pub forward : at ≤ r .next
+  pub within : r .next ≤ 64
+  pub few : r .layers + at ≤ r .next + 4
+  pub formulas : (f g : Formula) (m q : ℕ) → FormulaAt slots at f m → FormulaAt slots m g q →
+      (r .next ≡ q) × (r .layers ≡ paired (need f) (need g))
+  pub expressions : (a b : Expression) (m q : ℕ) → ExpressionAt slots at a m → ExpressionAt slots m b q →
+      (r .next ≡ q) × (r .layers ≡ paired (needIn a) (needIn b))

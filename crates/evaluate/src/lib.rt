@@ -1,0 +1,25 @@
+// Evaluation of a sentence's nodes at all tuples at once: every node has a layer of T numbers of the lent work area, a
+// state formula its truth, an expression its coded numerator, a path its numerator.
+pub mod plain;
+pub mod survey;
+
+// What evaluation is over: N states, n variables, T tuples, and D.
+pub struct Setting {
+    pub states: usize,
+    pub variables: usize,
+    pub tuples: usize,
+    pub d: u64,
+}
+
+// Where a node's nodes end, and the denominator of its value.
+pub struct Valued {
+    pub next: usize,
+    pub bottom: u64,
+}
+
+// Where the nodes of two expressions end, and their denominators.
+pub struct ValuedTwo {
+    pub next: usize,
+    pub first: u64,
+    pub second: u64,
+}

@@ -1,0 +1,62 @@
+// The calls of document 01 as other languages see them: functions on numbers and slices, with the answer codes that
+// include/twolsken.h states. Each is thin over the library's own call.
+ghost use mathlib.Core.Path.{_≡_};
+ghost use Rattle.model.specs.Layout.{modelOf};
+ghost use Rattle.exports.specs.Records.{ReadsModel, WritesModel};
+use model::Model;
+use model::matrix;
+use refusal::Outcome;
+use refusal::Written;
+
+// Read model: 0, and the model in the three lent parts (N, A and D; the masks; the weights), or the refusal's number
+// with the lent memory as it was.
+#[no_mangle]
+pub extern "C" fn twolsken_read_model(
+    file: &[u8],
+    head: &mut [u32; 3],
+    masks: &mut [u16; 32],
+    rows: &mut [[u16; 32]; 32],
+) -> u32
+    ensures { λ r. ⌜ ReadsModel (now (file .entry)) (now (head .entry)) (now (masks .entry)) (now (rows .entry)) (now (head .exit)) (now (masks .exit)) (now (rows .exit)) r ⌝ }
+{
+    let read = model::reader::read_model(file);
+    let outcome = read.outcome;
+    match outcome {
+        Outcome::Refused(number) => number as u32,
+        Outcome::Done => {
+            let m = read.model;
+            let lent = m.masks;
+            *head = [m.n as u32, m.a as u32, m.d];
+            *masks = lent;
+            *rows = matrix::rows_of(m.weights);
+            0
+        }
+    }
+}
+
+// Write model: the number of bytes written at the front of the output, or 2^32 plus the refusal's number with the output
+// as it was.
+#[no_mangle]
+pub extern "C" fn twolsken_write_model(
+    n: u8,
+    a: u8,
+    d: u32,
+    masks: &[u16; 32],
+    rows: &[[u16; 32]; 32],
+    out: &mut [u8],
+) -> u64
+    ensures { λ r. ⌜ WritesModel (modelOf n a d (now (masks .entry)) (now (rows .entry))) (now (out .entry)) (now (out .exit)) r ⌝ }
+{
+    let m = Model {
+        n: n,
+        a: a,
+        d: d,
+        masks: *masks,
+        weights: matrix::holding(*rows),
+    };
+    let written = model::writer::write_model(m, out);
+    match written {
+        Written::Wrote(size) => size as u64,
+        Written::Refused(number) => 4294967296 + number as u64,
+    }
+}

@@ -1,0 +1,101 @@
+-- Signed numbers on the machine: a numerator within 2^62 fits, is read back as it is, and its code is its own.
+use Prim.Native.Nat.{ℕ, zero, suc, _+_, _-_, _^_, _≤_, _<_}
+use mathlib.Core.Bool.{Bool, true, false, cond, true≢false, false≢true}
+use mathlib.Core.Path.{_≡_, refl, sym, ap, ap₂, subst, _∙_}
+use native.Mathlib.Nat.{le-refl, le-trans}
+use native.Mathlib.Omega.{arith}
+use borrow.Author.Tests.{lt-ltb, le-ltb, ltb-true, ltb-false}
+use lib.Dec.{T, ltb}
+use lib.IntN.{ℤ, pos, negsuc, negℤ, natAbs, _+ℤ_, _-ℤ_, +ℤ-idl}
+use lib.Signed.{mag, ltZ, nonNeg}
+use mir.Syntax.{w64}
+use mir.Val.{SFits, toZ, ofZ}
+use mir.Facts.{toZ-ofZ}
+use Rattle.meaning.proofs.Magnitude.{abs-diff}
+use Rattle.fractions.specs.Codes.{coded, decoded, Small}
+
+-- a number of size at most 2^62 fits
+mag-le : (z : ℤ) → mag z ≤ natAbs z
+mag-le (pos n) = le-refl n
+mag-le (negsuc n) = omega arith
+
+pub small-fits : (z : ℤ) → natAbs z ≤ 2 ^ 62 → SFits w64 z
+small-fits z h = record { sfits = omega (arith, mag-le z) }
+
+-- a number in the lower half is read as it is
+pub low-reads : (n : ℕ) → n < 2 ^ 63 → toZ w64 n ≡ pos n
+low-reads n h = toZ-ofZ {w = w64} {z = pos n} (record { sfits = h })
+
+-- an operation on numbers that were read back: it fits, and its result is read back
+module _ (op : ℤ → ℤ → ℤ) {a b a′ b′ : ℤ} (p : a′ ≡ a) (q : b′ ≡ b) where
+  pub op-fits : SFits w64 (op a b) → SFits w64 (op a′ b′)
+  op-fits h = subst (λ (z : ℤ). SFits w64 z) (sym (ap₂ op p q)) h
+
+  pub op-reads : SFits w64 (op a b) → toZ w64 (ofZ w64 (op a′ b′)) ≡ op a b
+  op-reads h = toZ-ofZ (op-fits h) ∙ ap₂ op p q
+
+-- nothing less a number is its negative
+pub negated : (z : ℤ) → pos 0 -ℤ z ≡ negℤ z
+negated z = +ℤ-idl (negℤ z)
+
+neg-fits : (n : ℕ) → n < 2 ^ 63 → SFits w64 (negℤ (pos n))
+neg-fits zero h = record { sfits = h }
+neg-fits (suc n) h = record { sfits = omega arith }
+
+pub negated-fits : (n : ℕ) → n < 2 ^ 63 → SFits w64 (pos 0 -ℤ pos n)
+negated-fits n h = subst (λ (z : ℤ). SFits w64 z) (sym (negated (pos n))) (neg-fits n h)
+
+-- what a code stands for is read back as it is
+decoded-fits : (x : ℕ) → x < 2 ^ 64 → SFits w64 (decoded x)
+decoded-fits x h = here (ltb x (2 ^ 63)) refl
+  where
+    here : (b : Bool) → ltb x (2 ^ 63) ≡ b → SFits w64 (cond b (pos x) (negℤ (pos (x - 2 ^ 63))))
+    here true e = record { sfits = ltb-true x (2 ^ 63) e }
+    here false e =
+        let l = ltb-false x (2 ^ 63) e in
+        neg-fits (x - 2 ^ 63) (omega arith)
+
+pub decoded-reads : {z : ℤ} (x : ℕ) → x < 2 ^ 64 → z ≡ decoded x → toZ w64 (ofZ w64 z) ≡ decoded x
+decoded-reads x h e = ap (λ (z : ℤ). toZ w64 (ofZ w64 z)) e ∙ toZ-ofZ (decoded-fits x h)
+
+pub minus-fits : (z : ℤ) → natAbs z ≤ 2 ^ 62 → natAbs (pos 0 -ℤ z) ≤ 2 ^ 62
+minus-fits z h = omega (arith, abs-diff (pos 0) z)
+
+-- a test below zero, and the code
+pub below-zero : (z : ℤ) → ltZ z (pos 0) ≡ true →
+    T (nonNeg (pos 0 -ℤ z)) × (9223372036854775808 + natAbs (pos 0 -ℤ z) ≡ coded z)
+below-zero (pos n) e =
+    let l = ltb-true n 0 e in
+    absurd (omega arith)
+below-zero (negsuc n) e = (tt, omega arith)
+
+pub not-below-zero : (z : ℤ) → ltZ z (pos 0) ≡ false → T (nonNeg z) × (natAbs z ≡ coded z)
+not-below-zero (pos n) e = (tt, refl)
+not-below-zero (negsuc n) e = absurd (true≢false e)
+
+-- what is coded is decoded
+pub decoded-coded : (z : ℤ) → Small z → decoded (coded z) ≡ z
+decoded-coded (pos n) h =
+    let size = h .size in
+    ap (λ b. cond b (pos n) (negℤ (pos (n - 2 ^ 63)))) (lt-ltb n (2 ^ 63) (omega arith))
+decoded-coded (negsuc n) h =
+    ap (λ b. cond b (pos (2 ^ 63 + suc n)) (negℤ (pos (2 ^ 63 + suc n - 2 ^ 63))))
+    (le-ltb (2 ^ 63 + suc n) (2 ^ 63) (omega arith)) ∙
+    ap (λ (x : ℕ). negℤ (pos x)) e
+  where
+    e : 2 ^ 63 + suc n - 2 ^ 63 ≡ suc n
+    e = omega arith
+
+-- and what is decoded is coded; no code is 2^63, a negative nothing
+pub coded-decoded : (x : ℕ) → (x ≡ 2 ^ 63 → ⊥) → coded (decoded x) ≡ x
+coded-decoded x other = here (ltb x (2 ^ 63)) refl
+  where
+    negative : (m : ℕ) → x ≡ 2 ^ 63 + m → coded (negℤ (pos m)) ≡ x
+    negative zero e = absurd (other (omega arith))
+    negative (suc m) e = sym e
+
+    here : (b : Bool) → ltb x (2 ^ 63) ≡ b → coded (cond b (pos x) (negℤ (pos (x - 2 ^ 63)))) ≡ x
+    here true e = refl
+    here false e =
+        let l = ltb-false x (2 ^ 63) e in
+        negative (x - 2 ^ 63) (omega arith)

@@ -1,0 +1,4 @@
+-- Signed numerators.
+pub mod Codes
+pub mod Operations
+pub mod Values

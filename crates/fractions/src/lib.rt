@@ -1,0 +1,57 @@
+// Fractions: expression numerators as i64, with their sign, over the denominators that the size rule bounds; and layers
+// of their codes.
+pub mod codes;
+pub mod signs;
+
+ghost use mathlib.Core.Path.{_≡_};
+ghost use Rattle.meaning.specs.Meaning.{related, compared};
+ghost use Rattle.fractions.specs.Operations.{over, operated, relationOf, OperandsFit, CrossesFit};
+
+// The three operations on expressions.
+pub enum Operation {
+    Sum,
+    Difference,
+    Product,
+}
+
+// The five comparisons.
+pub enum Relation {
+    Less,
+    AtMost,
+    Equal,
+    AtLeast,
+    Greater,
+}
+
+// The numerator of a sum, a difference or a product: of two numerators over their denominators.
+pub fn operate(op: Operation, a: i64, d1: u64, b: i64, d2: u64) -> i64
+    requires { ⌜ OperandsFit op a d1 b d2 ⌝ }
+    ensures { λ r. ⌜ r ≡ operated op (over a d1) (over b d2) .top ⌝ }
+{
+    match op {
+        Operation::Sum => signs::plus(signs::cross(a, d2), signs::cross(b, d1)),
+        Operation::Difference => signs::minus(signs::cross(a, d2), signs::cross(b, d1)),
+        Operation::Product => signs::times(a, b),
+    }
+}
+
+// Whether two whole numbers are so related.
+pub fn relate(relation: Relation, a: i64, b: i64) -> bool
+    ensures { λ r. ⌜ r ≡ related (relationOf relation) a b ⌝ }
+{
+    match relation {
+        Relation::Less => a < b,
+        Relation::AtMost => a <= b,
+        Relation::Equal => (a <= b) & (b <= a),
+        Relation::AtLeast => b <= a,
+        Relation::Greater => b < a,
+    }
+}
+
+// Whether two fractions are so related, by their cross products.
+pub fn compare(relation: Relation, a: i64, d1: u64, b: i64, d2: u64) -> bool
+    requires { ⌜ CrossesFit a d1 b d2 ⌝ }
+    ensures { λ r. ⌜ r ≡ compared (relationOf relation) (over a d1) (over b d2) ⌝ }
+{
+    relate(relation, signs::cross(a, d2), signs::cross(b, d1))
+}

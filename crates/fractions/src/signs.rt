@@ -1,0 +1,66 @@
+// Signed numerators: their coding in the work area, and the operations within the ends at 2^62.
+ghost use mathlib.Core.Path.{_≡_};
+ghost use Prim.Native.Nat.{_+_, _*_, _^_, _≤_, _<_};
+ghost use lib.IntN.{pos, natAbs, _+ℤ_, _-ℤ_, _*ℤ_};
+ghost use Rattle.fractions.specs.Codes.{coded, decoded, Small};
+
+// A denominator as a signed number.
+fn signed(x: u64) -> i64
+    requires { ⌜ x < 2 ^ 63 ⌝ }
+    ensures { λ r. ⌜ r ≡ pos x ⌝ }
+{
+    x as i64
+}
+
+// The sum, the difference and the product of two numerators.
+pub fn plus(a: i64, b: i64) -> i64
+    requires { ⌜ natAbs a + natAbs b ≤ 2 ^ 62 ⌝ }
+    ensures { λ r. ⌜ r ≡ a +ℤ b ⌝ }
+{
+    a + b
+}
+
+pub fn minus(a: i64, b: i64) -> i64
+    requires { ⌜ natAbs a + natAbs b ≤ 2 ^ 62 ⌝ }
+    ensures { λ r. ⌜ r ≡ a -ℤ b ⌝ }
+{
+    a - b
+}
+
+pub fn times(a: i64, b: i64) -> i64
+    requires { ⌜ natAbs a * natAbs b ≤ 2 ^ 62 ⌝ }
+    ensures { λ r. ⌜ r ≡ a *ℤ b ⌝ }
+{
+    a * b
+}
+
+// A cross product: a numerator times the other's denominator.
+pub fn cross(a: i64, d: u64) -> i64
+    requires { ⌜ (d ≤ 2 ^ 62) × (natAbs a * d ≤ 2 ^ 62) ⌝ }
+    ensures { λ r. ⌜ r ≡ a *ℤ pos d ⌝ }
+{
+    times(a, signed(d))
+}
+
+// The code of a numerator.
+pub fn code(x: i64) -> u64
+    requires { ⌜ Small x ⌝ }
+    ensures { λ r. ⌜ r ≡ coded x ⌝ }
+{
+    if x < 0 {
+        9223372036854775808 + ((0 - x) as u64)
+    } else {
+        x as u64
+    }
+}
+
+// The numerator of a code.
+pub fn decode(x: u64) -> i64
+    ensures { λ r. ⌜ r ≡ decoded x ⌝ }
+{
+    if x < 9223372036854775808 {
+        x as i64
+    } else {
+        0 - ((x - 9223372036854775808) as i64)
+    }
+}

@@ -1,0 +1,123 @@
+-- `layers::until::until` meets its contract: the invariant is the layer with so many steps left.
+use borrow.Author.Needs.{needs}
+use Prim.Native.Nat.{ℕ, _+_, _*_, _-_, _^_, _≤_}
+use mathlib.Core.Logic.{inl, inr}
+use mathlib.Core.Path.{_≡_, sym, subst, _∙_}
+use native.Mathlib.Omega.{arith}
+use Rattle.layers.proofs.Untils.{Untiling, untiling-none, untiling-next, untiling-all}
+use Rattle.layers.proofs.Untils.{next-power, power-fits, turn-fits}
+use Rattle.layers.proofs.Untils.{copied-fits, copied-same, copied-taken}
+use Rattle.layers.proofs.until.until.Statement.{statement}
+use Rattle.layers.proofs.until.until.Tie as tie
+
+abbrev Inv-loop : tie.InvT-loop
+Inv-loop rows states variables d k1 k2 tuples work₀ all₀ left₀ work all left =
+    Untiling rows states variables tuples d k1 k2 work₀ all left work
+
+abbrev μ-loop : tie.MeasureT-loop
+μ-loop rows states variables d k1 k2 tuples work₀ all₀ left₀ work all left = k2 - left
+
+add-copy : tie.Need-add-copy Inv-loop μ-loop
+add-copy c = omega (arith, c .before .pre .room)
+
+copy-requires : tie.Need-copy-requires Inv-loop μ-loop
+copy-requires c κs =
+    let room = c .before .before .pre .room in
+    (omega arith, omega arith, inl (omega arith))
+
+loop-holds : tie.Need-loop-holds Inv-loop μ-loop
+loop-holds c =
+    let pre = c .before .before .before .before .before .pre in
+    let copied = c .before .before .copy .ensures in
+    untiling-none (copied-fits pre copied) (copied-same pre copied)
+
+add-next : tie.Need-add-next Inv-loop μ-loop
+add-next c = search needs
+
+scaled-requires : tie.Need-scaled-requires Inv-loop μ-loop
+scaled-requires c κs =
+    let at-loop = c .before in
+    let start = at-loop .before .before .before .before .before .before in
+    let copied = at-loop .before .before .before .copy .ensures in
+    let fits = copied-fits (start .pre) copied in
+    let h = at-loop .loop .inv in
+    (start .pre .weighed, omega (arith, next-power fits h (omega arith), power-fits fits h (omega arith)))
+
+sub-turn : tie.Need-sub-turn Inv-loop μ-loop
+sub-turn c = search needs
+
+turn-requires : tie.Need-turn-requires Inv-loop μ-loop
+turn-requires c κs =
+    let at-loop = c .before .before .before in
+    let start = at-loop .before .before .before .before .before .before in
+    let copied = at-loop .before .before .before .copy .ensures in
+    let fits = copied-fits (start .pre) copied in
+    turn-fits fits (at-loop .loop .inv) (omega arith)
+
+loop-less : tie.Need-loop-less Inv-loop μ-loop
+loop-less c = search needs
+
+loop-again : tie.Need-loop-again Inv-loop μ-loop
+loop-again c =
+    let at-loop = c .before .before .before .before .before .before in
+    let start = at-loop .before .before .before .before .before .before in
+    let copied = at-loop .before .before .before .copy .ensures in
+    let fits = copied-fits (start .pre) copied in
+    untiling-next fits (at-loop .loop .inv) (omega arith) (c .before .before .before .before .scaled .ensures)
+    (c .before .before .turn .ensures)
+
+add-copy-2 : tie.Need-add-copy-2 Inv-loop μ-loop
+add-copy-2 c =
+    let at-loop = c .before in
+    let start = at-loop .before .before .before .before .before .before in
+    let copied = at-loop .before .before .before .copy .ensures in
+    let fits = copied-fits (start .pre) copied in
+    omega (arith, start .pre .room)
+
+copy-requires-2 : tie.Need-copy-requires-2 Inv-loop μ-loop
+copy-requires-2 c κs =
+    let at-loop = c .before .before in
+    let start = at-loop .before .before .before .before .before .before in
+    let copied = at-loop .before .before .before .copy .ensures in
+    let fits = copied-fits (start .pre) copied in
+    let room = start .pre .room in
+    let long = at-loop .loop .inv .long in
+    let first = copied .long in
+    (omega arith, omega arith, inr (omega arith))
+
+same-length : tie.Need-same-length Inv-loop μ-loop
+same-length c =
+    let at-loop = c .before .before .before .before .before in
+    let start = at-loop .before .before .before .before .before .before in
+    let copied = at-loop .before .before .before .copy .ensures in
+    let fits = copied-fits (start .pre) copied in
+    c .before .before .copy2 .ensures .long ∙ at-loop .loop .inv .long ∙ copied .long
+
+returns : tie.Need-returns Inv-loop μ-loop
+returns c =
+    let at-loop = c .before .before .before .before .before in
+    let start = at-loop .before .before .before .before .before .before in
+    let copied = at-loop .before .before .before .copy .ensures in
+    let fits = copied-fits (start .pre) copied in
+    copied-taken (start .pre) copied
+    (untiling-all fits (at-loop .loop .inv) (omega arith) (c .before .before .copy2 .ensures))
+
+pub until-spec : {M : Type 1} → statement M
+until-spec =
+    tie.close
+    (tie.spec
+    Inv-loop
+    μ-loop
+    add-copy
+    copy-requires
+    loop-holds
+    add-next
+    scaled-requires
+    sub-turn
+    turn-requires
+    loop-less
+    loop-again
+    add-copy-2
+    copy-requires-2
+    same-length
+    returns)

@@ -1,0 +1,52 @@
+-- One variable's step at list level: the numbers of the tuples that differ in that variable alone are a column, N
+-- places `stride` apart.
+use Prim.Native.Nat.{ℕ, _+_, _*_, _/_, _%_, _^_, _≤_, _<_}
+use mathlib.Core.List.{List, []}
+use mathlib.Core.Path.{_≡_}
+use lib.ListN.{length, getD}
+use Rattle.counting.specs.Below.{sum}
+use Rattle.layers.specs.Layers.{Kept}
+
+-- the weight from state s to state t
+abbrev pub weightIn : List (List ℕ) → (s t : ℕ) → ℕ
+weightIn rows s t = getD (getD rows s []) t 0
+
+-- over all states t, the weight from s to t times the column's number at t; the column starts at `at`
+abbrev pub stepped : List (List ℕ) → (N stride : ℕ) → List ℕ → (at s : ℕ) → ℕ
+stepped rows N stride w at s = sum N (λ t. weightIn rows s t * getD w (at + t * stride) 0)
+
+-- a column lies in the list, and no sum of its step is above 2^62
+pub record ColumnFits (rows : List (List ℕ)) (N stride at : ℕ) (w : List ℕ) : Type 0 where
+  pub states : N ≤ 32
+  pub apart : 1 ≤ stride
+  pub inside : (s : ℕ) → s < N → at + s * stride < length w
+  pub fits : (s : ℕ) → s < N → stepped rows N stride w at s ≤ 2 ^ 62
+
+-- the column has been stepped, and no other number has changed
+pub record ColumnStepped (rows : List (List ℕ)) (N stride at : ℕ) (before after : List ℕ) : Type 0 where
+  pub long : length after ≡ length before
+  pub each : (s : ℕ) → s < N → getD after (at + s * stride) 0 ≡ stepped rows N stride before at s
+  pub same : (k : ℕ) → ((s : ℕ) → s < N → k ≡ at + s * stride → ⊥) → getD after k 0 ≡ getD before k 0
+
+-- where the column of place k starts: the place of the tuple in which the variable has state 0
+abbrev pub start : (N stride k : ℕ) → ℕ
+start N stride k = k / stride / N * (stride * N) + k % stride
+
+-- T places are whole columns of N states, no number is above `bound`, and D times `bound` is at most 2^62 for the sum D
+-- of any row
+pub record LayerFits (rows : List (List ℕ)) (N stride T : ℕ) (w : List ℕ) : Type 0 where
+  pub some : 1 ≤ N
+  pub states : N ≤ 32
+  pub apart : 1 ≤ stride
+  pub above : ℕ
+  pub whole : T ≡ above * N * stride
+  pub few : T ≤ 1024
+  pub room : T ≤ length w
+  pub bound : ℕ
+  pub small : (k : ℕ) → k < T → getD w k 0 ≤ bound
+  pub fits : (s : ℕ) → s < N → sum N (weightIn rows s) * bound ≤ 2 ^ 62
+
+-- every column has been stepped
+pub record LayerStepped (rows : List (List ℕ)) (N stride T : ℕ) (before after : List ℕ) : Type 0 where
+  pub each : (k : ℕ) → k < T → getD after k 0 ≡ stepped rows N stride before (start N stride k) (k / stride % N)
+  pub kept : Kept T before after

@@ -1,0 +1,5 @@
+-- Layers of numbers, one number for each tuple of states.
+pub mod Layers
+pub mod Columns
+pub mod Steps
+pub mod Untils

@@ -1,0 +1,102 @@
+// Layers that are filled number by number: zeros, and the truth of the formulas that need no step.
+ghost use mathlib.Core.Path.{_≡_};
+ghost use mathlib.Core.Bool.{cond};
+ghost use Prim.Native.Nat.{ℕ, _+_, _/_, _%_, _^_, _≤_, _<_};
+ghost use lib.Dec.{eqb};
+ghost use lib.ListN.{length};
+ghost use Rattle.layers.specs.Layers.{Written, negatedAt, bothAt, bitAt};
+
+// Sets the first numbers to one value.
+pub fn fill(value: u64, count: usize, work: &mut [u64])
+    requires { ⌜ count ≤ length (now work) ⌝ }
+    ensures { λ r. ⌜ Written count (λ k. value) (now (work .entry)) (now (work .exit)) ⌝ }
+{
+    let mut k: usize = 0;
+    while k < count {
+        work[k] = value;
+        k += 1;
+    }
+}
+
+// Sets the first numbers to 0.
+pub fn zero(count: usize, work: &mut [u64])
+    requires { ⌜ count ≤ length (now work) ⌝ }
+    ensures { λ r. ⌜ Written count (λ k. 0) (now (work .entry)) (now (work .exit)) ⌝ }
+{
+    fill(0, count, work);
+}
+
+// The truth of `true`: 1 at every tuple.
+pub fn always(tuples: usize, work: &mut [u64])
+    requires { ⌜ tuples ≤ length (now work) ⌝ }
+    ensures { λ r. ⌜ Written tuples (λ k. 1) (now (work .entry)) (now (work .exit)) ⌝ }
+{
+    fill(1, tuples, work);
+}
+
+// Bit l of a mask.
+fn bit_of(mask: u16, l: u8) -> u64
+    requires { ⌜ l < 16 ⌝ }
+    ensures { λ r. ⌜ r ≡ mask / 2 ^ l % 2 ⌝ }
+{
+    ((mask >> l) % 2) as u64
+}
+
+// The truth of a label: 1 at the tuples where the state of the variable has bit l in its mask. The variable's state
+// changes every `stride` tuples.
+pub fn labelled(
+    masks: &[u16; 32],
+    l: u8,
+    states: usize,
+    stride: usize,
+    tuples: usize,
+    work: &mut [u64],
+)
+    requires { ⌜ (l < 16) × (1 ≤ states) × (states ≤ 32) × (1 ≤ stride) × (tuples ≤ length (now work)) ⌝ }
+    ensures { λ r. ⌜ Written tuples (λ k. bitAt (now (masks .entry)) l (k / stride % states)) (now (work .entry)) (now (work .exit)) ⌝ }
+{
+    let mut k: usize = 0;
+    while k < tuples {
+        let s = k / stride % states;
+        work[k] = bit_of(masks[s], l);
+        k += 1;
+    }
+}
+
+// 1 for 0, and 0 for any other number.
+fn other(x: u64) -> u64
+    ensures { λ r. ⌜ r ≡ cond (eqb x 0) 1 0 ⌝ }
+{
+    if x == 0 { 1 } else { 0 }
+}
+
+// Not: 1 where the front layer has 0, and 0 elsewhere.
+pub fn negated(tuples: usize, work: &mut [u64])
+    requires { ⌜ tuples ≤ length (now work) ⌝ }
+    ensures { λ r. ⌜ Written tuples (negatedAt (now (work .entry))) (now (work .entry)) (now (work .exit)) ⌝ }
+{
+    let mut k: usize = 0;
+    while k < tuples {
+        work[k] = other(work[k]);
+        k += 1;
+    }
+}
+
+// x, or 0 where y is 0.
+fn where_met(x: u64, y: u64) -> u64
+    ensures { λ r. ⌜ r ≡ cond (eqb y 0) 0 x ⌝ }
+{
+    if y == 0 { 0 } else { x }
+}
+
+// And: 0 where the second layer has 0, and the front layer's number elsewhere.
+pub fn both(tuples: usize, work: &mut [u64])
+    requires { ⌜ tuples + tuples ≤ length (now work) ⌝ }
+    ensures { λ r. ⌜ Written tuples (bothAt tuples (now (work .entry))) (now (work .entry)) (now (work .exit)) ⌝ }
+{
+    let mut k: usize = 0;
+    while k < tuples {
+        work[k] = where_met(work[k], work[tuples + k]);
+        k += 1;
+    }
+}

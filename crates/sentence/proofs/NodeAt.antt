@@ -1,0 +1,197 @@
+-- What a node's own text is read as, by its first byte. Assumes nothing.
+use Prim.Native.Nat.{ℕ, suc, _+_, _-_, _≤_, _<_}
+use mathlib.Core.Bool.{Bool, true, false, _||_, _&&_, true≢false, and-false}
+use mathlib.Core.List.{List, [], _∷_, _++_, tail, append-assoc}
+use mathlib.Core.Logic.{_⊎_, ⊎-elim, inl, inr}
+use mathlib.Core.Path.{_≡_, refl, sym, ap, _∙_, subst}
+use native.Mathlib.Omega.{arith}
+use borrow.Author.Tests.{le-leb, lt-leb, ne-eqb}
+use lib.Dec.{leb, eqb}
+use lib.ListN.{length, drop, getD, length-set}
+use Rattle.sentence.specs.Grammar.{numberText, nodeText, Writable, kindOf, wants, Nests, bodyText, outOfRange}
+use Rattle.sentence.specs.Grammar.Nests.{end, node}
+use Rattle.sentence.specs.Reading.{keep, keepBad, passedTo, stoppedAt, Inside, Stuck, Result, Reads, NodeResult, NodeReads, NumbersResult}
+use Rattle.sentence.specs.Reading.Result.{stopped, stuck}
+use Rattle.sentence.specs.Reading.NodeResult.{took, none}
+use Rattle.sentence.specs.Reading.NumbersResult.{numbers}
+use Rattle.sentence.specs.declared.Kind.{Kind}
+use Rattle.sentence.specs.declared.Kind.the-variants.{State, Expression, Path}
+use Rattle.sentence.specs.declared.Relation.{Relation}
+use Rattle.sentence.specs.declared.Relation.the-variants.{Less, AtMost, Equal, AtLeast, Greater}
+use Rattle.sentence.specs.declared.Node.{Node}
+use Rattle.sentence.specs.declared.Node.the-variants.{True, Label, Not, And, Compare, Probability, Constant, Sum, Difference, Product, Next, Until}
+use Rattle.sentence.specs.declared.NumbersRead.{NumbersRead}
+use Rattle.sentence.specs.declared.Progress.{Progress}
+use Rattle.sentence.proofs.Places.{Place, place, inside, starts, first, first-here}
+use Rattle.sentence.proofs.Unique.{decode, decoded, operator, twoNumbers}
+
+-- the bytes that a node of each kind begins with
+abbrev pub begins : Kind → ℕ → Bool
+begins State b = leb 97 b && leb b 112 || eqb b 84 || eqb b 33 || eqb b 38 || eqb b 60 || eqb b 76 || eqb b 61 || eqb b 71 || eqb b 62
+begins Expression b = eqb b 80 || eqb b 35 || eqb b 43 || eqb b 45 || eqb b 42
+begins Path b = eqb b 88 || eqb b 85
+
+begun : (n : Node) → Writable n → begins (kindOf n) (first (nodeText n)) ≡ true
+begun True w = refl
+begun (Label l v) w = rw (le-leb 97 (97 + l) (omega arith), le-leb (97 + l) 112 (omega arith)) refl
+begun Not w = refl
+begun And w = refl
+begun (Compare Less) w = refl
+begun (Compare AtMost) w = refl
+begun (Compare Equal) w = refl
+begun (Compare AtLeast) w = refl
+begun (Compare Greater) w = refl
+begun Probability w = refl
+begun (Constant a b) w = refl
+begun Sum w = refl
+begun Difference w = refl
+begun Product w = refl
+begun Next w = refl
+begun (Until a b) w = refl
+
+-- a node's text has a first byte
+first-text : (n : Node) (s : List ℕ) → first (nodeText n ++ s) ≡ first (nodeText n)
+first-text True s = refl
+first-text (Label l v) s = refl
+first-text Not s = refl
+first-text And s = refl
+first-text (Compare r) s = refl
+first-text Probability s = refl
+first-text (Constant a b) s = refl
+first-text Sum s = refl
+first-text Difference s = refl
+first-text Product s = refl
+first-text Next s = refl
+first-text (Until a b) s = refl
+
+-- what refutes each first node of the kind k refutes each list of it
+stuck-by : (k : Kind) (s : List ℕ) → ((n : Node) (r : List ℕ) → Writable n → kindOf n ≡ k → s ≡ nodeText n ++ r → ⊥) → Stuck (k ∷ []) s
+stuck-by k s refute ls all rest nests same = by nests same
+  where
+    by : {xs : List Node} → Nests (k ∷ ls) xs → s ≡ bodyText xs ++ rest → ⊥
+    by (node {n = m} {ns = ns} w e a) eq = refute m (bodyText ns ++ rest) w e (eq ∙ append-assoc (nodeText m) (bodyText ns) rest)
+
+-- no node of the kind begins with the byte at a place
+pub no-node : (k : Kind) (t : List ℕ) (at : ℕ) → begins k (getD t at 0) ≡ false → Stuck (k ∷ []) (drop at t)
+no-node k t at f = stuck-by k (drop at t) refute
+  where
+    refute : (n : Node) (r : List ℕ) → Writable n → kindOf n ≡ k → drop at t ≡ nodeText n ++ r → ⊥
+    refute n r w e same =
+        true≢false
+        (sym (begun n w) ∙ ap (λ (x : ℕ). begins (kindOf n) x) (sym (first-text n r) ∙ ap first (sym same) ∙ first-here t at)
+        ∙ ap (λ (x : Kind). begins x (getD t at 0)) e ∙ f)
+
+-- past a node's text the state is inside again
+passed-inside : (t : List ℕ) (p : Progress) (n : Node) (at : ℕ) (bad : Bool) → Inside t p → p .at < at → at ≤ length t → Inside t (passedTo p n at bad)
+passed-inside t p n at bad i l h = record { within = h; counted = omega (arith, i .counted); places = length-set (p .kept .nodes) (p .kept .count) _ ∙ i .places }
+
+stopped-inside : (t : List ℕ) (p : Progress) (at : ℕ) → Inside t p → p .at ≤ at → at ≤ length t → Inside t (stoppedAt p at)
+stopped-inside t p at i l h = record { within = h; counted = omega (arith, i .counted); places = i .places }
+
+-- a node that was read
+node-read : (n : Node) (t : List ℕ) (letters : ℕ) (p : Progress) (at : ℕ) (bad : Bool) → Writable n → bad ≡ outOfRange letters n → Inside t p → p .at < at → at ≤ length t
+    → drop (p .at) t ≡ nodeText n ++ drop at t → NodeReads (kindOf n) (wants n) t letters p (passedTo p n at bad)
+node-read n t letters p at bad w b i l h text =
+    record {
+      forward = l;
+      inside = passed-inside t p n at bad i l h;
+      result = took n refl w refl refl text (ap (keepBad (p .kept) n) b);
+    }
+
+-- a node of one byte
+pub operator-read : (n : Node) (b : ℕ) (t : List ℕ) (letters : ℕ) (p : Progress) → nodeText n ≡ b ∷ [] → Writable n → false ≡ outOfRange letters n → getD t (p .at) 0 ≡ b → 1 ≤ b
+    → Inside t p → NodeReads (kindOf n) (wants n) t letters p (passedTo p n (p .at + 1) false)
+operator-read n b t letters p text w out e l i =
+    let in-text : p .at < length t = inside t (p .at) (omega arith) in
+    node-read n t letters p (p .at + 1) false w out i (omega arith) (omega arith) (rw (starts t (p .at) b e l, text) refl)
+
+-- where nothing of the kind stands, the state is stopped past its first byte
+node-none : (k : Kind) (js : List Kind) (t : List ℕ) (letters : ℕ) (p : Progress) → Inside t p → p .at < length t
+    → ((n : Node) (r : List ℕ) → Writable n → kindOf n ≡ k → drop (p .at) t ≡ nodeText n ++ r → ⊥) → NodeReads k js t letters p (stoppedAt p (p .at + 1))
+node-none k js t letters p i l refute =
+    record { forward = omega arith; inside = stopped-inside t p (p .at + 1) i (omega arith) (omega arith); result = none refl (stuck-by k (drop (p .at) t) refute) }
+
+-- a label
+pub label-read : (t : List ℕ) (letters : ℕ) (p : Progress) (b d : ℕ) → getD t (p .at) 0 ≡ b → 97 ≤ b → b ≤ 112 → getD t (p .at + 1) 0 ≡ d → 49 ≤ d → d ≤ 52 → Inside t p
+    → (bad : Bool) → bad ≡ outOfRange letters (Label (b - 97) (d - 48)) → NodeReads State [] t letters p (passedTo p (Label (b - 97) (d - 48)) (p .at + 2) bad)
+label-read t letters p b d e lb hb f ld hd i bad out =
+    let in-text : p .at + 1 < length t = inside t (p .at + 1) (omega arith) in
+    let x : 97 + (b - 97) ≡ b = omega arith in
+    let y : 48 + (d - 48) ≡ d = omega arith in
+    let z : p .at + 1 + 1 ≡ p .at + 2 = omega arith in
+    node-read (Label (b - 97) (d - 48)) t letters p (p .at + 2) bad (omega arith, omega arith, omega arith) out i (omega arith) (omega arith)
+    (rw (x, y, starts t (p .at) b e (omega arith), starts t (p .at + 1) d f (omega arith), z) refl)
+
+decode-label : (b : ℕ) (s : List ℕ) → 97 ≤ b → decode (b ∷ s) ≡ (Label (b - 97) (first s - 48), tail s)
+unfolding decode
+decode-label b s l = rw (le-leb 97 b l) refl
+
+-- a letter with another byte than a digit 1..4 after it
+pub label-none : (t : List ℕ) (letters : ℕ) (p : Progress) (b d : ℕ) → getD t (p .at) 0 ≡ b → 97 ≤ b → getD t (p .at + 1) 0 ≡ d → (d < 49) ⊎ (52 < d) → Inside t p
+    → NodeReads State [] t letters p (stoppedAt p (p .at + 1))
+label-none t letters p b d e lb f other i = node-none State [] t letters p i (inside t (p .at) (omega arith)) refute
+  where
+    read-back : (n : Node) (r : List ℕ) → Writable n → drop (p .at) t ≡ nodeText n ++ r → Label (b - 97) (d - 48) ≡ n
+    read-back n r w same =
+        let seen : decode (drop (p .at) t) ≡ (Label (b - 97) (d - 48), tail (drop (p .at + 1) t)) = rw (starts t (p .at) b e (omega arith), decode-label b (drop (p .at + 1) t) lb, first-here t (p .at + 1), f) refl in
+        ap (λ (x : Node × List ℕ). x .0) (sym seen ∙ ap decode same ∙ decoded n r w)
+
+    refute : (n : Node) (r : List ℕ) → Writable n → kindOf n ≡ State → drop (p .at) t ≡ nodeText n ++ r → ⊥
+    refute n r w k same =
+        let v : Writable (Label (b - 97) (d - 48)) = subst Writable (sym (read-back n r w same)) w in
+        ⊎-elim (λ l. omega (arith, v .1)) (λ h. omega (arith, v .2)) other
+
+regroup : (x y c d : ℕ) (s : List ℕ) → (numberText x ++ c ∷ (numberText y ++ d ∷ [])) ++ s ≡ numberText x ++ c ∷ (numberText y ++ d ∷ s)
+regroup x y c d s = simp append-assoc
+
+-- a node that is a byte and two numbers: a constant, or an until and its window
+pub numbers-read : (n : Node) (t : List ℕ) (letters : ℕ) (p : Progress) (b middle close : ℕ) (r : NumbersRead)
+    → nodeText n ≡ b ∷ (numberText (r .first) ++ middle ∷ (numberText (r .second) ++ close ∷ []))
+    → (r .first < 100000 → r .second < 100000 → Writable n) → getD t (p .at) 0 ≡ b → 1 ≤ b → Inside t p
+    → NumbersResult t (p .at + 1) middle close r → r .ok ≡ true → (bad : Bool) → bad ≡ outOfRange letters n → NodeReads (kindOf n) (wants n) t letters p (passedTo p n (r .next) bad)
+numbers-read n t letters p b middle close r text w e l i (numbers ok lf ls same fwd over) good bad out =
+    node-read n t letters p (r .next) bad (w lf ls) out i (omega arith) over
+    (starts t (p .at) b e l ∙ ap (λ (s : List ℕ). b ∷ s) (same ∙ sym (regroup (r .first) (r .second) middle close (drop (r .next) t))) ∙ ap (λ (s : List ℕ). s ++ drop (r .next) t) (sym text))
+numbers-read n t letters p b middle close r text w e l i (NumbersResult.none ok not) good bad out = absurd (true≢false (sym good ∙ ok))
+
+-- the same, where two numbers do not follow
+pub numbers-none : (make : ℕ → ℕ → Node) (k : Kind) (js : List Kind) (t : List ℕ) (letters : ℕ) (p : Progress) (b middle close : ℕ) (r : NumbersRead)
+    → ((x y : ℕ) → nodeText (make x y) ≡ b ∷ (numberText x ++ middle ∷ (numberText y ++ close ∷ [])))
+    → ((x y : ℕ) → Writable (make x y) → (x < 100000) × (y < 100000)) → ((s : List ℕ) → decode (b ∷ s) ≡ twoNumbers make s)
+    → getD t (p .at) 0 ≡ b → 1 ≤ b → Inside t p → NumbersResult t (p .at + 1) middle close r → r .ok ≡ false → NodeReads k js t letters p (stoppedAt p (p .at + 1))
+numbers-none make k js t letters p b middle close r text bounds back e l i (numbers ok lf ls same fwd over) bad = absurd (true≢false (sym ok ∙ bad))
+numbers-none make k js t letters p b middle close r text bounds back e l i (NumbersResult.none ok not) bad = node-none k js t letters p i (inside t (p .at) (omega arith)) refute
+  where
+    wrong : (x y : ℕ) (n : Node) (s : List ℕ) → make x y ≡ n → Writable n → drop (p .at) t ≡ nodeText n ++ s → ⊥
+    wrong x y n s same w eq =
+        let v : (x < 100000) × (y < 100000) = bounds x y (subst Writable (sym same) w) in
+        not x y s (v .0) (v .1)
+        (ap tail (sym (starts t (p .at) b e l) ∙ eq ∙ ap (λ (m : Node). nodeText m ++ s) (sym same) ∙ ap (λ (z : List ℕ). z ++ s) (text x y))
+        ∙ regroup x y middle close s)
+
+    refute : (n : Node) (s : List ℕ) → Writable n → kindOf n ≡ k → drop (p .at) t ≡ nodeText n ++ s → ⊥
+    refute n s w kd same =
+        let seen : twoNumbers make (drop (p .at + 1) t) ≡ (n, s) = sym (back (drop (p .at + 1) t)) ∙ ap decode (sym (starts t (p .at) b e l) ∙ same) ∙ decoded n s w in
+        wrong _ _ n s (ap (λ (x : Node × List ℕ). x .0) seen) w same
+
+-- an operator of one byte that was passed
+pub operator-passed : (n : Node) (b : ℕ) (t : List ℕ) (letters : ℕ) (p q : Progress) → nodeText n ≡ b ∷ [] → Writable n → false ≡ outOfRange letters n → 1 ≤ b
+    → (byte : ℕ) → byte ≡ getD t (p .at) 0 → byte ≡ b → Inside t p → q ≡ passedTo p n (p .at + 1) false → NodeReads (kindOf n) (wants n) t letters p q
+operator-passed n b t letters p q text w out l byte e f i same =
+    subst (λ (x : Progress). NodeReads (kindOf n) (wants n) t letters p x) (sym same) (operator-read n b t letters p text w out (sym e ∙ f) l i)
+
+-- a stopped state stays
+pub stays : (k : Kind) (t : List ℕ) (letters : ℕ) (p : Progress) → p .ok ≡ false → Inside t p → Reads (k ∷ []) t letters p p
+stays k t letters p e i = record { forward = omega arith; inside = i; result = stopped e e }
+
+-- a byte that nothing of the kind begins with
+pub no-reading : (k : Kind) (t : List ℕ) (letters : ℕ) (p q : Progress) → p .ok ≡ true → (byte : ℕ) → byte ≡ getD t (p .at) 0 → begins k byte ≡ false → Inside t p → q ≡ stoppedAt p (p .at)
+    → Reads (k ∷ []) t letters p q
+no-reading k t letters p q ok byte e f i same =
+    subst (λ (x : Progress). Reads (k ∷ []) t letters p x) (sym same)
+    (record { forward = omega arith; inside = stopped-inside t p (p .at) i (omega arith) (i .within); result = stuck ok refl (no-node k t (p .at) (rw e at f)) })
+
+-- a byte that is none of `a`..`p`
+pub no-letter : (b : ℕ) → (b < 97) ⊎ (112 < b) → (leb 97 b && leb b 112) ≡ false
+no-letter b (inl l) = rw (lt-leb 97 b l) refl
+no-letter b (inr h) = rw (lt-leb b 112 h) (and-false (leb 97 b))

@@ -1,0 +1,238 @@
+-- What read sentence answers, from what its parts found; and that its contract leaves one answer. Assumes nothing.
+use Prim.Native.Nat.{ℕ, zero, suc, _+_, _-_, _≤_, _<_}
+use mathlib.Core.Bool.{Bool, true, false, _||_, true≢false, or-assoc}
+use mathlib.Core.List.{List, [], _∷_, _++_, map, append-assoc, append-nil}
+use mathlib.Core.Path.{_≡_, refl, sym, ap, ap₂, _∙_, subst}
+use native.Mathlib.Nat.{le-antisymm}
+use native.Mathlib.Numerals.{add-one}
+use native.Mathlib.Omega.{arith}
+use borrow.Author.Tests.{ltb-true, ltb-false}
+use lib.Dec.{ltb}
+use lib.ListN.{length, drop, set, replicate, length-map, length-replicate, length-drop}
+use lib.Seq.{sets, sets-eq, drop-length}
+use Rattle.sentence.specs.Grammar.{letterByte, bodyText, Spells, Nests, someOutOfRange, outOfRange}
+use Rattle.sentence.specs.Calls.{slot, recordOf, refusal, ReadRow, ReadAnswer}
+use Rattle.sentence.specs.Calls.ReadRow.{outside, long, range, many}
+use Rattle.sentence.specs.Calls.ReadAnswer.{refused, done}
+use Rattle.sentence.specs.Reading.{keep, keepAll, begunAt, finishedAs, Inside, Stuck, Result, Reads, PrefixResult}
+use Rattle.sentence.specs.Reading.PrefixResult.{prefix}
+use Rattle.sentence.specs.Reading.Result.{stopped, read, stuck}
+use Rattle.sentence.specs.declared.PrefixRead.{PrefixRead}
+use Rattle.sentence.specs.declared.Progress.{Progress}
+use Rattle.sentence.specs.declared.Kind.the-variants.{State}
+use Rattle.sentence.specs.declared.Node.{Node}
+use Rattle.sentence.specs.declared.Node.the-variants.{True}
+use Rattle.sentence.specs.declared.Kept.{Kept}
+use Rattle.sentence.specs.declared.Outcome.the-variants.{Done}
+use Rattle.sentence.specs.declared.SentenceRead.{SentenceRead}
+use Rattle.sentence.proofs.Numbers.{Tested, tested}
+use Rattle.sentence.proofs.Numbers.Tested.{holds, fails}
+use Rattle.sentence.proofs.Unique.{Peeled, peel}
+use Rattle.sentence.proofs.PrefixAt.{one-prefix}
+use Rattle.sentence.proofs.Once.{no-nodes, spelled-text, spelled-once}
+
+-- the nodes kept are the count, the fault and the places of the list
+pub kept-count : (letters : ℕ) (k : Kept) (ns : List Node) → keepAll letters k ns .count ≡ k .count + length ns
+kept-count letters k [] = omega arith
+kept-count letters k (n ∷ ns) = kept-count letters (keep letters k n) ns ∙ regroup (k .count) (length ns)
+  where
+    regroup : (a b : ℕ) → a + 1 + b ≡ a + suc b
+    regroup a b = omega arith
+
+pub kept-fault : (letters : ℕ) (k : Kept) (ns : List Node) → keepAll letters k ns .fault ≡ (k .fault || someOutOfRange letters ns)
+kept-fault letters k [] = last (k .fault)
+  where
+    last : (b : Bool) → b ≡ (b || false)
+    last true = refl
+    last false = refl
+kept-fault letters k (n ∷ ns) = kept-fault letters (keep letters k n) ns ∙ or-assoc (k .fault) (outOfRange letters n) (someOutOfRange letters ns)
+
+pub kept-nodes : (letters : ℕ) (k : Kept) (ns : List Node) → keepAll letters k ns .nodes ≡ sets (k .nodes) (k .count) (map slot ns)
+kept-nodes letters k [] = refl
+kept-nodes letters k (n ∷ ns) = kept-nodes letters (keep letters k n) ns ∙ ap (λ (i : ℕ). sets (set (k .nodes) (k .count) (slot n)) i (map slot ns)) (add-one (k .count))
+
+-- a list stored at the front of equal places
+drop-replicate : {A : Type 0} (n m : ℕ) (x : A) → drop n (replicate m x) ≡ replicate (m - n) x
+drop-replicate zero m x =
+    let e : m ≡ m - 0 = omega arith in
+    ap (λ (k : ℕ). replicate k x) e
+drop-replicate (suc n) zero x =
+    let e : 0 ≡ 0 - suc n = omega arith in
+    ap (λ (k : ℕ). replicate k x) e
+drop-replicate (suc n) (suc m) x =
+    let e : m - n ≡ suc m - suc n = omega arith in
+    drop-replicate n m x ∙ ap (λ (k : ℕ). replicate k x) e
+
+pub stored : {A : Type 0} (m : ℕ) (x : A) (vs : List A) → length vs ≤ m → sets (replicate m x) 0 vs ≡ vs ++ replicate (m - length vs) x
+stored m x vs h =
+    sets-eq vs (replicate m x) 0 (rw (length-replicate m x) (omega arith))
+    ∙ ap (λ l. vs ++ l) (ap (λ (i : ℕ). drop i (replicate m x)) none-before ∙ drop-replicate (length vs) m x)
+  where
+    none-before : 0 + length vs ≡ length vs
+    none-before = omega arith
+
+-- each row has a number from 6 on
+row-low : {t : List ℕ} {n : ℕ} → ReadRow t n → 6 ≤ n
+row-low (outside f) = omega arith
+row-low (long h) = omega arith
+row-low (range s e) = omega arith
+row-low (many s h) = omega arith
+
+pub answer-outside : {t : List ℕ} → ((ps : List Bool) (ns : List Node) → Spells ps ns t → ⊥) → ReadAnswer t (refusal 6)
+answer-outside f = refused (outside f) (λ m r. row-low r)
+
+pub answer-long : {t : List ℕ} → 400 < length t → ReadAnswer t (refusal 6)
+answer-long h = refused (long h) (λ m r. row-low r)
+
+-- a spelled text that is not too long leaves 7 and 8
+row-spelled : {t : List ℕ} {ps : List Bool} {ns : List Node} {m : ℕ} → Spells ps ns t → length t ≤ 400 → ReadRow t m → 7 ≤ m
+row-spelled {ps = ps} {ns = ns} s h (outside f) = absurd (f ps ns s)
+row-spelled s h (long g) = absurd (omega arith)
+row-spelled s h (range s′ e) = omega arith
+row-spelled s h (many s′ g) = omega arith
+
+-- and one in whose ranges all is leaves 8
+row-ranged : {t : List ℕ} {ps : List Bool} {ns : List Node} {m : ℕ} → Spells ps ns t → length t ≤ 400 → someOutOfRange (length ps) ns ≡ false → ReadRow t m → (m ≡ 8) × (64 < length ns)
+row-ranged {ps = ps} {ns = ns} s h f (outside g) = absurd (g ps ns s)
+row-ranged s h f (long g) = absurd (omega arith)
+row-ranged s h f (range s′ e) =
+    let one = spelled-once s s′ in
+    absurd (true≢false (sym e ∙ sym (ap₂ (λ (p : List Bool) (n : List Node). someOutOfRange (length p) n) (one .0) (one .1)) ∙ f))
+row-ranged s h f (many s′ g) = (refl, rw (spelled-once s s′ .1) g)
+
+pub answer-range : {t : List ℕ} {ps : List Bool} {ns : List Node} → Spells ps ns t → length t ≤ 400 → someOutOfRange (length ps) ns ≡ true → ReadAnswer t (refusal 7)
+answer-range s h e = refused (range s e) (λ m r. row-spelled s h r)
+
+pub answer-many : {t : List ℕ} {ps : List Bool} {ns : List Node} → Spells ps ns t → length t ≤ 400 → someOutOfRange (length ps) ns ≡ false → 64 < length ns → ReadAnswer t (refusal 8)
+answer-many s h e g = refused (many s g) (λ m r. omega (arith, row-ranged s h e r .0))
+
+pub answer-done : {t : List ℕ} {ps : List Bool} {ns : List Node} → Spells ps ns t → length t ≤ 400 → someOutOfRange (length ps) ns ≡ false → length ns ≤ 64 → ReadAnswer t (record { outcome = Done; sentence = recordOf ps ns })
+answer-done s h e g = done s (λ m r. omega (arith, row-ranged s h e r .1))
+
+-- the contract leaves one answer
+pub one-answer : {t : List ℕ} {a b : SentenceRead} → ReadAnswer t a → ReadAnswer t b → a ≡ b
+one-answer (refused {n = n} r low) (refused {n = m} r′ low′) =
+    ap refusal (le-antisymm (low m r′) (low′ n r))
+one-answer (refused {n = n} r low) (done s none) = absurd (none n r)
+one-answer (done s none) (refused {n = n} r low) = absurd (none n r)
+one-answer (done s none) (done s′ none′) =
+    let one = spelled-once s s′ in
+    ap₂ (λ (p : List Bool) (n : List Node). record { outcome = Done; sentence = recordOf p n }) (one .0) (one .1)
+
+-- the body follows the prefix that was read
+body-after : {t : List ℕ} (ps qs : List Bool) (r : List ℕ) {ms : List Node} → t ≡ map letterByte ps ++ 46 ∷ r → Spells qs ms t → (ps ≡ qs) × (r ≡ bodyText ms)
+body-after ps qs r {ms} same s = one-prefix ps qs r (bodyText ms) (sym same ∙ spelled-text s)
+
+-- no prefix
+pub outside-prefix : (t : List ℕ) (flags : List Bool) (r : PrefixRead) → PrefixResult t 0 flags r → r .ok ≡ false → (qs : List Bool) (ms : List Node) → Spells qs ms t → ⊥
+outside-prefix t flags r (prefix ps ok l h same n e x) bad qs ms s = true≢false (sym ok ∙ bad)
+outside-prefix t flags r (PrefixResult.none ok not) bad qs ms s = not qs (bodyText ms) (omega (arith, s .some)) (omega (arith, s .few)) (spelled-text s)
+
+-- a prefix, and no state formula after it
+outside-stuck : (t : List ℕ) (ps : List Bool) (r : List ℕ) → t ≡ map letterByte ps ++ 46 ∷ r → Stuck (State ∷ []) r → (qs : List Bool) (ms : List Node) → Spells qs ms t → ⊥
+outside-stuck t ps r same none-fits qs ms s = none-fits [] ms [] (s .nests) (body-after ps qs r same s .1 ∙ sym (append-nil (bodyText ms)))
+
+-- a prefix and a state formula, and something after it
+outside-more : (t : List ℕ) (ps : List Bool) (ns : List Node) (r : List ℕ) → t ≡ map letterByte ps ++ 46 ∷ (bodyText ns ++ r) → Nests (State ∷ []) ns → 1 ≤ length r
+    → (qs : List Bool) (ms : List Node) → Spells qs ms t → ⊥
+outside-more t ps ns r same nests more qs ms s =
+    let p : Peeled [] ns ms r [] = peel [] ms r [] nests (s .nests) (body-after ps qs (bodyText ns ++ r) same s .1 ∙ sym (append-nil (bodyText ms))) in
+    omega (arith, ap length (p .text ∙ ap (λ (l : List Node). bodyText l ++ []) (no-nodes (p .nests))))
+
+-- the whole text is a sentence
+pub record Read (t : List ℕ) (letters : ℕ) (flags : List Bool) (k : Kept) : Type 0 where
+  pub ps : List Bool
+  pub ns : List Node
+  pub spells : Spells ps ns t
+  pub lettered : letters ≡ length ps
+  pub flagged : flags ≡ sets (replicate 4 false) 0 ps
+  pub kept : k ≡ keepAll (length ps) (begunAt 0 .kept) ns
+
+-- the text after its prefix is no state formula
+pub outside-body : (t : List ℕ) (flags : List Bool) (p : PrefixRead) (r : Progress) → PrefixResult t 0 flags p → p .ok ≡ true → Reads (State ∷ []) t (p .letters) (begunAt (p .next)) r → r .ok ≡ false
+    → (qs : List Bool) (ms : List Node) → Spells qs ms t → ⊥
+outside-body t flags p r (PrefixResult.none ok not) good body bad = absurd (true≢false (sym good ∙ ok))
+outside-body t flags p r (prefix ps ok l h same n e x) good body bad = by (body .result)
+  where
+    by : Result (State ∷ []) t (p .letters) (begunAt (p .next)) r → (qs : List Bool) (ms : List Node) → Spells qs ms t → ⊥
+    by (stopped a b) = absurd (true≢false a)
+    by (read ns a b nests text kept) = absurd (true≢false (sym b ∙ bad))
+    by (stuck a b none-fits) = outside-stuck t ps (drop (p .next) t) same none-fits
+
+-- something follows the state formula
+pub outside-rest : (t : List ℕ) (flags : List Bool) (p : PrefixRead) (r : Progress) → PrefixResult t 0 flags p → p .ok ≡ true → Reads (State ∷ []) t (p .letters) (begunAt (p .next)) r → r .ok ≡ true
+    → (r .at ≡ length t → ⊥) → (qs : List Bool) (ms : List Node) → Spells qs ms t → ⊥
+outside-rest t flags p r (PrefixResult.none ok not) good body fine over = absurd (true≢false (sym good ∙ ok))
+outside-rest t flags p r (prefix ps ok l h same n e x) good body fine over = by (body .result)
+  where
+    by : Result (State ∷ []) t (p .letters) (begunAt (p .next)) r → (qs : List Bool) (ms : List Node) → Spells qs ms t → ⊥
+    by (stopped a b) = absurd (true≢false a)
+    by (stuck a b none-fits) = absurd (true≢false (sym fine ∙ b))
+    by (read ns a b nests text kept) =
+        outside-more t ps ns (drop (r .at) t) (same ∙ ap (λ (s : List ℕ). map letterByte ps ++ 46 ∷ s) text) nests
+        (rw (length-drop (r .at) t) (omega (arith, over, body .inside .within)))
+
+-- the whole text was read
+pub whole : (t : List ℕ) (p : PrefixRead) (r : Progress) → PrefixResult t 0 (replicate 4 false) p → p .ok ≡ true → Reads (State ∷ []) t (p .letters) (begunAt (p .next)) r → r .ok ≡ true
+    → r .at ≡ length t → Read t (p .letters) (p .exists) (r .kept)
+whole t p r (PrefixResult.none ok not) good body fine over = absurd (true≢false (sym good ∙ ok))
+whole t p r (prefix ps ok l h same n e x) good body fine over = by (body .result)
+  where
+    count : p .letters ≡ length ps
+    count = omega arith
+
+    by : Result (State ∷ []) t (p .letters) (begunAt (p .next)) r → Read t (p .letters) (p .exists) (r .kept)
+    by (stopped a b) = absurd (true≢false a)
+    by (stuck a b none-fits) = absurd (true≢false (sym fine ∙ b))
+    by (read ns a b nests text kept) =
+        record {
+          ps = ps;
+          ns = ns;
+          spells =
+              record {
+                some = omega arith;
+                few = omega arith;
+                nests = nests;
+                text =
+                    same
+                    ∙ ap (λ (s : List ℕ). map letterByte ps ++ 46 ∷ s) (text ∙ ap (λ (s : List ℕ). bodyText ns ++ s) (ap (λ (i : ℕ). drop i t) over ∙ drop-length t) ∙ append-nil (bodyText ns))
+                    ∙ sym (append-assoc (map letterByte ps) (46 ∷ []) (bodyText ns));
+              };
+          lettered = count;
+          flagged = x;
+          kept = kept ∙ ap (λ (i : ℕ). keepAll i (begunAt 0 .kept) ns) count;
+        }
+
+-- what is kept of a list of nodes, from nothing on
+module _ (letters : ℕ) (ns : List Node) where
+  all-fault : keepAll letters (begunAt 0 .kept) ns .fault ≡ someOutOfRange letters ns
+  all-fault = kept-fault letters (begunAt 0 .kept) ns
+
+  all-count : keepAll letters (begunAt 0 .kept) ns .count ≡ length ns
+  all-count = omega (arith, kept-count letters (begunAt 0 .kept) ns)
+
+  all-nodes : length ns ≤ 64 → keepAll letters (begunAt 0 .kept) ns .nodes ≡ map slot ns ++ replicate (64 - length ns) (slot True)
+  all-nodes h =
+      kept-nodes letters (begunAt 0 .kept) ns ∙ stored 64 (slot True) (map slot ns) (rw (length-map ns slot) h)
+      ∙ ap (λ (i : ℕ). map slot ns ++ replicate (64 - i) (slot True)) (length-map ns slot)
+
+-- the answer for a text in the grammar
+finish-kept : (t : List ℕ) (ps : List Bool) (ns : List Node) → Spells ps ns t → length t ≤ 400
+    → ReadAnswer t (finishedAs (length ps) (sets (replicate 4 false) 0 ps) (keepAll (length ps) (begunAt 0 .kept) ns))
+unfolding recordOf
+finish-kept t ps ns s short = by (tested (someOutOfRange (length ps) ns)) (tested (ltb 64 (length ns)))
+  where
+    by : Tested (someOutOfRange (length ps) ns) → Tested (ltb 64 (length ns)) → ReadAnswer t (finishedAs (length ps) (sets (replicate 4 false) 0 ps) (keepAll (length ps) (begunAt 0 .kept) ns))
+    by (holds e) m = rw (all-fault (length ps) ns, e) (answer-range s short e)
+    by (fails e) (holds m) = rw (all-fault (length ps) ns, e, all-count (length ps) ns, m) (answer-many s short e (ltb-true 64 (length ns) m))
+    by (fails e) (fails m) =
+        let h : length ns ≤ 64 = ltb-false 64 (length ns) m in
+        rw (all-fault (length ps) ns, e, all-count (length ps) ns, m, all-nodes (length ps) ns h, stored 4 false ps (s .few)) (answer-done s short e h)
+
+pub finish : (t : List ℕ) (letters : ℕ) (flags : List Bool) (k : Kept) → Read t letters flags k → length t ≤ 400 → ReadAnswer t (finishedAs letters flags k)
+finish t letters flags k r short = rw (r .lettered, r .flagged, r .kept) (finish-kept t (r .ps) (r .ns) (r .spells) short)
+
+-- the state in which the body is read lies inside the text
+pub begun-inside : (t : List ℕ) (flags : List Bool) (p : PrefixRead) → PrefixResult t 0 flags p → p .ok ≡ true → Inside t (begunAt (p .next))
+begun-inside t flags p (PrefixResult.none ok not) good = absurd (true≢false (sym good ∙ ok))
+begun-inside t flags p (prefix ps ok l h same n e x) good = record { within = n; counted = omega arith; places = refl }

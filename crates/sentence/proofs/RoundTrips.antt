@@ -1,0 +1,86 @@
+-- Both round trips, as demand 2 asks: writing what was read gives the same text, and reading what was written gives the same
+-- sentence, with the places that are no part of it empty. Assumes nothing.
+use Prim.Native.Nat.{ℕ, suc, _+_, _-_, _≤_, _<_}
+use mathlib.Core.Bool.{Bool, true, false, true≢false}
+use mathlib.Core.List.{List, [], _∷_, _++_, map, append-nil}
+use mathlib.Core.Path.{_≡_, refl, sym, ap, ap₂, _∙_, subst}
+use native.Mathlib.Omega.{arith}
+use lib.ListN.{length, take, drop, replicate, length-map, length-take}
+use lib.Seq.{take-append-seam, take-at, length-take-le}
+use Rattle.sentence.specs.Grammar.{Spells, someOutOfRange}
+use Rattle.sentence.specs.Calls.{slot, recordOf, refusal, ReadRow, ReadAnswer, prefixOf, nodesOf, WriteRow, WriteAnswer}
+use Rattle.sentence.specs.Calls.ReadRow.{outside, long, range, many}
+use Rattle.sentence.specs.Calls.WriteRow.{counted, lettered, unspelled, short}
+use Rattle.sentence.specs.declared.Node.{Node}
+use Rattle.sentence.specs.declared.Slot.{Slot}
+use Rattle.sentence.specs.declared.Sentence.{Sentence}
+use Rattle.sentence.specs.declared.SentenceRead.{SentenceRead}
+use Rattle.sentence.specs.declared.Outcome.the-variants.{Done}
+use Rattle.sentence.specs.declared.Written.{Written}
+use Rattle.sentence.specs.declared.Written.the-variants.{Wrote, Refused as NotWritten}
+use Rattle.sentence.proofs.Once.{spelled-once}
+use Rattle.sentence.proofs.ReadAll.{one-answer}
+use Rattle.sentence.proofs.WriteAll.{one-writing}
+
+-- the record of a prefix and a list has that prefix and that list
+map-slot : (ns : List Node) → map (λ (x : Slot). x .node) (map slot ns) ≡ ns
+map-slot [] = refl
+map-slot (n ∷ ns) = ap (λ (l : List Node). n ∷ l) (map-slot ns)
+
+record-prefix : (ps : List Bool) (ns : List Node) → prefixOf (recordOf ps ns) ≡ ps
+unfolding recordOf
+record-prefix ps ns = take-append-seam ps (replicate (4 - length ps) false)
+
+record-nodes : (ps : List Bool) (ns : List Node) → nodesOf (recordOf ps ns) ≡ ns
+unfolding recordOf
+record-nodes ps ns = ap (map (λ (x : Slot). x .node)) (take-at (map slot ns) _ (length ns) (length-map ns slot)) ∙ map-slot ns
+
+-- writing what was read gives the text that was read, where the output has room for it
+pub read-then-write : {t out after : List ℕ} {r : SentenceRead} {w : Written} → ReadAnswer t r → r .outcome ≡ Done → length t ≤ length out → WriteAnswer (r .sentence) out w after
+    → (w ≡ Wrote (length t)) × (after ≡ t ++ drop (length t) out)
+unfolding recordOf
+read-then-write (ReadAnswer.refused r low) e h a = absurd (let z : _≡_ {A = ℕ} 0 1 = cc in omega arith)
+read-then-write {t} {out} (ReadAnswer.done {ps = ps} {ns = ns} p none) e h a = one-writing a (WriteAnswer.wrote spells no-row)
+  where
+    spells : Spells (prefixOf (recordOf ps ns)) (nodesOf (recordOf ps ns)) t
+    spells = subst (λ (x : List Bool). Spells x (nodesOf (recordOf ps ns)) t) (sym (record-prefix ps ns)) (subst (λ (x : List Node). Spells ps x t) (sym (record-nodes ps ns)) p)
+
+    by-not : (a b : ℕ) → (a < b → ⊥) → b ≤ a
+    by-not a b f = omega arith
+
+    no-row : (m : ℕ) → WriteRow (recordOf ps ns) (length out) m → ⊥
+    no-row m (counted g) = none 8 (many p g)
+    no-row m (lettered g) = omega (arith, p .few)
+    no-row m (unspelled f) = f t spells (by-not 400 (length t) (λ g. none 6 (long g)))
+    no-row m (WriteRow.range f) = none 7 (range p (ap (someOutOfRange (length ps)) (sym (record-nodes ps ns)) ∙ f))
+    no-row m (short q g) = omega (arith, ap length (q .text ∙ sym (spells .text)))
+
+-- reading what was written gives the prefix and the nodes of the record. (Every record has four places for letters.)
+pub write-then-read : {s : Sentence} {out after : List ℕ} {n : ℕ} {r : SentenceRead} → length (s .exists) ≡ 4 → WriteAnswer s out (Wrote n) after → ReadAnswer (take n after) r
+    → r ≡ record { outcome = Done; sentence = recordOf (prefixOf s) (nodesOf s) }
+write-then-read {s} {out} {r = r} len (WriteAnswer.wrote {t} p none) a = one-answer (subst (λ (x : List ℕ). ReadAnswer x r) (take-append-seam t (drop (length t) out)) a) (ReadAnswer.done p no-row)
+  where
+    by-not : (a b : ℕ) → (a < b → ⊥) → b ≤ a
+    by-not a b f = omega arith
+
+    letters : length (prefixOf s) ≡ s .letters
+    letters =
+        let few : s .letters ≤ 4 = by-not 4 (s .letters) (λ h. none 6 (lettered h)) in
+        length-take-le (s .letters) (s .exists) (omega arith)
+
+    count : length (nodesOf s) ≤ 64
+    count =
+        let room : s .count ≤ 64 = by-not 64 (s .count) (λ h. none 6 (counted h)) in
+        omega (arith, length-map (take (s .count) (s .nodes)) (λ (x : Slot). x .node), length-take (s .count) (s .nodes))
+
+    no-row : (m : ℕ) → ReadRow t m → ⊥
+    no-row m (outside f) = f (prefixOf s) (nodesOf s) p
+    no-row m (long g) = none 6 (unspelled (λ u q h. omega (arith, ap length (p .text ∙ sym (q .text)))))
+    no-row m (range q e) =
+        let one = spelled-once p q in
+        none 7 (WriteRow.range (ap (λ (i : ℕ). someOutOfRange i (nodesOf s)) (sym letters) ∙ ap₂ (λ (x : List Bool) (y : List Node). someOutOfRange (length x) y) (one .0) (one .1) ∙ e))
+    no-row m (many q g) = omega (arith, count, ap length (spelled-once p q .1))
+
+-- that record has the letters and the nodes of the one that was written
+pub same-sentence : (ps : List Bool) (ns : List Node) → (prefixOf (recordOf ps ns) ≡ ps) × (nodesOf (recordOf ps ns) ≡ ns)
+same-sentence ps ns = (record-prefix ps ns, record-nodes ps ns)

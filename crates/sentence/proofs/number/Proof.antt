@@ -1,0 +1,91 @@
+-- `number` meets its contract: each first byte is a case of NumberAt.
+-- Assumes nothing.
+use Prim.Native.Nat.{ℕ, _+_, _-_, _*_, _≤_, _<_}
+use mathlib.Core.Logic.{_⊎_, ⊎-elim, inl, inr}
+use mathlib.Core.Path.{_≡_, sym, _∙_}
+use native.Mathlib.Omega.{arith}
+use borrow.Author.Needs.{needs}
+use lib.ListN.{length, getD}
+use Rattle.sentence.specs.Reading.{NoDigit}
+use Rattle.sentence.proofs.Places.{inside}
+use Rattle.sentence.proofs.NumberAt.{zero-closed, zero-open, digit-first, no-first}
+use Rattle.sentence.proofs.number.Statement.{statement}
+use Rattle.sentence.proofs.number.Tie as tie
+
+byte-at-requires : tie.Need-byte-at-requires
+byte-at-requires c κs = search needs
+
+add-byte-at : tie.Need-add-byte-at
+add-byte-at c =
+    let s = c .before .before .before in
+    let h : s .args .at < length (s .args .text .now) = inside (s .args .text .now) (s .args .at) (omega (arith, c .before .byte-at .ensures, c .match .keys1)) in
+    omega (arith, s .good .0 .0)
+
+byte-at-requires-2 : tie.Need-byte-at-requires-2
+byte-at-requires-2 c κs = search needs
+
+add-t9 : tie.Need-add-t9
+add-t9 c =
+    let s = c .before .before .before .before .before in
+    let h : s .args .at + 1 < length (s .args .text .now) = inside (s .args .text .now) (s .args .at + 1) (omega (arith, c .before .byte-at2 .ensures, c .if1 .taken, s .pre .1)) in
+    omega (arith, s .good .0 .0)
+
+returns : tie.Need-returns
+returns c =
+    let s = c .before .before .before .before .before in
+    zero-closed (s .args .text .now) (s .args .at) (s .args .close) (sym (c .before .before .before .byte-at .ensures) ∙ c .before .before .match .keys1) (sym (c .before .byte-at2 .ensures) ∙ c .if1 .taken) (s .pre .1)
+
+no-number-requires : tie.Need-no-number-requires
+no-number-requires c κs = search needs
+
+add-more-digits : tie.Need-add-more-digits
+add-more-digits c =
+    let s = c .before .before .before .before .before in
+    let h : s .args .at < length (s .args .text .now) = inside (s .args .text .now) (s .args .at) (omega (arith, c .before .before .before .byte-at .ensures, c .before .if2 .left)) in
+    omega (arith, s .good .0 .0)
+
+digit-of-requires : tie.Need-digit-of-requires
+digit-of-requires c κs = search needs
+
+more-digits-requires : tie.Need-more-digits-requires
+more-digits-requires c κs = search needs
+
+no-number-requires-2 : tie.Need-no-number-requires-2
+no-number-requires-2 c κs = search needs
+
+returns-2 : tie.Need-returns-2
+returns-2 c =
+    let s = c .before .before .before .before .before .before in
+    zero-open (s .args .text .now) (s .args .at) (s .args .close) (c .no-number .result) (sym (c .before .before .before .before .byte-at .ensures) ∙ c .before .before .before .match .keys1) (λ e. c .before .if1 .left (c .before .before .byte-at2 .ensures ∙ e)) (c .no-number .ensures)
+
+returns-3 : tie.Need-returns-3
+returns-3 c =
+    let s = c .before .before .before .before .before .before .before in
+    let b = c .before .before .before .before .before .byte-at in
+    digit-first (s .args .text .now) (s .args .at) (b .result) (s .args .close) (c .more-digits .result)
+    (sym (b .ensures)) (omega (arith, c .before .before .before .if2 .left)) (omega (arith, c .before .before .if3 .taken)) (rw (c .before .digit-of .ensures) at (c .more-digits .ensures))
+
+returns-4 : tie.Need-returns-4
+returns-4 c =
+    let s = c .before .before .before .before .before in
+    let b = c .before .before .before .byte-at in
+    let other : NoDigit (b .result) = ⊎-elim (λ w. inl (omega (arith, w .taken, c .before .before .match .rest .1))) (λ w. inr (w .1 .left)) (c .before .if2 .came) in
+    no-first (s .args .text .now) (s .args .at) (b .result) (s .args .close) (c .no-number2 .result) (sym (b .ensures)) other (c .no-number2 .ensures)
+
+pub number-spec : {M : Type 1} → statement M
+number-spec =
+    tie.close
+    (tie.spec
+    byte-at-requires
+    add-byte-at
+    byte-at-requires-2
+    add-t9
+    returns
+    no-number-requires
+    add-more-digits
+    digit-of-requires
+    more-digits-requires
+    no-number-requires-2
+    returns-2
+    returns-3
+    returns-4)

@@ -1,0 +1,18 @@
+-- `refused` meets its contract.
+-- Assumes nothing.
+use mathlib.Core.Path.{_≡_}
+use Rattle.sentence.specs.Calls.{recordOf}
+use borrow.Author.Needs.{needs}
+use Rattle.sentence.proofs.refused.Statement.{statement}
+use Rattle.sentence.proofs.refused.Tie as tie
+
+no-slots-requires : tie.Need-no-slots-requires
+no-slots-requires c κs = search needs
+
+returns : tie.Need-returns
+unfolding recordOf
+returns c =
+    rw (c .no-slots .ensures)
+
+pub refused-spec : {M : Type 1} → statement M
+refused-spec = tie.close (tie.spec no-slots-requires returns)

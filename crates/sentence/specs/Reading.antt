@@ -1,0 +1,108 @@
+-- What the parts of the reader promise one another, said over the grammar. None of it has to be believed: the contract of
+-- `read_sentence` stands in Calls.
+use Prim.Native.Nat.{ℕ, _+_, _≤_, _<_}
+use mathlib.Core.Bool.{Bool, true, false, _||_, cond}
+use mathlib.Core.List.{List, [], _∷_, _++_, map}
+use mathlib.Core.Logic.{_⊎_}
+use mathlib.Core.Path.{_≡_}
+use lib.Dec.{ltb}
+use lib.ListN.{length, drop, set, replicate}
+use lib.Seq.{sets}
+use Rattle.sentence.specs.Grammar.{numberText, Nests, nodeText, Writable, kindOf, wants, bodyText, letterByte, outOfRange}
+use Rattle.sentence.specs.Calls.{slot, refusal}
+use Rattle.sentence.specs.declared.Kind.{Kind}
+use Rattle.sentence.specs.declared.Node.{Node}
+use Rattle.sentence.specs.declared.Node.the-variants.{True}
+use Rattle.sentence.specs.declared.Kept.{Kept}
+use Rattle.sentence.specs.declared.Progress.{Progress}
+use Rattle.sentence.specs.declared.Outcome.the-variants.{Done}
+use Rattle.sentence.specs.declared.SentenceRead.{SentenceRead}
+use Rattle.sentence.specs.declared.NumberRead.{NumberRead}
+use Rattle.sentence.specs.declared.NumbersRead.{NumbersRead}
+use Rattle.sentence.specs.declared.PrefixRead.{PrefixRead}
+
+-- one node more, of which `bad` says that it is out of its range: past the 64th it is counted, and no place takes it
+abbrev pub keepBad : Kept → Node → Bool → Kept
+keepBad k n bad = record { count = k .count + 1; fault = k .fault || bad; nodes = set (k .nodes) (k .count) (slot n) }
+
+-- one node more, in a sentence of so many letters
+abbrev pub keep : ℕ → Kept → Node → Kept
+keep letters k n = keepBad k n (outOfRange letters n)
+
+-- the same for each node of a list
+abbrev pub keepAll : ℕ → Kept → List Node → Kept
+keepAll letters k [] = k
+keepAll letters k (n ∷ ns) = keepAll letters (keep letters k n) ns
+
+-- the state in which the body is read
+abbrev pub begunAt : ℕ → Progress
+begunAt at = record { ok = true; at = at; kept = record { count = 0; fault = false; nodes = replicate 64 (slot True) } }
+
+-- the state past a node's own text
+abbrev pub passedTo : Progress → Node → ℕ → Bool → Progress
+passedTo p n at bad = record { ok = true; at = at; kept = keepBad (p .kept) n bad }
+
+-- the state where the text is not in the grammar
+abbrev pub stoppedAt : Progress → ℕ → Progress
+stoppedAt p at = record { ok = false; at = at; kept = p .kept }
+
+-- what holds of the reader's state over the text t
+pub record Inside (t : List ℕ) (p : Progress) : Type 0 where
+  pub within : p .at ≤ length t
+  pub counted : p .kept .count ≤ p .at
+  pub places : length (p .kept .nodes) ≡ 64
+
+-- no list that starts with things of the kinds js stands at the front of the text s
+abbrev pub Stuck : List Kind → List ℕ → Type 0
+Stuck js s = (ks : List Kind) (ns : List Node) (rest : List ℕ) → Nests (js ++ ks) ns → s ≡ bodyText ns ++ rest → ⊥
+
+-- reading things of the kinds js from the state p ends in the state r
+pub data Result (js : List Kind) (t : List ℕ) (letters : ℕ) (p r : Progress) : Type 0 where
+  stopped : p .ok ≡ false → r .ok ≡ false → Result js t letters p r
+  read : (ns : List Node) → p .ok ≡ true → r .ok ≡ true → Nests js ns → drop (p .at) t ≡ bodyText ns ++ drop (r .at) t → r .kept ≡ keepAll letters (p .kept) ns → Result js t letters p r
+  stuck : p .ok ≡ true → r .ok ≡ false → Stuck js (drop (p .at) t) → Result js t letters p r
+
+pub record Reads (js : List Kind) (t : List ℕ) (letters : ℕ) (p r : Progress) : Type 0 where
+  pub forward : p .at ≤ r .at
+  pub inside : Inside t r
+  pub result : Result js t letters p r
+
+-- reading one node of the kind k that wants the kinds js after it, its own text alone, from the state p ends in the state r
+pub data NodeResult (k : Kind) (js : List Kind) (t : List ℕ) (letters : ℕ) (p r : Progress) : Type 0 where
+  took : (n : Node) → r .ok ≡ true → Writable n → kindOf n ≡ k → wants n ≡ js → drop (p .at) t ≡ nodeText n ++ drop (r .at) t → r .kept ≡ keep letters (p .kept) n → NodeResult k js t letters p r
+  none : r .ok ≡ false → Stuck (k ∷ []) (drop (p .at) t) → NodeResult k js t letters p r
+
+pub record NodeReads (k : Kind) (js : List Kind) (t : List ℕ) (letters : ℕ) (p r : Progress) : Type 0 where
+  pub forward : p .at < r .at
+  pub inside : Inside t r
+  pub result : NodeResult k js t letters p r
+
+-- the byte is no digit
+abbrev pub NoDigit : ℕ → Type 0
+NoDigit c = (c < 48) ⊎ (57 < c)
+
+-- a number and the byte `close` after it, where the bytes `before` of the number are read already and the text goes on at `at`
+pub data NumberResult (before t : List ℕ) (at close : ℕ) (r : NumberRead) : Type 0 where
+  number : r .ok ≡ true → r .value < 100000 → before ++ drop at t ≡ numberText (r .value) ++ close ∷ drop (r .next) t → at < r .next → r .next ≤ length t → NumberResult before t at close r
+  none : r .ok ≡ false → ((v : ℕ) (rest : List ℕ) → v < 100000 → before ++ drop at t ≡ numberText v ++ close ∷ rest → ⊥) → NumberResult before t at close r
+
+-- a byte that may stand after a number
+abbrev pub Closing : ℕ → Type 0
+Closing c = NoDigit c × (1 ≤ c)
+
+-- two numbers from the place `at` on, the byte `middle` after the first and `close` after the second
+pub data NumbersResult (t : List ℕ) (at middle close : ℕ) (r : NumbersRead) : Type 0 where
+  numbers : r .ok ≡ true → r .first < 100000 → r .second < 100000 → drop at t ≡ numberText (r .first) ++ middle ∷ (numberText (r .second) ++ close ∷ drop (r .next) t) → at < r .next → r .next ≤ length t → NumbersResult t at middle close r
+  none : r .ok ≡ false → ((a b : ℕ) (rest : List ℕ) → a < 100000 → b < 100000 → drop at t ≡ numberText a ++ middle ∷ (numberText b ++ close ∷ rest) → ⊥) → NumbersResult t at middle close r
+
+-- the letters of the prefix from the place `at` on, and the dot; `flags` has the letters before
+pub data PrefixResult (t : List ℕ) (at : ℕ) (flags : List Bool) (r : PrefixRead) : Type 0 where
+  prefix : (qs : List Bool) → r .ok ≡ true → 1 ≤ at + length qs → at + length qs ≤ 4 → drop at t ≡ map letterByte qs ++ 46 ∷ drop (r .next) t → r .next ≤ length t → r .letters ≡ at + length qs → r .exists ≡ sets flags at qs → PrefixResult t at flags r
+  none : r .ok ≡ false → ((qs : List Bool) (rest : List ℕ) → 1 ≤ at + length qs → at + length qs ≤ 4 → drop at t ≡ map letterByte qs ++ 46 ∷ rest → ⊥) → PrefixResult t at flags r
+
+-- the answer for a text in the grammar, from what was kept of it: 7 before 8
+abbrev pub finishedAs : ℕ → List Bool → Kept → SentenceRead
+finishedAs letters flags k =
+    cond (k .fault) (refusal 7)
+    (cond (ltb 64 (k .count)) (refusal 8)
+    (record { outcome = Done; sentence = record { letters = letters; exists = flags; count = k .count; nodes = k .nodes } }))

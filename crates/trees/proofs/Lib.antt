@@ -1,0 +1,2 @@
+-- Laws of trees and the places that they stand in.
+pub mod Cases

@@ -1,0 +1,5 @@
+-- From node lists to trees.
+pub mod Listed
+pub mod Need
+pub mod Ranged
+pub mod Standing

@@ -1,0 +1,43 @@
+-- The nodes of a tree in written order: operators first, as document 01 writes them.
+use mathlib.Core.Bool.{Bool, true, false}
+use mathlib.Core.List.{List, [], _∷_, _++_}
+use Rattle.sentence.specs.declared.Relation.the-variants.{Less, AtMost, Equal, AtLeast, Greater}
+use Rattle.sentence.specs.declared.Relation as Spelled
+use Rattle.sentence.specs.declared.Node.{Node}
+use Rattle.sentence.specs.declared.Node.the-variants.{True, Label, Not, And, Compare, Probability, Constant, Sum, Difference, Product, Next, Until}
+use Rattle.meaning.specs.Tree.{Relation, less, atMost, equal, atLeast, greater}
+use Rattle.meaning.specs.Tree.{Formula, always, labelled, negation, both, compare}
+use Rattle.meaning.specs.Tree.{Expression, probability, constant, sum, difference, product}
+use Rattle.meaning.specs.Tree.{PathFormula, next, until, Letter, forAll, exists}
+
+-- the relation of a comparison's node
+abbrev pub relationOf : Relation → Spelled.Relation
+relationOf less = Less
+relationOf atMost = AtMost
+relationOf equal = Equal
+relationOf atLeast = AtLeast
+relationOf greater = Greater
+
+-- a letter of the prefix: `true` for `E`
+abbrev pub letterOf : Bool → Letter
+letterOf true = exists
+letterOf false = forAll
+
+unfoldable mutual
+  pub formulaNodes : Formula → List Node
+  formulaNodes always = True ∷ []
+  formulaNodes (labelled l i) = Label l i ∷ []
+  formulaNodes (negation f) = Not ∷ formulaNodes f
+  formulaNodes (both f g) = And ∷ (formulaNodes f ++ formulaNodes g)
+  formulaNodes (compare r a b) = Compare (relationOf r) ∷ (expressionNodes a ++ expressionNodes b)
+
+  pub expressionNodes : Expression → List Node
+  expressionNodes (probability p) = Probability ∷ pathNodes p
+  expressionNodes (constant a b) = Constant a b ∷ []
+  expressionNodes (sum a b) = Sum ∷ (expressionNodes a ++ expressionNodes b)
+  expressionNodes (difference a b) = Difference ∷ (expressionNodes a ++ expressionNodes b)
+  expressionNodes (product a b) = Product ∷ (expressionNodes a ++ expressionNodes b)
+
+  pub pathNodes : PathFormula → List Node
+  pathNodes (next f) = Next ∷ formulaNodes f
+  pathNodes (until k1 k2 f g) = Until k1 k2 ∷ (formulaNodes f ++ formulaNodes g)

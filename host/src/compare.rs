@@ -1,0 +1,273 @@
+//! Comparisons of a library with the second program.
+//!
+//! Each function runs so many seeded cases of one area. For each case it
+//! compares the library's answer with that of [`crate::second`], and the lent
+//! memory before and after: inputs stay as they are, an output changes in
+//! nothing but what is written, a refusal changes nothing. A difference stops
+//! the run with a report of the input. The returned [`Tally`] counts the cases
+//! by answer, and every answer that the area has must have been given.
+
+mod examples;
+#[cfg(test)]
+mod faults;
+mod meaning;
+mod merging;
+mod models;
+mod sentences;
+
+use crate::gen::Rng;
+use crate::second::meaning::WORK;
+use crate::second::{self, Model, Sentence};
+use std::fmt::{self, Debug, Display};
+
+pub use examples::compare_examples;
+pub use meaning::{compare_numerator, compare_verdict};
+pub use merging::compare_merge;
+pub use models::{compare_model_reader, compare_model_writer};
+pub use sentences::{compare_sentence_reader, compare_sentence_writer};
+
+/// The calls of the document, on numbers and byte slices. A refusal is its number.
+pub trait Library {
+    /// Reads a model file.
+    fn read_model(&self, file: &[u8]) -> Result<Model, u8>;
+    /// Writes a model's file to the front of `out`; tells its length.
+    fn write_model(&self, model: &Model, out: &mut [u8]) -> Result<usize, u8>;
+    /// Reads a sentence text.
+    fn read_sentence(&self, text: &[u8]) -> Result<Sentence, u8>;
+    /// Writes a sentence's text to the front of `out`; tells its length.
+    fn write_sentence(&self, sentence: &Sentence, out: &mut [u8]) -> Result<usize, u8>;
+    /// Whether a sentence holds on a model.
+    fn verdict(&self, file: &[u8], text: &[u8], work: &mut [u64]) -> Result<bool, u8>;
+    /// The numerator and denominator of a path formula at a tuple.
+    fn numerator(
+        &self,
+        file: &[u8],
+        text: &[u8],
+        tuple: &[u8],
+        path: usize,
+        work: &mut [u64],
+    ) -> Result<(u64, u64), u8>;
+    /// Writes the model merged by a grouping to the front of `out`; tells its length.
+    fn merge(&self, file: &[u8], grouping: &[u8], out: &mut [u8]) -> Result<usize, u8>;
+}
+
+/// The second program as a library: compared with itself it shows that the
+/// cases reach every answer.
+#[derive(Clone, Copy, Debug)]
+pub struct Second;
+
+impl Library for Second {
+    fn read_model(&self, file: &[u8]) -> Result<Model, u8> {
+        second::read_model(file)
+    }
+
+    fn write_model(&self, model: &Model, out: &mut [u8]) -> Result<usize, u8> {
+        second::write_model(model, out)
+    }
+
+    fn read_sentence(&self, text: &[u8]) -> Result<Sentence, u8> {
+        second::read_sentence(text)
+    }
+
+    fn write_sentence(&self, sentence: &Sentence, out: &mut [u8]) -> Result<usize, u8> {
+        second::write_sentence(sentence, out)
+    }
+
+    fn verdict(&self, file: &[u8], text: &[u8], work: &mut [u64]) -> Result<bool, u8> {
+        second::verdict(file, text, work)
+    }
+
+    fn numerator(
+        &self,
+        file: &[u8],
+        text: &[u8],
+        tuple: &[u8],
+        path: usize,
+        work: &mut [u64],
+    ) -> Result<(u64, u64), u8> {
+        second::numerator(file, text, tuple, path, work)
+    }
+
+    fn merge(&self, file: &[u8], grouping: &[u8], out: &mut [u8]) -> Result<usize, u8> {
+        second::merge(file, grouping, out)
+    }
+}
+
+/// How often each answer was given in an area.
+#[derive(Clone, Debug)]
+pub struct Tally {
+    /// The area.
+    pub area: &'static str,
+    /// Cases that ended in an answer.
+    pub answered: u64,
+    /// Verdicts 'holds' among them.
+    pub holds: u64,
+    /// Verdicts 'fails' among them.
+    pub fails: u64,
+    /// Cases refused, by number; place 0 stays 0.
+    pub refused: [u64; 16],
+}
+
+impl Tally {
+    /// A tally of an area with nothing counted.
+    fn new(area: &'static str) -> Tally {
+        Tally { area, answered: 0, holds: 0, fails: 0, refused: [0; 16] }
+    }
+
+    /// Counts one answer that was found equal to the second program's.
+    fn count<T>(&mut self, answer: &Result<T, u8>) {
+        match answer {
+            Ok(_) => self.answered += 1,
+            Err(number) => self.refused[usize::from(*number)] += 1,
+        }
+    }
+
+    /// All cases.
+    pub fn cases(&self) -> u64 {
+        self.answered + self.refused.iter().sum::<u64>()
+    }
+
+    /// Stops unless there were answers, and refusals of exactly the given numbers.
+    fn require(&self, numbers: &[usize]) {
+        assert!(self.answered > 0, "{self}: nothing was answered");
+        for number in 1..16 {
+            let reached = self.refused[number] > 0;
+            assert_eq!(reached, numbers.contains(&number), "{self}: refusal {number} is amiss");
+        }
+    }
+}
+
+impl Display for Tally {
+    fn fmt(&self, f: &mut fmt::Formatter<'_>) -> fmt::Result {
+        write!(f, "{}: {} cases, {} answered", self.area, self.cases(), self.answered)?;
+        if self.holds + self.fails > 0 {
+            write!(f, " ({} hold, {} fail)", self.holds, self.fails)?;
+        }
+        for (number, count) in self.refused.iter().enumerate().filter(|(_, &count)| count > 0) {
+            write!(f, ", {number}: {count}")?;
+        }
+        Ok(())
+    }
+}
+
+/// Every comparison at its full size.
+pub fn full_run<L: Library>(lib: &L, seed: u64) -> Vec<Tally> {
+    compare_examples(lib);
+    vec![
+        compare_model_reader(lib, 120_000, seed),
+        compare_model_writer(lib, 80_000, seed + 1),
+        compare_sentence_reader(lib, 200_000, seed + 2),
+        compare_sentence_writer(lib, 100_000, seed + 3),
+        compare_verdict(lib, 200_000, seed + 4),
+        compare_numerator(lib, 20_000, seed + 5),
+        compare_merge(lib, 100_000, seed + 6),
+    ]
+}
+
+/// Stops with a report unless two values are equal. `expected` is the second program's.
+fn agree<T: PartialEq + Debug>(what: &str, expected: &T, got: &T, input: impl FnOnce() -> String) {
+    if expected != got {
+        panic!("{what} differs\n  expected {}\n  got      {}\n{}", brief(expected), brief(got), input());
+    }
+}
+
+/// A value's debug text, cut where it gets long.
+fn brief(value: &impl Debug) -> String {
+    let mut text = format!("{value:?}");
+    if text.len() > 3_000 {
+        text.truncate(3_000);
+        text.push_str("..");
+    }
+    text
+}
+
+/// A file for a report: its length and the bytes of it that are not zero.
+fn shown_file(file: &[u8]) -> String {
+    let bytes = file.iter().enumerate().filter(|(_, &byte)| byte != 0);
+    let list: Vec<String> = bytes.map(|(place, byte)| format!("{place}:{byte}")).collect();
+    format!("  file of {} bytes, not zero at {}\n", file.len(), list.join(" "))
+}
+
+/// A text for a report.
+fn shown_text(text: &[u8]) -> String {
+    format!("  text of {} bytes: {}\n", text.len(), text.escape_ascii())
+}
+
+/// A lent output of a given length, with anything in it.
+fn output(rng: &mut Rng, length: usize) -> Vec<u8> {
+    let mut out = Vec::with_capacity(length + 8);
+    while out.len() < length {
+        out.extend_from_slice(&rng.bits().to_le_bytes());
+    }
+    out.truncate(length);
+    out
+}
+
+/// Checks a lent output after a call: what was written is at its front, what is
+/// beyond stayed; after a refusal all of it stayed.
+fn output_after(
+    what: &str,
+    answer: &Result<usize, u8>,
+    written: &[u8],
+    before: &[u8],
+    after: &[u8],
+    input: impl FnOnce() -> String,
+) {
+    let mut expected = before.to_vec();
+    if let Ok(length) = answer {
+        expected[..*length].copy_from_slice(&written[..*length]);
+    }
+    agree(&format!("{what}: the output"), &expected.as_slice(), &after, input);
+}
+
+/// A lent work area of a given length, with anything in it.
+fn work_area(rng: &mut Rng, length: usize) -> Vec<u64> {
+    (0..length).map(|_| rng.bits()).collect()
+}
+
+/// Checks a work area after a call: its first 8,192 numbers zero after an
+/// answer, the others as they were; after a refusal all as they were.
+fn work_after<T>(
+    what: &str,
+    answer: &Result<T, u8>,
+    before: &[u64],
+    after: &[u64],
+    input: impl FnOnce() -> String,
+) {
+    let front = if answer.is_ok() { WORK } else { 0 };
+    let right = after.len() == before.len()
+        && after[..front].iter().all(|&number| number == 0)
+        && after[front..] == before[front..];
+    if !right {
+        panic!("{what}: the work area is not as it should be\n{}", input());
+    }
+}
+
+#[cfg(test)]
+mod tests {
+    use super::*;
+
+    #[test]
+    fn the_examples_hold_of_second() {
+        compare_examples(&Second);
+    }
+
+    #[test]
+    fn every_area_reaches_every_answer() {
+        println!("{}", compare_model_reader(&Second, 2_000, 1));
+        println!("{}", compare_model_writer(&Second, 2_000, 2));
+        println!("{}", compare_sentence_reader(&Second, 5_000, 3));
+        println!("{}", compare_sentence_writer(&Second, 5_000, 4));
+        println!("{}", compare_verdict(&Second, 4_000, 5));
+        println!("{}", compare_numerator(&Second, 500, 6));
+        println!("{}", compare_merge(&Second, 2_000, 7));
+    }
+
+    #[test]
+    #[ignore = "the full size, for measuring"]
+    fn the_full_run_of_second() {
+        for tally in full_run(&Second, 1) {
+            println!("{tally}");
+        }
+    }
+}

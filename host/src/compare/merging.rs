@@ -1,0 +1,133 @@
+//! Merging, and what it keeps: numerators, denominators and verdicts.
+
+use super::meaning::members;
+use super::{agree, output, output_after, shown_file, shown_text, Library, Tally};
+use crate::gen::grouping::{self, Merging};
+use crate::gen::{question, Rng};
+use crate::second::meaning::{answer, Answer, Way, WORK};
+use crate::second::{self, read_model};
+
+/// The most tuples at which the library itself is asked, of one pair.
+const ASKED: usize = 40;
+
+/// Compares merging on `cases` random models, groupings and outputs. For a part
+/// of the accepted ones, a random sentence is asked of the full and of the
+/// merged model: numerators, denominators and verdicts must be equal.
+pub fn compare_merge<L: Library>(lib: &L, cases: usize, seed: u64) -> Tally {
+    let mut rng = Rng::new(seed);
+    let mut tally = Tally::new("merge");
+    let mut kept = 0;
+    for _ in 0..cases {
+        let merging = grouping::merging(&mut rng);
+        if let Some(small) = merge_case(lib, &mut rng, &mut tally, &merging) {
+            if rng.chance(1, 5) {
+                kept += usize::from(keeps(lib, &mut rng, &merging, &small));
+            }
+        }
+    }
+    tally.require(&[2, 3, 4, 5, 12, 13, 14]);
+    assert!(kept > cases / 50, "{tally}: only {kept} merges were asked a sentence with a path");
+    tally
+}
+
+/// A merging for a report.
+fn shown(merging: &Merging) -> String {
+    let Merging { file, grouping, room } = merging;
+    format!("  grouping {grouping:?}, output of {room}\n{}", shown_file(file))
+}
+
+/// One merge; gives the merged file if it was accepted.
+fn merge_case<L: Library>(lib: &L, rng: &mut Rng, tally: &mut Tally, merging: &Merging) -> Option<Vec<u8>> {
+    let before = output(rng, merging.room);
+    let mut written = before.clone();
+    let expected = second::merge(&merging.file, &merging.grouping, &mut written);
+    let (lent, mut after) = (merging.clone(), before.clone());
+    let got = lib.merge(&lent.file, &lent.grouping, &mut after);
+    agree("merge", &expected, &got, || shown(merging));
+    agree("merge: the lent file", &merging.file, &lent.file, || shown(merging));
+    agree("merge: the lent grouping", &merging.grouping, &lent.grouping, || shown(merging));
+    output_after("merge", &expected, &written, &before, &after, || shown(merging));
+    tally.count(&expected);
+    let length = expected.ok()?;
+    after.truncate(length);
+    Some(after)
+}
+
+/// A full model, its merged model and a sentence, to be asked of both.
+struct Both<'a> {
+    merging: &'a Merging,
+    small: &'a [u8],
+    text: Vec<u8>,
+    letters: usize,
+}
+
+impl Both<'_> {
+    /// The case for a report.
+    fn told(&self) -> String {
+        shown_text(&self.text) + &shown(self.merging)
+    }
+
+    /// What the second program answers on the full and on the merged model, if
+    /// the sentence is not refused on the full one.
+    fn answers(&self) -> Option<(Answer, Answer)> {
+        let on_full = answer(&self.merging.file, &self.text, Way::Fitting).ok()?;
+        match answer(self.small, &self.text, Way::Fitting) {
+            Ok(on_small) => Some((on_full, on_small)),
+            Err(number) => panic!("refused by {number} on the merged model\n{}", self.told()),
+        }
+    }
+
+    /// The library's verdicts are those of the second program, and equal.
+    fn verdicts<L: Library>(&self, lib: &L, on_full: bool, on_small: bool) {
+        let mut work = vec![0; WORK];
+        let got = [&self.merging.file[..], self.small].map(|file| lib.verdict(file, &self.text, &mut work));
+        agree("the verdict on full or merged", &[Ok(on_full), Ok(on_small)], &got, || self.told());
+        agree("the verdict on merged", &on_full, &on_small, || self.told());
+    }
+
+    /// A tuple of the full model by its number, and the tuple of its groups.
+    fn tuples(&self, at: usize) -> (Vec<u8>, Vec<u8>) {
+        let tuple = members(usize::from(self.merging.file[1]), self.letters, at);
+        let grouped = tuple.iter().map(|&s| self.merging.grouping[usize::from(s)]).collect();
+        (tuple, grouped)
+    }
+
+    /// The library's fractions of a path at a tuple and at the tuple of its groups.
+    fn asked<L: Library>(&self, lib: &L, path: usize, at: usize, expected: (u64, u64)) {
+        let (tuple, grouped) = self.tuples(at);
+        let mut work = vec![0; WORK];
+        let on_full = lib.numerator(&self.merging.file, &self.text, &tuple, path, &mut work);
+        let on_small = lib.numerator(self.small, &self.text, &grouped, path, &mut work);
+        agree("a fraction on full or merged", &[Ok(expected); 2], &[on_full, on_small], || self.told());
+    }
+}
+
+/// Asks one random sentence of both models: by the second program at every
+/// tuple, by the library at every tuple or a sample. Tells whether it had a path
+/// and was not refused.
+fn keeps<L: Library>(lib: &L, rng: &mut Rng, merging: &Merging, small: &[u8]) -> bool {
+    let full = read_model(&merging.file).expect("a model that was merged");
+    let most = rng.pick(&[36, 36, 100, 256]);
+    let fits = |&letters: &usize| usize::from(full.n).pow(letters as u32) <= most;
+    let letters = (1..=rng.between(1, 4)).rev().find(fits).unwrap_or(1);
+    let size = rng.between(3, 16);
+    let text = question::fitting_sentence(rng, &full, letters, size).text();
+    let both = Both { merging, small, text, letters };
+    let Some((on_full, on_small)) = both.answers() else {
+        return false;
+    };
+    both.verdicts(lib, on_full.holds, on_small.holds);
+    for (path, (fractions, merged)) in on_full.paths.iter().zip(&on_small.paths).enumerate() {
+        let sample = (fractions.tops.len() * on_full.paths.len()).div_ceil(ASKED);
+        for (at, &top) in fractions.tops.iter().enumerate() {
+            let groups = usize::from(small[1]);
+            let there = both.tuples(at).1.iter().fold(0, |number, &g| number * groups + usize::from(g));
+            let expected = (top, fractions.bottom);
+            agree("a fraction on merged", &expected, &(merged.tops[there], merged.bottom), || both.told());
+            if rng.chance(1, sample) {
+                both.asked(lib, path, at, expected);
+            }
+        }
+    }
+    !on_full.paths.is_empty()
+}

@@ -1,0 +1,96 @@
+//! The model reader and the model writer.
+
+use super::{agree, output, output_after, shown_file, Library, Tally};
+use crate::gen::{model, Rng};
+use crate::second::model::{blocks_of, mend};
+use crate::second::{self, Model};
+
+/// Compares reading on every length 0..3,600, every limit of the layout, every
+/// byte of a file changed, and `cases` random files; what is read is written
+/// again and gives the same file.
+pub fn compare_model_reader<L: Library>(lib: &L, cases: usize, seed: u64) -> Tally {
+    let mut rng = Rng::new(seed);
+    let mut tally = Tally::new("model reader");
+    for length in 0..=3_600 {
+        let file = model::of_length(&mut rng, length);
+        reader_case(lib, &mut rng, &mut tally, &file);
+    }
+    for kind in (0..model::LIMITS).cycle().take(10 * model::LIMITS) {
+        let file = model::limit_file(&mut rng, kind);
+        reader_case(lib, &mut rng, &mut tally, &file);
+    }
+    each_byte_changed(lib, &mut rng, &mut tally);
+    for _ in 0..cases {
+        let file = model::file(&mut rng);
+        reader_case(lib, &mut rng, &mut tally, &file);
+    }
+    tally.require(&[2, 3, 4, 5]);
+    tally
+}
+
+/// A file of three blocks with each of its bytes changed in turn, the checks as
+/// they were and mended.
+fn each_byte_changed<L: Library>(lib: &L, rng: &mut Rng, tally: &mut Tally) {
+    let good = model::file_of(&model::model_with(rng, 8, 9, 300));
+    for place in 0..good.len() {
+        let mut file = good.clone();
+        file[place] ^= 1 << rng.below(8);
+        reader_case(lib, rng, tally, &file);
+        mend(&mut file);
+        reader_case(lib, rng, tally, &file);
+    }
+}
+
+/// One file: read, and if accepted written again.
+fn reader_case<L: Library>(lib: &L, rng: &mut Rng, tally: &mut Tally, file: &[u8]) {
+    let shown = || shown_file(file);
+    let expected = second::read_model(file);
+    let lent = file.to_vec();
+    let got = lib.read_model(&lent);
+    agree("read model", &expected, &got, shown);
+    agree("read model: the lent file", &file, &lent.as_slice(), shown);
+    tally.count(&expected);
+    if let Ok(model) = got {
+        let before = output(rng, file.len() + 5);
+        let mut after = before.clone();
+        let answer = lib.write_model(&model, &mut after);
+        agree("write what was read", &Ok(file.len()), &answer, shown);
+        output_after("write what was read", &answer, file, &before, &after, shown);
+    }
+}
+
+/// Compares writing on `cases` random records and outputs of every length about
+/// the right one; what is written is read again and gives the same model.
+pub fn compare_model_writer<L: Library>(lib: &L, cases: usize, seed: u64) -> Tally {
+    let mut rng = Rng::new(seed);
+    let mut tally = Tally::new("model writer");
+    for _ in 0..cases {
+        let record = model::record(&mut rng);
+        writer_case(lib, &mut rng, &mut tally, &record);
+    }
+    tally.require(&[4, 5, 14]);
+    tally
+}
+
+/// One record: written, and if accepted read again.
+fn writer_case<L: Library>(lib: &L, rng: &mut Rng, tally: &mut Tally, record: &Model) {
+    let shown = || format!("  record {record:?}\n");
+    let exact = 512 * blocks_of(usize::from(record.n).min(32));
+    let length = match rng.below(8) {
+        0 => rng.pick(&[0, 1, 511, 512, exact - 1, exact - 512]),
+        1 => exact + rng.between(1, 1_000),
+        _ => exact,
+    };
+    let before = output(rng, length);
+    let mut written = before.clone();
+    let expected = second::write_model(record, &mut written);
+    let (lent, mut after) = (record.clone(), before.clone());
+    let got = lib.write_model(&lent, &mut after);
+    agree("write model", &expected, &got, shown);
+    agree("write model: the lent record", record, &lent, shown);
+    output_after("write model", &expected, &written, &before, &after, shown);
+    tally.count(&expected);
+    if let Ok(length) = got {
+        agree("read what was written", &Ok(lent), &lib.read_model(&after[..length]), shown);
+    }
+}

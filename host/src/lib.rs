@@ -1,0 +1,12 @@
+//! The host side of the project: an independent second program, written from
+//! the document of scope alone, and the comparisons that set a library beside it.
+//!
+//! * [`second`] answers every call of the document by the plainest means.
+//! * [`gen`] makes seeded inputs: files, texts, records, groupings, right and wrong.
+//! * [`compare`] runs a [`compare::Library`] against `second` on those inputs.
+
+#![warn(missing_docs)]
+
+pub mod compare;
+pub mod gen;
+pub mod second;

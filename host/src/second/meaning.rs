@@ -1,0 +1,653 @@
+//! The meaning of a sentence on a model: verdicts and numerators
+//! (document 01, 'Meaning'; refusals 1 to 11 and 15).
+//!
+//! A path's numerators are found in two ways. [`Way::Runs`] lists every run and
+//! asks of each whether the path takes it, in the words of the definition.
+//! [`Way::Table`] works backwards over the window and serves where the runs are
+//! too many to list.
+
+use super::model::{read_model, Model};
+use super::sentence::{read_sentence, Node, Relation, Sentence};
+
+/// The numbers of 64 bits that a work area must have.
+pub const WORK: usize = 8_192;
+/// The most tuples of a question that is answered.
+pub const TUPLES: usize = 1_024;
+/// The end of the size rule.
+const END: u128 = 1 << 62;
+/// The most runs from one tuple that [`Way::Fitting`] lists.
+const RUNS: u64 = 128;
+
+/// How the numerators of a path are found.
+#[derive(Clone, Copy, Debug, PartialEq, Eq)]
+pub enum Way {
+    /// By listing every run, each once.
+    Runs,
+    /// By a table over the moments of the window.
+    Table,
+    /// By listing where the runs are few, by a table elsewhere.
+    Fitting,
+}
+
+/// The numerators of one path formula, one for each tuple (variable 1 counts
+/// most in a tuple's number), and their denominator.
+#[derive(Clone, Debug, PartialEq, Eq)]
+pub struct Fractions {
+    /// The numerator at each tuple.
+    pub tops: Vec<u64>,
+    /// The denominator.
+    pub bottom: u64,
+}
+
+/// What a sentence means on a model: its verdict, and the fractions of its
+/// path formulas in written order.
+#[derive(Clone, Debug, PartialEq, Eq)]
+pub struct Answer {
+    /// Whether the sentence holds.
+    pub holds: bool,
+    /// The fractions of each path formula, in written order.
+    pub paths: Vec<Fractions>,
+}
+
+/// Whether a sentence holds on a model. Refusals 1 to 11.
+pub fn verdict(file: &[u8], text: &[u8], work: &mut [u64]) -> Result<bool, u8> {
+    if work.len() < WORK {
+        return Err(1);
+    }
+    let question = Question::of(file, text)?;
+    let holds = question.answer(Way::Fitting).holds;
+    work[..WORK].fill(0);
+    Ok(holds)
+}
+
+/// The numerator and denominator of one path formula at one tuple. Refusals 1 to 11, 15.
+pub fn numerator(
+    file: &[u8],
+    text: &[u8],
+    tuple: &[u8],
+    path: usize,
+    work: &mut [u64],
+) -> Result<(u64, u64), u8> {
+    if work.len() < WORK {
+        return Err(1);
+    }
+    let question = Question::of(file, text)?;
+    let n_states = usize::from(question.model.n);
+    if tuple.len() != question.sentence.letters || tuple.iter().any(|&s| usize::from(s) >= n_states) {
+        return Err(15);
+    }
+    let at = tuple.iter().fold(0, |number, &s| number * n_states + usize::from(s));
+    let answer = question.answer(Way::Fitting);
+    let fractions = answer.paths.get(path).ok_or(15)?;
+    work[..WORK].fill(0);
+    Ok((fractions.tops[at], fractions.bottom))
+}
+
+/// Everything that a sentence means on a model, found in the given way. Refusals 2 to 11.
+pub fn answer(file: &[u8], text: &[u8], way: Way) -> Result<Answer, u8> {
+    Ok(Question::of(file, text)?.answer(way))
+}
+
+/// Whether the size rule refuses a sentence that can be read, for a given D.
+pub fn too_large(sentence: &Sentence, d: u32) -> bool {
+    size_of_formula(&body_of(sentence), Sizes { d, letters: sentence.letters }).is_none()
+}
+
+/// A state formula, with what it contains.
+enum Formula {
+    True,
+    Label { label: u8, variable: usize },
+    Not(Box<Formula>),
+    And(Box<Formula>, Box<Formula>),
+    Compare(Relation, Expression, Expression),
+}
+
+/// An expression, with what it contains.
+enum Expression {
+    Probability(Box<Path>),
+    Constant { top: u32, bottom: u32 },
+    Sum(Box<Expression>, Box<Expression>),
+    Difference(Box<Expression>, Box<Expression>),
+    Product(Box<Expression>, Box<Expression>),
+}
+
+/// A path, with what it contains, and its number among the path formulas.
+struct Path {
+    number: usize,
+    kind: PathKind,
+}
+
+/// The two kinds of path.
+enum PathKind {
+    Next(Formula),
+    Until { from: usize, to: usize, first: Formula, second: Formula },
+}
+
+/// The body of a sentence that can be read, as a formula.
+fn body_of(sentence: &Sentence) -> Formula {
+    let mut growing = Growing { list: &sentence.nodes[..sentence.count], at: 0, paths: 0 };
+    growing.formula()
+}
+
+/// A list of nodes on its way to becoming a formula.
+struct Growing<'a> {
+    list: &'a [Node],
+    at: usize,
+    paths: usize,
+}
+
+impl Growing<'_> {
+    /// Takes the next node.
+    fn node(&mut self) -> Node {
+        self.at += 1;
+        self.list[self.at - 1]
+    }
+
+    /// Takes one state formula.
+    fn formula(&mut self) -> Formula {
+        match self.node() {
+            Node::True => Formula::True,
+            Node::Label { label, variable } => Formula::Label { label, variable: usize::from(variable) },
+            Node::Not => Formula::Not(Box::new(self.formula())),
+            Node::And => {
+                let left = self.formula();
+                Formula::And(Box::new(left), Box::new(self.formula()))
+            }
+            Node::Compare(relation) => {
+                let left = self.expression();
+                Formula::Compare(relation, left, self.expression())
+            }
+            other => panic!("{other:?} is no state formula"),
+        }
+    }
+
+    /// Takes one expression.
+    fn expression(&mut self) -> Expression {
+        match self.node() {
+            Node::Probability => Expression::Probability(Box::new(self.path())),
+            Node::Constant { top, bottom } => Expression::Constant { top, bottom },
+            Node::Sum => self.two(Expression::Sum),
+            Node::Difference => self.two(Expression::Difference),
+            Node::Product => self.two(Expression::Product),
+            other => panic!("{other:?} is no expression"),
+        }
+    }
+
+    /// Takes the two operands of an expression.
+    fn two(&mut self, of: fn(Box<Expression>, Box<Expression>) -> Expression) -> Expression {
+        let left = self.expression();
+        of(Box::new(left), Box::new(self.expression()))
+    }
+
+    /// Takes one path; path formulas are numbered by where they begin.
+    fn path(&mut self) -> Path {
+        let number = self.paths;
+        self.paths += 1;
+        let kind = match self.node() {
+            Node::Next => PathKind::Next(self.formula()),
+            Node::Until { from, to } => {
+                let first = self.formula();
+                PathKind::Until { from: from as usize, to: to as usize, first, second: self.formula() }
+            }
+            other => panic!("{other:?} is no path"),
+        };
+        Path { number, kind }
+    }
+}
+
+/// What the size rule looks at besides the sentence: D and the number of letters.
+#[derive(Clone, Copy)]
+struct Sizes {
+    d: u32,
+    letters: usize,
+}
+
+/// A number that the size rule allows.
+fn allowed(number: u128) -> Option<u128> {
+    (number <= END).then_some(number)
+}
+
+/// Walks a state formula by the size rule; nothing if the rule refuses it.
+fn size_of_formula(formula: &Formula, sizes: Sizes) -> Option<()> {
+    match formula {
+        Formula::True | Formula::Label { .. } => Some(()),
+        Formula::Not(inner) => size_of_formula(inner, sizes),
+        Formula::And(left, right) => {
+            size_of_formula(left, sizes)?;
+            size_of_formula(right, sizes)
+        }
+        Formula::Compare(_, left, right) => {
+            let (d1, m1) = size_of_expression(left, sizes)?;
+            let (d2, m2) = size_of_expression(right, sizes)?;
+            allowed(m1 * d2)?;
+            allowed(m2 * d1)?;
+            Some(())
+        }
+    }
+}
+
+/// The denominator d and the bound m of an expression; nothing if the rule refuses it.
+fn size_of_expression(expression: &Expression, sizes: Sizes) -> Option<(u128, u128)> {
+    let (d, m) = match expression {
+        Expression::Probability(path) => {
+            let steps = match &path.kind {
+                PathKind::Next(inner) => {
+                    size_of_formula(inner, sizes)?;
+                    1
+                }
+                PathKind::Until { to, first, second, .. } => {
+                    size_of_formula(first, sizes)?;
+                    size_of_formula(second, sizes)?;
+                    *to
+                }
+            };
+            let d = power(sizes.d, sizes.letters * steps)?;
+            (d, d)
+        }
+        Expression::Constant { top, bottom } => (u128::from(*bottom), u128::from(*top)),
+        Expression::Sum(left, right) | Expression::Difference(left, right) => {
+            let (d1, m1) = size_of_expression(left, sizes)?;
+            let (d2, m2) = size_of_expression(right, sizes)?;
+            (d1 * d2, m1 * d2 + m2 * d1)
+        }
+        Expression::Product(left, right) => {
+            let (d1, m1) = size_of_expression(left, sizes)?;
+            let (d2, m2) = size_of_expression(right, sizes)?;
+            (d1 * d2, m1 * m2)
+        }
+    };
+    Some((allowed(d)?, allowed(m)?))
+}
+
+/// D to a power; nothing if that is above the end of the size rule.
+fn power(d: u32, exponent: usize) -> Option<u128> {
+    (0..exponent).try_fold(1, |product: u128, _| allowed(product * u128::from(d)))
+}
+
+/// Whether some label letter of a sentence is not below A.
+fn names_a_label_beyond(sentence: &Sentence, a: u8) -> bool {
+    let list = &sentence.nodes[..sentence.count];
+    list.iter().any(|node| matches!(node, Node::Label { label, .. } if *label >= a))
+}
+
+/// A model and a sentence that no row from 2 to 11 refuses.
+struct Question {
+    model: Model,
+    sentence: Sentence,
+    tuples: usize,
+}
+
+/// The values of an expression: a numerator with its sign at each tuple, and a denominator.
+struct Values {
+    tops: Vec<i128>,
+    bottom: i128,
+}
+
+impl Question {
+    /// Rows 2 to 11, in their order.
+    fn of(file: &[u8], text: &[u8]) -> Result<Question, u8> {
+        let model = read_model(file)?;
+        let sentence = read_sentence(text)?;
+        if names_a_label_beyond(&sentence, model.a) {
+            return Err(9);
+        }
+        if too_large(&sentence, model.d) {
+            return Err(10);
+        }
+        let tuples = usize::from(model.n).pow(sentence.letters as u32);
+        if tuples > TUPLES {
+            return Err(11);
+        }
+        Ok(Question { model, sentence, tuples })
+    }
+
+    /// The verdict and the fractions of every path formula.
+    fn answer(&self, way: Way) -> Answer {
+        let count = self.sentence.nodes[..self.sentence.count]
+            .iter()
+            .filter(|node| matches!(node, Node::Next | Node::Until { .. }))
+            .count();
+        let mut paths = vec![Fractions { tops: Vec::new(), bottom: 0 }; count];
+        let truth = self.formula(&body_of(&self.sentence), way, &mut paths);
+        let prefix = &self.sentence.exists[..self.sentence.letters];
+        Answer { holds: self.prefix(prefix, &truth), paths }
+    }
+
+    /// The prefix over the body's truth at each tuple, the first letter outermost.
+    fn prefix(&self, exists: &[bool], truth: &[bool]) -> bool {
+        let Some((&first, inner)) = exists.split_first() else {
+            return truth[0];
+        };
+        let mut parts = truth.chunks(truth.len() / usize::from(self.model.n));
+        if first {
+            parts.any(|part| self.prefix(inner, part))
+        } else {
+            parts.all(|part| self.prefix(inner, part))
+        }
+    }
+
+    /// The state of a variable, 1 for the first, in a tuple.
+    fn member(&self, tuple: usize, variable: usize) -> usize {
+        let n_states = usize::from(self.model.n);
+        tuple / n_states.pow((self.sentence.letters - variable) as u32) % n_states
+    }
+
+    /// The truth of a state formula at each tuple.
+    fn formula(&self, formula: &Formula, way: Way, paths: &mut [Fractions]) -> Vec<bool> {
+        match formula {
+            Formula::True => vec![true; self.tuples],
+            Formula::Label { label, variable } => (0..self.tuples)
+                .map(|tuple| self.model.masks[self.member(tuple, *variable)] >> label & 1 == 1)
+                .collect(),
+            Formula::Not(inner) => self.formula(inner, way, paths).iter().map(|truth| !truth).collect(),
+            Formula::And(left, right) => {
+                let left = self.formula(left, way, paths);
+                let right = self.formula(right, way, paths);
+                left.iter().zip(&right).map(|(&a, &b)| a && b).collect()
+            }
+            Formula::Compare(relation, left, right) => {
+                let left = self.expression(left, way, paths);
+                let right = self.expression(right, way, paths);
+                let sides = left.tops.iter().zip(&right.tops);
+                sides.map(|(&a, &b)| meets(*relation, a * right.bottom, b * left.bottom)).collect()
+            }
+        }
+    }
+
+    /// The value of an expression at each tuple.
+    fn expression(&self, expression: &Expression, way: Way, paths: &mut [Fractions]) -> Values {
+        match expression {
+            Expression::Probability(path) => {
+                let fractions = self.path(path, way, paths);
+                let tops = fractions.tops.iter().map(|&top| i128::from(top)).collect();
+                let bottom = i128::from(fractions.bottom);
+                paths[path.number] = fractions;
+                Values { tops, bottom }
+            }
+            Expression::Constant { top, bottom } => {
+                Values { tops: vec![i128::from(*top); self.tuples], bottom: i128::from(*bottom) }
+            }
+            Expression::Sum(left, right) => {
+                self.both(left, right, way, paths, |(a, d1), (b, d2)| a * d2 + b * d1)
+            }
+            Expression::Difference(left, right) => {
+                self.both(left, right, way, paths, |(a, d1), (b, d2)| a * d2 - b * d1)
+            }
+            Expression::Product(left, right) => self.both(left, right, way, paths, |(a, _), (b, _)| a * b),
+        }
+    }
+
+    /// The value of an expression with two operands; `top` makes the new
+    /// numerator of two fractions over the product of their denominators.
+    fn both(
+        &self,
+        left: &Expression,
+        right: &Expression,
+        way: Way,
+        paths: &mut [Fractions],
+        top: fn((i128, i128), (i128, i128)) -> i128,
+    ) -> Values {
+        let left = self.expression(left, way, paths);
+        let right = self.expression(right, way, paths);
+        let sides = left.tops.iter().zip(&right.tops);
+        let tops = sides.map(|(&a, &b)| top((a, left.bottom), (b, right.bottom))).collect();
+        Values { tops, bottom: left.bottom * right.bottom }
+    }
+
+    /// The fractions of a path formula.
+    fn path(&self, path: &Path, way: Way, paths: &mut [Fractions]) -> Fractions {
+        match &path.kind {
+            PathKind::Next(inner) => {
+                let truth = self.formula(inner, way, paths);
+                let tops = match self.resolved(way, 1) {
+                    Way::Runs => self.by_runs(1, &|run| truth[run[1]]),
+                    _ => self.step(truth.iter().map(|&truth| u64::from(truth)).collect()),
+                };
+                Fractions { tops, bottom: self.joint_power(1) }
+            }
+            PathKind::Until { from, to, first, second } => {
+                let first = self.formula(first, way, paths);
+                let second = self.formula(second, way, paths);
+                let tops = match self.resolved(way, *to) {
+                    Way::Runs => self.by_runs(*to, &|run| until_takes(run, *from, *to, &first, &second)),
+                    _ => self.until_table(*from, *to, &first, &second),
+                };
+                Fractions { tops, bottom: self.joint_power(*to) }
+            }
+        }
+    }
+
+    /// The way for runs of so many steps: listing only where there are few.
+    fn resolved(&self, way: Way, steps: usize) -> Way {
+        let few = || (self.tuples as u64).checked_pow(steps as u32).is_some_and(|runs| runs <= RUNS);
+        match way {
+            Way::Fitting if few() => Way::Runs,
+            Way::Fitting => Way::Table,
+            other => other,
+        }
+    }
+
+    /// D to the power n × steps: the weight of all runs of so many steps from a tuple.
+    fn joint_power(&self, steps: usize) -> u64 {
+        u64::from(self.model.d).pow((self.sentence.letters * steps) as u32)
+    }
+
+    /// The joint weight from one tuple to another.
+    fn joint_weight(&self, from: usize, to: usize) -> u64 {
+        let letters = 1..=self.sentence.letters;
+        letters.map(|v| u64::from(self.model.weights[self.member(from, v)][self.member(to, v)])).product()
+    }
+
+    /// At each tuple, the total weight of the runs taken that start there.
+    fn by_runs(&self, steps: usize, takes: &dyn Fn(&[usize]) -> bool) -> Vec<u64> {
+        let all = 0..self.tuples;
+        let weights: Vec<Vec<u64>> =
+            all.clone().map(|s| all.clone().map(|t| self.joint_weight(s, t)).collect()).collect();
+        all.map(|start| listed(&weights, &mut vec![start], steps, 1, takes)).collect()
+    }
+
+    /// One step back, one variable at a time: at each tuple, the sum over all
+    /// tuples of the joint weight to it times its value.
+    fn step(&self, mut values: Vec<u64>) -> Vec<u64> {
+        let n_states = usize::from(self.model.n);
+        let mut stride = 1;
+        for _ in 0..self.sentence.letters {
+            let mut stepped = vec![0; values.len()];
+            for (tuple, sum) in stepped.iter_mut().enumerate() {
+                let state = tuple / stride % n_states;
+                let base = tuple - state * stride;
+                for (t, &weight) in self.model.weights[state][..n_states].iter().enumerate() {
+                    *sum += u64::from(weight) * values[base + t * stride];
+                }
+            }
+            values = stepped;
+            stride *= n_states;
+        }
+        values
+    }
+
+    /// The numerators of until, from the last moment of the window back to the
+    /// first of the run. The table at moment i holds, for each tuple, the weight
+    /// of the rest of the runs taken that stand there at i, no earlier position
+    /// having decided.
+    fn until_table(&self, from: usize, to: usize, first: &[bool], second: &[bool]) -> Vec<u64> {
+        let mut later = vec![0; self.tuples];
+        for moment in (0..=to).rev() {
+            let stepped = if moment == to { vec![0; self.tuples] } else { self.step(later) };
+            let all = self.joint_power(to - moment);
+            later = (0..self.tuples)
+                .map(|tuple| {
+                    if moment >= from && second[tuple] {
+                        all
+                    } else if first[tuple] {
+                        stepped[tuple]
+                    } else {
+                        0
+                    }
+                })
+                .collect();
+        }
+        later
+    }
+}
+
+/// Until with window from..to takes a run if some j of the window has position j
+/// meet the second formula while positions 0..j−1 all meet the first.
+fn until_takes(run: &[usize], from: usize, to: usize, first: &[bool], second: &[bool]) -> bool {
+    (from..=to).any(|j| second[run[j]] && run[..j].iter().all(|&position| first[position]))
+}
+
+/// The total weight of the runs taken that begin as `run` does and go on for
+/// `steps` more steps; `weight` is the weight of `run` itself.
+fn listed(
+    weights: &[Vec<u64>],
+    run: &mut Vec<usize>,
+    steps: usize,
+    weight: u64,
+    takes: &dyn Fn(&[usize]) -> bool,
+) -> u64 {
+    if steps == 0 {
+        return if takes(run) { weight } else { 0 };
+    }
+    let here = run[run.len() - 1];
+    let mut total = 0;
+    for next in 0..weights.len() {
+        run.push(next);
+        total += listed(weights, run, steps - 1, weight * weights[here][next], takes);
+        run.pop();
+    }
+    total
+}
+
+/// Whether two numbers stand in a relation.
+fn meets(relation: Relation, left: i128, right: i128) -> bool {
+    match relation {
+        Relation::Less => left < right,
+        Relation::AtMost => left <= right,
+        Relation::Equal => left == right,
+        Relation::AtLeast => left >= right,
+        Relation::Greater => left > right,
+    }
+}
+
+#[cfg(test)]
+mod tests {
+    use super::super::model::examples::{m1, m2};
+    use super::super::model::write_model;
+    use super::*;
+
+    fn file(model: &Model) -> Vec<u8> {
+        let mut out = [0; 3_072];
+        let length = write_model(model, &mut out).unwrap();
+        out[..length].to_vec()
+    }
+
+    /// A model of n states, each of which stays where it is.
+    fn still(n: u8, d: u32) -> Model {
+        let mut model = Model { n, a: 1, d, ..Model::empty() };
+        for s in 0..usize::from(n) {
+            model.weights[s][s] = d as u16;
+        }
+        model
+    }
+
+    fn said(model: &Model, text: &str) -> Result<bool, u8> {
+        verdict(&file(model), text.as_bytes(), &mut [0; WORK])
+    }
+
+    /// The fraction of the only path formula, under a prefix for the tuple.
+    fn fraction(model: &Model, path: &str, tuple: &[u8]) -> (u64, u64) {
+        let text = format!("{}.={path}#1/1;", "A".repeat(tuple.len()));
+        let both = [Way::Runs, Way::Table].map(|way| answer(&file(model), text.as_bytes(), way).unwrap());
+        assert_eq!(both[0], both[1], "{path}");
+        numerator(&file(model), text.as_bytes(), tuple, 0, &mut [0; WORK]).unwrap()
+    }
+
+    #[test]
+    fn the_numerators_of_the_examples() {
+        assert_eq!(fraction(&m1(), "PXa1", &[0]), (1, 4));
+        assert_eq!(fraction(&m1(), "PXa1", &[1]), (4, 4));
+        assert_eq!(fraction(&m1(), "PU0,2:Ta1", &[0]), (7, 16));
+        assert_eq!(fraction(&m1(), "PU0,2:Ta1", &[1]), (16, 16));
+        assert_eq!(fraction(&m1(), "PU2,2:!a1a1", &[0]), (3, 16));
+        assert_eq!(fraction(&m1(), "PU2,2:!a1a1", &[1]), (0, 16));
+        assert_eq!(fraction(&m1(), "PU0,2:!a1a1", &[1]), (16, 16));
+        assert_eq!(fraction(&m1(), "PX&a1a2", &[0, 0]), (1, 16));
+        assert_eq!(fraction(&m1(), "PX&a1a2", &[0, 1]), (4, 16));
+        assert_eq!(fraction(&m2(), "PU0,2:Ta1", &[0]), (12, 16));
+    }
+
+    #[test]
+    fn the_verdicts_of_the_examples() {
+        assert_eq!(said(&m1(), "AA.=PXa1PXa2"), Ok(false));
+        assert_eq!(said(&m1(), "AE.=PXa1PXa2"), Ok(true));
+        assert_eq!(said(&m1(), "A.L-#1/4;PXa1#0/1;"), Ok(true));
+        assert_eq!(said(&m1(), "A.=-#1/4;PXa1#0/1;"), Ok(false));
+        assert_eq!(said(&m1(), "A.=PU0,0:TT#1/1;"), Ok(true));
+        assert_eq!(said(&m1(), "A.GPU0,31:Ta1#0/1;"), Ok(true));
+    }
+
+    #[test]
+    fn the_difference_of_the_example_is_below_zero_by_three_quarters() {
+        assert_eq!(said(&m1(), "E.=-#1/4;PXa1-#0/1;#3/4;"), Ok(true));
+        assert_eq!(said(&m1(), "A.&a1=-#1/4;PXa1-#0/1;#3/4;"), Ok(false));
+        assert_eq!(said(&m1(), "A.!&a1!=-#1/4;PXa1-#0/1;#3/4;"), Ok(true));
+    }
+
+    #[test]
+    fn the_refusals_of_the_examples() {
+        assert_eq!(said(&m1(), "A.GPU0,32:Ta1#0/1;"), Err(10));
+        assert_eq!(said(&m1(), "A.GPU0,31:Ta1#0/2;"), Err(10));
+        assert_eq!(said(&still(32, 4), "AA.T"), Ok(true));
+        assert_eq!(said(&still(11, 4), "AAA.T"), Err(11));
+        assert_eq!(said(&m1(), "A.a2"), Err(7));
+        assert_eq!(said(&m1(), "A.a5"), Err(6));
+        assert_eq!(said(&m1(), ""), Err(6));
+        assert_eq!(said(&still(2, 1), "A.=PU0,60:TT#1/1;"), Ok(true));
+        assert_eq!(said(&still(2, 1), "A.=PU0,61:TT#1/1;"), Err(7));
+        assert_eq!(said(&m1(), &format!("A.{}T", "!".repeat(64))), Err(8));
+        assert_eq!(said(&m1(), "A.b1"), Err(9));
+    }
+
+    #[test]
+    fn the_smallest_row_is_given() {
+        let good = file(&m1());
+        let mut work = [5; WORK];
+        assert_eq!(verdict(&[], b"", &mut work[1..]), Err(1));
+        assert_eq!(verdict(&[], b"", &mut work), Err(2));
+        assert_eq!(verdict(&[0; 512], b"", &mut work), Err(4));
+        assert_eq!(verdict(&[1; 512], b"", &mut work), Err(3));
+        assert_eq!(numerator(&good, b"A.b1", &[9], 7, &mut work), Err(9));
+        assert_eq!(numerator(&good, b"A.=PXa1#0/1;", &[2], 0, &mut work), Err(15));
+        assert_eq!(numerator(&good, b"A.=PXa1#0/1;", &[1, 1], 0, &mut work), Err(15));
+        assert_eq!(numerator(&good, b"A.=PXa1#0/1;", &[], 0, &mut work), Err(15));
+        assert_eq!(numerator(&good, b"A.=PXa1#0/1;", &[1], 1, &mut work), Err(15));
+        assert_eq!(work, [5; WORK]);
+    }
+
+    #[test]
+    fn an_answer_leaves_the_front_of_the_work_area_zero() {
+        let mut work = [5; WORK + 3];
+        assert_eq!(verdict(&file(&m1()), b"A.a1", &mut work), Ok(false));
+        assert_eq!(work[..WORK], [0; WORK]);
+        assert_eq!(work[WORK..], [5; 3]);
+        work[0] = 9;
+        assert_eq!(numerator(&file(&m1()), b"A.=PXa1#0/1;", &[1], 0, &mut work), Ok((4, 4)));
+        assert_eq!(work[..WORK], [0; WORK]);
+        assert_eq!(work[WORK..], [5; 3]);
+    }
+
+    #[test]
+    fn the_size_rule_asks_every_part() {
+        let d2 = still(2, 2);
+        assert_eq!(said(&d2, "A.=*PU0,60:TT#4/1;#0/1;"), Ok(false));
+        assert_eq!(said(&d2, "A.=*PU0,60:TT#5/1;#0/1;"), Err(10));
+        assert_eq!(said(&d2, "A.=+PU0,30:TTPU0,31:TT#2/1;"), Ok(true));
+        assert_eq!(said(&d2, "A.=+PU0,31:TTPU0,31:TT#2/1;"), Err(10));
+        assert_eq!(said(&d2, "A.=+PU0,30:TTPU0,31:TT#2/2;"), Err(10));
+        assert_eq!(said(&d2, "A.=PXGPU0,60:TT#0/5;#1/1;"), Err(10));
+        assert_eq!(said(&d2, "A.=PXGPU0,60:TT#0/4;#1/1;"), Ok(true));
+        assert_eq!(said(&d2, "AAA.=PU0,21:TT#1/1;"), Err(10));
+        assert_eq!(said(&d2, "AAA.=PU0,20:TT#1/1;"), Ok(true));
+    }
+}
