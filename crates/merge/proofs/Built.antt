@@ -1,9 +1,9 @@
 -- What the code builds is what the definitions say: the totals of the states into the groups, the test of the groups, and
 -- the merged model.
 use Prim.Native.Nat.{ℕ, _≤_, _<_}
-use mathlib.Core.Bool.{Bool, true, false, cond, not, _&&_, _||_}
+use mathlib.Core.Bool.{Bool, true, cond, not, _&&_, _||_}
 use mathlib.Core.List.{List, []}
-use mathlib.Core.Path.{_≡_, refl, sym, ap, ap₂, _∙_}
+use mathlib.Core.Path.{_≡_, sym, ap, ap₂, _∙_}
 use native.Mathlib.Decide.{decLt}
 use native.Mathlib.Nat.{le-trans, le-of-eq}
 use native.Mathlib.Omega.{arith}
@@ -20,7 +20,7 @@ use Rattle.chain.specs.Of.{chainOf}
 use Rattle.chain.proofs.Totals.{total-sum, sum-first}
 use Rattle.model.proofs.Rightness as right
 use Rattle.chain.proofs.Right as chain
-use Rattle.merge.specs.Groups.{groupOf, groupCount, groupingRight, memberOf, alike, groupsAlike, mergedModel}
+use Rattle.merge.specs.Groups.{groupOf, groupCount, groupingRight, memberOf, groupsAlike, mergedModel}
 use Rattle.merge.specs.Working.{pairAlike, masksOfGroups, rowsOfGroups}
 use Rattle.merge.proofs.Grouped.{as-long, grouping-is, member-of}
 use Rattle.merge.proofs.Merging.{few}

@@ -1,18 +1,17 @@
 -- The number that merge gives, test by test.
 use Prim.Native.Nat.{ℕ, zero, suc, _≤_}
-use mathlib.Core.Bool.{Bool, true, false, not}
+use mathlib.Core.Bool.{true, false, not}
 use mathlib.Core.List.{List, [], _∷_}
 use mathlib.Core.Path.{_≡_, refl, sym, ap, _∙_}
 use native.Mathlib.Omega.{arith}
 use lib.Dec.{ltb}
-use lib.ListN.{length}
-use Rattle.refusal.specs.Rows.{Row, first, Ascending, none, more}
+use Rattle.refusal.specs.Rows.{Row, first, none, more}
 use Rattle.refusal.specs.Answers.{outcomeOf}
 use Rattle.refusal.specs.declared.Outcome.the-variants.{Refused}
 use Rattle.refusal.proofs.Laws.{first-here, first-later}
 use Rattle.refusal.proofs.Joined.{joined-refused, joined-accepted}
 use Rattle.model.specs.declared.Model.{Model}
-use Rattle.model.specs.Layout.{blocks, fieldsOf, fileOf}
+use Rattle.model.specs.Layout.{blocks, fieldsOf}
 use Rattle.model.specs.Rows.{fieldsRight, rowsRight, fileRows, fileNumber, recordNumber}
 use Rattle.model.proofs.Answer.{record-0}
 use Rattle.model.proofs.Rightness.{states-few}

@@ -1,7 +1,6 @@
 -- `merge::merge` meets its contract: the reader's number where it refuses, else that of the model's groups.
 use borrow.Author.Needs.{needs}
 use Prim.Native.Nat.{ℕ}
-use mathlib.Core.Bool.{true}
 use mathlib.Core.Path.{_≡_, refl, sym, ap, subst, _∙_}
 use lib.ListN.{length}
 use Rattle.refusal.specs.Rows.{first}
