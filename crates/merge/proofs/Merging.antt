@@ -136,7 +136,9 @@ module _ (m : Model) (grouping : List ℕ) (fields : fieldsRight m ≡ true) (gr
 
         row : (s : ℕ) → s < 32 → Dec (s < mergedModel m grouping .n) →
             (leb (mergedModel m grouping .n) s || rowRight (mergedModel m grouping) s) ≡ true
-        row s l (no past) = ap (λ (b : Bool). b || rowRight (mergedModel m grouping) s) (le-leb (mergedModel m grouping .n) s (omega arith))
+        row s l (no past) =
+            ap (λ (b : Bool). b || rowRight (mergedModel m grouping) s)
+            (le-leb (mergedModel m grouping .n) s (omega arith))
         row s l (yes k) =
             ap₂ _||_ (lt-leb (mergedModel m grouping .n) s k)
             (eq-eqb (sum 32 (weightOf (mergedModel m grouping) s)) (mergedModel m grouping .d) (columns s l k))

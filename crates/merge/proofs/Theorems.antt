@@ -167,5 +167,7 @@ kept-written file grouping before after size w = look (mergeNumber file grouping
         let long : length text ≡ size = cc in
         let m = mergeable file grouping (length before) e in
         let same : take size after ≡ text = ap (take size) left ∙ take-at text _ size long in
-        subst Result (sym same)
-        (merged-accepted file grouping (m .accepted) (m .grouped) (m .alike), kept-file file grouping (m .accepted) (m .grouped) (m .alike))
+        subst Result (sym same) (
+          merged-accepted file grouping (m .accepted) (m .grouped) (m .alike),
+          kept-file file grouping (m .accepted) (m .grouped) (m .alike),
+        )
