@@ -1,9 +1,9 @@
 -- What the code builds is what the definitions say: the totals of the states into the groups, the test of the groups, and
 -- the merged model.
 use Prim.Native.Nat.{ℕ, _≤_, _<_}
-use mathlib.Core.Bool.{Bool, true, false, cond, not, _&&_, _||_}
+use mathlib.Core.Bool.{Bool, true, cond, not, _&&_, _||_}
 use mathlib.Core.List.{List, []}
-use mathlib.Core.Path.{_≡_, refl, sym, ap, ap₂, _∙_}
+use mathlib.Core.Path.{_≡_, sym, ap, ap₂, _∙_}
 use native.Mathlib.Decide.{decLt}
 use native.Mathlib.Nat.{le-trans, le-of-eq}
 use native.Mathlib.Omega.{arith}
@@ -20,7 +20,7 @@ use Rattle.chain.specs.Of.{chainOf}
 use Rattle.chain.proofs.Totals.{total-sum, sum-first}
 use Rattle.model.proofs.Rightness as right
 use Rattle.chain.proofs.Right as chain
-use Rattle.merge.specs.Groups.{groupOf, groupCount, groupingRight, memberOf, alike, groupsAlike, mergedModel}
+use Rattle.merge.specs.Groups.{groupOf, groupCount, groupingRight, memberOf, groupsAlike, mergedModel}
 use Rattle.merge.specs.Working.{pairAlike, masksOfGroups, rowsOfGroups}
 use Rattle.merge.proofs.Grouped.{as-long, grouping-is, member-of}
 use Rattle.merge.proofs.Merging.{few}
@@ -39,7 +39,9 @@ module _ (m : Model) (fields : fieldsRight m ≡ true) (adds : rowsRight m ≡ t
       go (yes k) =
           le-trans
           (le-of-eq
-          (sym (sum-first (m .n) 32 (weightOf m s) (right.states-few m fields) (λ t past k. chain.column-zero m fields s t l k past)) ∙
+          (sym
+          (sum-first (m .n) 32 (weightOf m s) (right.states-few m fields)
+          (λ t past k. chain.column-zero m fields s t l k past)) ∙
           chain.row-at m fields adds s k))
           (right.total-few m fields)
       go (no past) =
@@ -65,7 +67,9 @@ module _ (m : Model) (grouping : List ℕ) (fields : fieldsRight m ≡ true) whe
     -- the code's test of the groups is row 13's
     pub alike-built :
         every (m .n)
-        (λ s. every (m .n) (pairAlike (m .masks) (totalsOf (m .weights .rows) grouping (m .n)) grouping (groupCount grouping) s)) ≡
+        (λ s.
+        every (m .n)
+        (pairAlike (m .masks) (totalsOf (m .weights .rows) grouping (m .n)) grouping (groupCount grouping) s)) ≡
         groupsAlike m grouping
     unfolding groupsAlike
     alike-built =
@@ -104,6 +108,12 @@ module _ (m : Model) (grouping : List ℕ) (fields : fieldsRight m ≡ true) whe
         M : ℕ
         M = groupCount grouping
 
+        first : ℕ
+        first = memberOf (m .n) grouping g
+
+        own : List ℕ
+        own = getD (totalsOf (m .weights .rows) grouping (m .n)) (memberOf (m .n) grouping g) []
+
         into : ℕ → ℕ
         into h = weightInto (chainOf m) (groupOf grouping) (memberOf (m .n) grouping g) h
 
@@ -113,22 +123,18 @@ module _ (m : Model) (grouping : List ℕ) (fields : fieldsRight m ≡ true) whe
             let none = into-none (memberOf (m .n) grouping g) h (omega arith) in
             none ∙ ap (λ (b : Bool). cond b (into h) 0) (sym (le-ltb h M (omega arith)))
 
-        go : Dec (g < M) →
-            cond (ltb g M) (getD (totalsOf (m .weights .rows) grouping (m .n)) (memberOf (m .n) grouping g) []) (table 32 (λ h. 0)) ≡
-            table 32 (λ h. cond (ltb g M && ltb h M) (into h) 0)
+        go : Dec (g < M) → cond (ltb g M) own (table 32 (λ h. 0)) ≡ table 32 (λ h. cond (ltb g M && ltb h M) (into h) 0)
         go (yes k) =
             let states = right.states-few m fields in
-            let first = member-of (chainOf m) grouping grouped g k in
-            ap (λ (b : Bool). cond b (getD (totalsOf (m .weights .rows) grouping (m .n)) (memberOf (m .n) grouping g) []) (table 32 (λ h. 0)))
-            (lt-ltb g M k) ∙
-            table-is 32 into 0 (getD (totalsOf (m .weights .rows) grouping (m .n)) (memberOf (m .n) grouping g) [])
-            (ap length (table-at 32 (λ s. table 32 (sumInto s)) [] (memberOf (m .n) grouping g) (omega arith)) ∙ length-table 32 _)
-            (λ h small. total-is (memberOf (m .n) grouping g) h (omega arith) small) ∙
+            let below-32 = member-of (chainOf m) grouping grouped g k .0 in
+            ap (λ (b : Bool). cond b own (table 32 (λ h. 0))) (lt-ltb g M k) ∙
+            table-is 32 into 0 own
+            (ap length (table-at 32 (λ s. table 32 (sumInto s)) [] first (omega arith)) ∙ length-table 32 _)
+            (λ h small. total-is first h (omega arith) small) ∙
             table-same 32 into (λ h. cond (ltb g M && ltb h M) (into h) 0) 0
             (λ h small. column h (decLt h M) ∙ ap (λ (b : Bool). cond (b && ltb h M) (into h) 0) (sym (lt-ltb g M k)))
         go (no past) =
-            ap (λ (b : Bool). cond b (getD (totalsOf (m .weights .rows) grouping (m .n)) (memberOf (m .n) grouping g) []) (table 32 (λ h. 0)))
-            (le-ltb g M (omega arith)) ∙
+            ap (λ (b : Bool). cond b own (table 32 (λ h. 0))) (le-ltb g M (omega arith)) ∙
             table-same 32 (λ h. 0) (λ h. cond (ltb g M && ltb h M) (into h) 0) 0
             (λ h small. ap (λ (b : Bool). cond (b && ltb h M) (into h) 0) (sym (le-ltb g M (omega arith))))
 
@@ -145,6 +151,9 @@ module _ (m : Model) (grouping : List ℕ) (fields : fieldsRight m ≡ true) whe
         let masks = ap (λ (n : ℕ). table 32 (λ g. cond (ltb g M) (getD (m .masks) (memberOf n grouping g) 0) 0)) long in
         let rows =
         ap (λ (n : ℕ). table 32 (λ g. cond (ltb g M) (getD totals (memberOf n grouping g) []) (table 32 (λ h. 0)))) long ∙
-        table-same 32 _ (λ g. table 32 (λ h. cond (ltb g M && ltb h M) (weightInto (chainOf m) (groupOf grouping) (memberOf (m .n) grouping g) h) 0)) []
-        row-built in
+        table-same 32 _
+        (λ g.
+        table 32
+        (λ h. cond (ltb g M && ltb h M) (weightInto (chainOf m) (groupOf grouping) (memberOf (m .n) grouping g) h) 0))
+        [] row-built in
         λ i. record { n = M; a = m .a; d = m .d; masks = masks i; weights = record { rows = rows i } }

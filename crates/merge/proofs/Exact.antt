@@ -78,7 +78,9 @@ module _ (file grouping : List ℕ) (room : ℕ) (accepted : fileNumber file ≡
         (sym
         (first-later 12 _ (ap not grouped) ∙
         first-later 13 _
-        (ap not (stable-alike m grouping (fields-right file accepted) (subst (λ (k : ℕ). Stable (chainOf m) (groupOf grouping) k) (sym count) st)))) ∙
+        (ap not
+        (stable-alike m grouping (fields-right file accepted)
+        (subst (λ (k : ℕ). Stable (chainOf m) (groupOf grouping) k) (sym count) st)))) ∙
         sym (file-accepted file grouping room accepted) ∙ e),
     λ h. look h (groupsAlike m grouping) refl,
   )
@@ -95,6 +97,9 @@ module _ (file grouping : List ℕ) (room : ℕ) (accepted : fileNumber file ≡
       look : (Stable (chainOf (fieldsOf file)) (groupOf grouping) M → ⊥) → (b : Bool) → groupsAlike (fieldsOf file) grouping ≡ b →
           mergeNumber file grouping room ≡ 13
       look h true p =
-          absurd (h (subst (λ (k : ℕ). Stable (chainOf (fieldsOf file)) (groupOf grouping) k) count (stable (fieldsOf file) grouping p)))
+          absurd
+          (h
+          (subst (λ (k : ℕ). Stable (chainOf (fieldsOf file)) (groupOf grouping) k) count
+          (stable (fieldsOf file) grouping p)))
       look h false p =
           file-accepted file grouping room accepted ∙ groups-13 (fieldsOf file) grouping room grouped p

@@ -1,9 +1,9 @@
 -- What row 12 means: where it does not apply, the grouping's length is N, each state has one of the groups 0..M−1, and
 -- every group number is used; and where that is so for some M, the row does not apply and M is the grouping's.
 use Prim.Native.Nat.{ℕ, _≤_, _<_}
-use mathlib.Core.Bool.{true, _&&_}
+use mathlib.Core.Bool.{true}
 use mathlib.Core.List.{List}
-use mathlib.Core.Path.{_≡_, ap, sym, _∙_, subst}
+use mathlib.Core.Path.{_≡_}
 use native.Mathlib.Decide.{decLt}
 use native.Mathlib.Nat.{le-antisymm}
 use native.Mathlib.Omega.{arith}

@@ -3,7 +3,7 @@
 use Prim.Native.Nat.{ℕ, zero, suc, _≤_, _<_}
 use mathlib.Core.Bool.{Bool, true, false, cond, _||_, true≢false}
 use mathlib.Core.List.{List, [], _∷_, _++_}
-use mathlib.Core.Path.{_≡_, refl, sym, ap, _∙_}
+use mathlib.Core.Path.{_≡_, refl, sym, ap, ap₂, _∙_}
 use native.Mathlib.Decide.{decLt}
 use native.Mathlib.Omega.{arith}
 use borrow.Author.Tests.{eqb-true, eq-eqb, lt-ltb, le-ltb, ltb-true}
@@ -82,3 +82,13 @@ module _ (grouping : List ℕ) (count : ℕ) (all : every count (isUsed grouping
 
   pub first-member : {r : ℕ} → First (groupOf grouping) g (length grouping) r → memberOf (length grouping) grouping g ≡ r
   first-member h = member-first (groupOf grouping) g h (first-below h)
+
+  -- what f has at the first state of a group is what it has at the group's member, which counts below the count
+  pub first-taken : {A : Type 0} (f : ℕ → A) (d : A) {r : ℕ} → First (groupOf grouping) g (length grouping) r →
+      f r ≡ cond (ltb g count) (f (memberOf (length grouping) grouping g)) d
+  first-taken {A} f d h =
+      sym (ap₂ (λ (b : Bool) (s : ℕ). cond {A = A} b (f s) d) (lt-ltb g count few) (first-member h))
+
+-- from the count on it does not
+pub none-taken : {A : Type 0} (g count : ℕ) (x d : A) → count ≤ g → d ≡ cond (ltb g count) x d
+none-taken {A} g count x d past = sym (ap (λ (b : Bool). cond {A = A} b x d) (le-ltb g count past))

@@ -13,8 +13,7 @@ use Rattle.counting.specs.Below.{sum, every, table}
 use Rattle.counting.proofs.Laws.{table-at, every-all, and-true}
 use Rattle.model.specs.declared.Model.{Model}
 use Rattle.model.specs.Layout.{maskOf, weightOf}
-use Rattle.model.specs.Rows.{within, numbersRight, maskRight, weightRight, fieldsRight, rowRight, rowsRight}
-use Rattle.meaning.specs.Lists.{below}
+use Rattle.model.specs.Rows.{numbersRight, maskRight, weightRight, fieldsRight, rowRight, rowsRight}
 use Rattle.meaning.specs.Chain.{Sound}
 use Rattle.meaning.specs.Merging.{weightInto, Merged}
 use Rattle.meaning.proofs.Merging.{sound-merged}
@@ -24,7 +23,7 @@ use Rattle.model.proofs.Rightness as right
 use Rattle.chain.proofs.Right as chain
 use Rattle.merge.specs.Groups.{groupOf, groupCount, memberOf, groupingRight, groupsAlike, mergedModel}
 use Rattle.merge.proofs.Grouped.{grouping-is, count-few, member-of}
-use Rattle.merge.proofs.Stability.{Alike, alike-is}
+use Rattle.merge.proofs.Stability.{alike-is}
 
 -- ---- the merged model, number by number
 
@@ -137,7 +136,9 @@ module _ (m : Model) (grouping : List ℕ) (fields : fieldsRight m ≡ true) (gr
 
         row : (s : ℕ) → s < 32 → Dec (s < mergedModel m grouping .n) →
             (leb (mergedModel m grouping .n) s || rowRight (mergedModel m grouping) s) ≡ true
-        row s l (no past) = ap (λ (b : Bool). b || rowRight (mergedModel m grouping) s) (le-leb (mergedModel m grouping .n) s (omega arith))
+        row s l (no past) =
+            ap (λ (b : Bool). b || rowRight (mergedModel m grouping) s)
+            (le-leb (mergedModel m grouping .n) s (omega arith))
         row s l (yes k) =
             ap₂ _||_ (lt-leb (mergedModel m grouping .n) s k)
             (eq-eqb (sum 32 (weightOf (mergedModel m grouping) s)) (mergedModel m grouping .d) (columns s l k))

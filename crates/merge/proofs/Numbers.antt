@@ -1,18 +1,17 @@
 -- The number that merge gives, test by test.
 use Prim.Native.Nat.{ℕ, zero, suc, _≤_}
-use mathlib.Core.Bool.{Bool, true, false, not}
+use mathlib.Core.Bool.{true, false, not}
 use mathlib.Core.List.{List, [], _∷_}
 use mathlib.Core.Path.{_≡_, refl, sym, ap, _∙_}
 use native.Mathlib.Omega.{arith}
 use lib.Dec.{ltb}
-use lib.ListN.{length}
-use Rattle.refusal.specs.Rows.{Row, first, Ascending, none, more}
+use Rattle.refusal.specs.Rows.{Row, first, none, more}
 use Rattle.refusal.specs.Answers.{outcomeOf}
-use Rattle.refusal.specs.declared.Outcome.the-variants.{Done, Refused}
+use Rattle.refusal.specs.declared.Outcome.the-variants.{Refused}
 use Rattle.refusal.proofs.Laws.{first-here, first-later}
 use Rattle.refusal.proofs.Joined.{joined-refused, joined-accepted}
 use Rattle.model.specs.declared.Model.{Model}
-use Rattle.model.specs.Layout.{blocks, fieldsOf, fileOf}
+use Rattle.model.specs.Layout.{blocks, fieldsOf}
 use Rattle.model.specs.Rows.{fieldsRight, rowsRight, fileRows, fileNumber, recordNumber}
 use Rattle.model.proofs.Answer.{record-0}
 use Rattle.model.proofs.Rightness.{states-few}
@@ -65,12 +64,7 @@ module _ (file grouping : List ℕ) (room : ℕ) where
       joined-accepted {low = 0} (more (omega arith) (more (omega arith) (more (omega arith) (more (omega arith) none))))
       (groupRows (fieldsOf file) grouping room) e
 
--- ---- what a reader's answer says of its number
-
-pub done-number : (n : ℕ) → outcomeOf n ≡ Done → n ≡ 0
-unfolding outcomeOf
-done-number zero e = refl
-done-number (suc k) e = cc
+-- ---- what a reader's refusal says of its number
 
 pub refused-number : (n number : ℕ) → outcomeOf n ≡ Refused number → (k : ℕ) × (n ≡ suc k) × (number ≡ suc k)
 unfolding outcomeOf

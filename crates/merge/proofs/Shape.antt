@@ -3,20 +3,19 @@
 use Prim.Native.Nat.{ℕ, _^_, _≤_, _<_}
 use mathlib.Core.Bool.{Bool, true, false, _&&_, _||_}
 use mathlib.Core.List.{List, []}
-use mathlib.Core.Path.{_≡_, refl, sym, ap, _∙_}
+use mathlib.Core.Path.{_≡_, refl, ap}
 use native.Mathlib.Decide.{decLt}
-use native.Mathlib.Nat.{le-trans, le-of-eq}
+use native.Mathlib.Nat.{le-trans}
 use native.Mathlib.Omega.{arith}
 use borrow.Author.Tests.{ltb-true, eqb-true}
 use lib.Dec.{ltb, eqb}
 use lib.ListN.{length, getD, List·getD-eq-default}
 use lib.Pow.{pow-mono}
-use Rattle.counting.specs.Below.{sum}
-use Rattle.counting.proofs.Laws.{right-of, term-le-sum}
+use Rattle.counting.proofs.Laws.{term-le-sum}
 use Rattle.model.specs.declared.Model.{Model}
 use Rattle.model.specs.Layout.{maskOf, weightOf}
-use Rattle.model.specs.Rows.{maskRight, fieldsRight, rowsRight}
-use Rattle.model.proofs.Rightness.{labels-few, states-few, total-few, mask-at}
+use Rattle.model.specs.Rows.{fieldsRight, rowsRight}
+use Rattle.model.proofs.Rightness.{labels-few, total-few, mask-at}
 use Rattle.model.proofs.Roundtrip.{Shaped}
 use Rattle.chain.proofs.Right.{row-at, row-zero}
 

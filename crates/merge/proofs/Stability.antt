@@ -1,10 +1,10 @@
 -- What row 13 means: where it does not apply, two states of one group have one mask, so the same labels, and the same
 -- weight into every group; and where that is so the row does not apply.
 use Prim.Native.Nat.{ℕ, _<_}
-use mathlib.Core.Bool.{Bool, true, false, not, _&&_, _||_, true≢false}
+use mathlib.Core.Bool.{Bool, true, false, not, _||_, true≢false}
 use mathlib.Core.List.{List}
-use mathlib.Core.Path.{_≡_, refl, sym, ap, _∙_}
-use borrow.Author.Tests.{eqb-true, eqb-false, eq-eqb}
+use mathlib.Core.Path.{_≡_, refl, sym, ap}
+use borrow.Author.Tests.{eqb-true, eq-eqb}
 use lib.Dec.{eqb}
 use Rattle.counting.specs.Below.{every}
 use Rattle.counting.proofs.Laws.{left-of, right-of, every-at, every-all, and-true}

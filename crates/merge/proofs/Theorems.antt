@@ -1,34 +1,33 @@
 -- What is promised of merge beside its contract, said of its definitions: the number given is the smallest that applies,
 -- the merged file is always accepted, and what it says is what the full file says (document 00, demand 3).
-use Prim.Native.Nat.{ℕ, zero, suc, _≤_, _<_}
+use Prim.Native.Nat.{ℕ, zero, suc, _≤_}
 use mathlib.Core.Bool.{true, not}
-use mathlib.Core.List.{List, [], _∷_, _++_, map}
+use mathlib.Core.List.{List, []}
 use mathlib.Core.Path.{_≡_, refl, sym, ap, subst, _∙_}
 use native.Mathlib.Nat.{le-trans, pow-le-pow-left}
 use native.Mathlib.Omega.{arith}
 use borrow.Author.Tests.{not-false, ltb-false}
 use lib.Dec.{ltb}
-use lib.ListN.{length, getD, take}
+use lib.ListN.{length, take}
 use lib.Seq.{take-at}
-use Rattle.counting.specs.Below.{table}
 use Rattle.counting.proofs.Laws.{length-table, table-at}
-use Rattle.refusal.specs.Rows.{Given, none, more, first}
-use Rattle.refusal.specs.Answers.{Writes, writtenOf, unlessRefused, atFront, leftBy}
+use Rattle.refusal.specs.Rows.{Given, none, more}
+use Rattle.refusal.specs.Answers.{Writes, writtenOf, unlessRefused, leftBy}
 use Rattle.refusal.specs.declared.Written.{Written}
 use Rattle.refusal.specs.declared.Written.the-variants.{Wrote}
+use Rattle.refusal.proofs.Answered.{one-writing}
 use Rattle.refusal.proofs.Laws.{smallest, none-here}
 use Rattle.model.specs.declared.Model.{Model}
-use Rattle.model.specs.Layout.{fieldsOf, fileOf}
-use Rattle.model.specs.Rows.{fieldsRight, rowsRight, fileRows, fileNumber}
+use Rattle.model.specs.Layout.{fieldsOf}
+use Rattle.model.specs.Rows.{fieldsRight, rowsRight, fileNumber}
 use Rattle.model.proofs.Roundtrip.{Shaped, fields-written, file-written}
-use Rattle.meaning.specs.Chain.{Chain, tupleCount}
-use Rattle.meaning.specs.Merging.{Merged}
+use Rattle.meaning.specs.Chain.{tupleCount}
 use Rattle.meaning.proofs.Merging as merging
 use Rattle.chain.specs.Of.{chainOf}
 use Rattle.chain.proofs.Accepted.{fields-right, rows-right}
 use Rattle.chain.proofs.Right.{sound-right}
-use Rattle.merge.specs.Groups.{groupOf, groupCount, groupingRight, groupsAlike, mergedModel}
-use Rattle.merge.specs.Rows.{groupRows, mergeRows, mergeNumber, mergedFile}
+use Rattle.merge.specs.Groups.{groupOf, groupingRight, groupsAlike, mergedModel}
+use Rattle.merge.specs.Rows.{mergeRows, mergeNumber, mergedFile}
 use Rattle.merge.specs.Kept.{Kept}
 use Rattle.merge.proofs.Grouped.{count-few}
 use Rattle.merge.proofs.Merging.{merged-chain, fields-merged, rows-merged}
@@ -44,6 +43,15 @@ merge-smallest file grouping room =
     (more {low = 0} (omega arith)
     (more (omega arith)
     (more (omega arith) (more (omega arith) (more (omega arith) (more (omega arith) (more (omega arith) none)))))))
+
+-- ---- one result
+
+-- any two results that merge's contract allows are equal: the answer, and what the output then holds
+pub one-merging : (file grouping : List ℕ) {before after after′ : List ℕ} {r r′ : Written} →
+    Writes (mergeNumber file grouping (length before)) (mergedFile file grouping) before after r →
+    Writes (mergeNumber file grouping (length before)) (mergedFile file grouping) before after′ r′ →
+    (r ≡ r′) × (after ≡ after′)
+one-merging file grouping w w′ = one-writing w w′
 
 -- ---- what is not refused
 
@@ -159,5 +167,7 @@ kept-written file grouping before after size w = look (mergeNumber file grouping
         let long : length text ≡ size = cc in
         let m = mergeable file grouping (length before) e in
         let same : take size after ≡ text = ap (take size) left ∙ take-at text _ size long in
-        subst Result (sym same)
-        (merged-accepted file grouping (m .accepted) (m .grouped) (m .alike), kept-file file grouping (m .accepted) (m .grouped) (m .alike))
+        subst Result (sym same) (
+          merged-accepted file grouping (m .accepted) (m .grouped) (m .alike),
+          kept-file file grouping (m .accepted) (m .grouped) (m .alike),
+        )

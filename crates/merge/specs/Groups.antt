@@ -9,7 +9,7 @@ use Rattle.counting.specs.Below.{every, table}
 use Rattle.model.specs.declared.Model.{Model}
 use Rattle.model.specs.Layout.{maskOf}
 use Rattle.meaning.specs.Lists.{below, thereIs}
-use Rattle.meaning.specs.Merging.{weightInto, member, merged}
+use Rattle.meaning.specs.Merging.{weightInto, member}
 use Rattle.chain.specs.Of.{chainOf}
 
 -- a grouping is one byte a state, in order of states: the group of state s

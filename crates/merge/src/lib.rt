@@ -37,11 +37,13 @@ fn merge_model(m: Model, grouping: &[u8], out: &mut [u8]) -> Written
     }
     let count = group_count(grouping);
     let masks = m.masks;
-    let totals = totals_of(matrix::rows_of(m.weights), grouping, n);
+    let rows = matrix::rows_of(m.weights);
+    let totals = totals_of(rows, grouping, n);
     if !states_alike(&masks, totals, grouping, count, n) {
         return Written::Refused(13);
     }
-    write_model(model_of_groups(m, totals, grouping, count), out)
+    let merged = model_of_groups(m, totals, grouping, count);
+    write_model(merged, out)
 }
 
 // Merge: the file of the merged model at the front of the output, or the smallest number of a row that applies.

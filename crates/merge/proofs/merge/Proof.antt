@@ -1,20 +1,19 @@
 -- `merge::merge` meets its contract: the reader's number where it refuses, else that of the model's groups.
 use borrow.Author.Needs.{needs}
 use Prim.Native.Nat.{ℕ}
-use mathlib.Core.Bool.{true}
 use mathlib.Core.Path.{_≡_, refl, sym, ap, subst, _∙_}
 use lib.ListN.{length}
 use Rattle.refusal.specs.Rows.{first}
-use Rattle.refusal.specs.Answers.{Writes, unlessRefused}
+use Rattle.refusal.specs.Answers.{Writes}
 use Rattle.refusal.specs.declared.Written.the-variants.{Refused as Unwritten}
-use Rattle.refusal.proofs.Answered.{writes-refused}
+use Rattle.refusal.proofs.Answered.{writes-refused, outcome-done, value-accepted}
 use Rattle.model.specs.declared.Model.{Model}
 use Rattle.model.specs.Layout.{fieldsOf, fileOf}
 use Rattle.model.specs.Rows.{fieldsRight, rowsRight, fileNumber, emptyModel}
 use Rattle.chain.proofs.Accepted.{fields-right, rows-right}
 use Rattle.merge.specs.Groups.{mergedModel}
 use Rattle.merge.specs.Rows.{groupRows, mergedFile}
-use Rattle.merge.proofs.Numbers.{file-refused, file-accepted, done-number, refused-number}
+use Rattle.merge.proofs.Numbers.{file-refused, file-accepted, refused-number}
 use Rattle.merge.proofs.merge.Statement.{statement}
 use Rattle.merge.proofs.merge.Tie as tie
 
@@ -31,14 +30,13 @@ enum-told c = search needs
 read : (c : tie.After-enum-told) → fileNumber (c .before .before .before .before .before .before .args .file .now) ≡ 0
 read c =
     let r = c .before .before .read-model .ensures in
-    done-number _ (sym (r .answered) ∙ c .enum-told .given .1)
+    outcome-done _ (sym (r .answered) ∙ c .enum-told .given .1)
 
 fields : (c : tie.After-enum-told) →
     c .before .before .read-model .result .model ≡ fieldsOf (c .before .before .before .before .before .before .args .file .now)
-unfolding unlessRefused
 fields c =
     let file = c .before .before .before .before .before .before .args .file .now in
-    c .before .before .read-model .ensures .value ∙ ap (λ (n : ℕ). unlessRefused n (fieldsOf file) emptyModel) (read c)
+    c .before .before .read-model .ensures .value ∙ value-accepted (fileNumber file) (read c) Model (fieldsOf file) emptyModel
 
 merge-model-requires : tie.Need-merge-model-requires
 merge-model-requires c κs =

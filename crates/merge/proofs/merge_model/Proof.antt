@@ -1,7 +1,7 @@
 -- `merge::merge_model` meets its contract: the rows are tested in the order of their numbers, and what the writer is
 -- given is the merged model.
 use borrow.Author.Needs.{needs}
-use Prim.Native.Nat.{ℕ, _≤_, _<_}
+use Prim.Native.Nat.{ℕ, _≤_}
 use mathlib.Core.Bool.{true}
 use mathlib.Core.List.{List, []}
 use mathlib.Core.Path.{_≡_, refl, sym, ap, ap₂, subst, _∙_}

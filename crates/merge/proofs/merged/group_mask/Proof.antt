@@ -1,16 +1,10 @@
 -- `merge::merged::group_mask` meets its contract: the first state of a group that is used is below 32, and is its member.
 use borrow.Author.Needs.{needs}
-use Prim.Native.Nat.{ℕ, _<_}
-use mathlib.Core.Bool.{Bool, cond}
-use mathlib.Core.List.{[]}
-use mathlib.Core.Path.{_≡_, sym, ap, ap₂}
+use Prim.Native.Nat.{_<_}
 use native.Mathlib.Omega.{arith}
-use borrow.Author.Tests.{lt-ltb, le-ltb}
-use lib.Dec.{ltb}
 use lib.ListN.{length, getD}
-use Rattle.counting.specs.Below.{table}
 use Rattle.merge.specs.Groups.{memberOf}
-use Rattle.merge.proofs.Members.{first-below, first-member}
+use Rattle.merge.proofs.Members.{first-below, first-taken, none-taken}
 use Rattle.merge.proofs.merged.group_mask.Statement.{statement}
 use Rattle.merge.proofs.merged.group_mask.Tie as tie
 
@@ -34,15 +28,14 @@ returns : tie.Need-returns
 returns c =
     let start = c .before .before .before .before in
     let a = start .args in
-    sym
-    (ap₂ (λ (b : Bool) (s : ℕ). cond b (getD (a .masks .now) s 0) 0) (lt-ltb (a .g) (a .count) (c .before .before .if1 .taken))
-    (first-member (a .grouping .now) (a .count) (start .pre .1) (a .g) (c .before .before .if1 .taken) (c .before .first-of .ensures)))
+    first-taken (a .grouping .now) (a .count) (start .pre .1) (a .g) (c .before .before .if1 .taken) (λ s. getD (a .masks .now) s 0) 0
+    (c .before .first-of .ensures)
 
 returns-2 : tie.Need-returns-2
 returns-2 c =
     let a = c .before .before .args in
     let s = memberOf (length (a .grouping .now)) (a .grouping .now) (a .g) in
-    sym (ap (λ (b : Bool). cond b (getD (a .masks .now) s 0) 0) (le-ltb (a .g) (a .count) (c .if1 .left)))
+    none-taken (a .g) (a .count) (getD (a .masks .now) s 0) 0 (c .if1 .left)
 
 pub group-mask-spec : {M : Type 1} → statement M
 group-mask-spec =
