@@ -1,0 +1,2 @@
+-- Laws of the descent.
+pub mod Laws
