@@ -22,6 +22,7 @@ use Rattle.model.specs.Layout.{fieldsOf}
 use Rattle.model.specs.Rows.{fieldsRight, rowsRight, fileNumber}
 use Rattle.model.proofs.Roundtrip.{Shaped, fields-written, file-written}
 use Rattle.meaning.specs.Chain.{tupleCount}
+use Rattle.meaning.specs.Merging.{Merged}
 use Rattle.meaning.proofs.Merging as merging
 use Rattle.chain.specs.Of.{chainOf}
 use Rattle.chain.proofs.Accepted.{fields-right, rows-right}
@@ -113,6 +114,12 @@ module _ (file grouping : List ℕ) (accepted : fileNumber file ≡ 0) (grouped 
       let r = right in
       fields-written (mergedModel (fieldsOf file) grouping) (r .0) (r .1)
       (shaped-merged (fieldsOf file) grouping (r .0) (r .1))
+
+  -- so the merged file describes a merged chain of the chain that the file describes
+  pub merged-file-chain : Merged (chainOf (fieldsOf file)) (groupOf grouping) (chainOf (fieldsOf (mergedFile file grouping)))
+  merged-file-chain =
+      subst (λ (m : Model). Merged (chainOf (fieldsOf file)) (groupOf grouping) (chainOf m)) (sym merged-read)
+      (merged-chain (fieldsOf file) grouping (fields-right file accepted) grouped alike)
 
 -- ---- demand 3
 
