@@ -2,6 +2,7 @@
 pub mod Cases
 pub mod Exists
 pub mod Needs
+pub mod Numbered
 pub mod Once
 pub mod Ranges
 pub mod Stretch

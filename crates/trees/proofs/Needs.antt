@@ -58,6 +58,7 @@ formula-nodes (compare r a b) = omega arith
 
 mutual
   unfolding formulaNodes expressionNodes pathNodes need needIn needFrom
+
   pub need-allowed : (f : Formula) → Allowed (need f) (length (formulaNodes f))
   need-allowed always = (omega arith, omega arith)
   need-allowed (labelled l i) = (omega arith, omega arith)

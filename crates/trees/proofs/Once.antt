@@ -119,13 +119,13 @@ mutual
   formula-once (both f h) g r s e =
       let b = formula-begins And ((formulaNodes f ++ formulaNodes h) ++ r) g s e in
       let i : (f ≡ b .0) × (formulaNodes h ++ r ≡ formulaNodes (b .1) ++ s) =
-          formula-once f (b .0) (formulaNodes h ++ r) (formulaNodes (b .1) ++ s) (sym (append-assoc (formulaNodes f) (formulaNodes h) r) ∙ b .3) in
+      formula-once f (b .0) (formulaNodes h ++ r) (formulaNodes (b .1) ++ s) (sym (append-assoc (formulaNodes f) (formulaNodes h) r) ∙ b .3) in
       let j : (h ≡ b .1) × (r ≡ s) = formula-once h (b .1) r s (i .1) in
       (ap₂ both (i .0) (j .0) ∙ sym (b .2), j .1)
   formula-once (compare c a d) g r s e =
       let b = formula-begins (Compare (relationOf c)) ((expressionNodes a ++ expressionNodes d) ++ r) g s e in
       let i : (a ≡ b .0) × (expressionNodes d ++ r ≡ expressionNodes (b .1) ++ s) =
-          expression-once a (b .0) (expressionNodes d ++ r) (expressionNodes (b .1) ++ s) (sym (append-assoc (expressionNodes a) (expressionNodes d) r) ∙ b .3) in
+      expression-once a (b .0) (expressionNodes d ++ r) (expressionNodes (b .1) ++ s) (sym (append-assoc (expressionNodes a) (expressionNodes d) r) ∙ b .3) in
       let j : (d ≡ b .1) × (r ≡ s) = expression-once d (b .1) r s (i .1) in
       (ap (λ (x : Relation). compare x a d) (sym (spelled-relation c)) ∙ ap₂ (compare (spelled (relationOf c))) (i .0) (j .0) ∙ sym (b .2), j .1)
 
@@ -138,19 +138,19 @@ mutual
   expression-once (sum a d) g r s e =
       let b = expression-begins Sum ((expressionNodes a ++ expressionNodes d) ++ r) g s e in
       let i : (a ≡ b .0) × (expressionNodes d ++ r ≡ expressionNodes (b .1) ++ s) =
-          expression-once a (b .0) (expressionNodes d ++ r) (expressionNodes (b .1) ++ s) (sym (append-assoc (expressionNodes a) (expressionNodes d) r) ∙ b .3) in
+      expression-once a (b .0) (expressionNodes d ++ r) (expressionNodes (b .1) ++ s) (sym (append-assoc (expressionNodes a) (expressionNodes d) r) ∙ b .3) in
       let j : (d ≡ b .1) × (r ≡ s) = expression-once d (b .1) r s (i .1) in
       (ap₂ sum (i .0) (j .0) ∙ sym (b .2), j .1)
   expression-once (difference a d) g r s e =
       let b = expression-begins Difference ((expressionNodes a ++ expressionNodes d) ++ r) g s e in
       let i : (a ≡ b .0) × (expressionNodes d ++ r ≡ expressionNodes (b .1) ++ s) =
-          expression-once a (b .0) (expressionNodes d ++ r) (expressionNodes (b .1) ++ s) (sym (append-assoc (expressionNodes a) (expressionNodes d) r) ∙ b .3) in
+      expression-once a (b .0) (expressionNodes d ++ r) (expressionNodes (b .1) ++ s) (sym (append-assoc (expressionNodes a) (expressionNodes d) r) ∙ b .3) in
       let j : (d ≡ b .1) × (r ≡ s) = expression-once d (b .1) r s (i .1) in
       (ap₂ difference (i .0) (j .0) ∙ sym (b .2), j .1)
   expression-once (product a d) g r s e =
       let b = expression-begins Product ((expressionNodes a ++ expressionNodes d) ++ r) g s e in
       let i : (a ≡ b .0) × (expressionNodes d ++ r ≡ expressionNodes (b .1) ++ s) =
-          expression-once a (b .0) (expressionNodes d ++ r) (expressionNodes (b .1) ++ s) (sym (append-assoc (expressionNodes a) (expressionNodes d) r) ∙ b .3) in
+      expression-once a (b .0) (expressionNodes d ++ r) (expressionNodes (b .1) ++ s) (sym (append-assoc (expressionNodes a) (expressionNodes d) r) ∙ b .3) in
       let j : (d ≡ b .1) × (r ≡ s) = expression-once d (b .1) r s (i .1) in
       (ap₂ product (i .0) (j .0) ∙ sym (b .2), j .1)
 
@@ -162,6 +162,6 @@ mutual
   path-once (until k1 k2 f h) g r s e =
       let b = path-begins (Until k1 k2) ((formulaNodes f ++ formulaNodes h) ++ r) g s e in
       let i : (f ≡ b .0) × (formulaNodes h ++ r ≡ formulaNodes (b .1) ++ s) =
-          formula-once f (b .0) (formulaNodes h ++ r) (formulaNodes (b .1) ++ s) (sym (append-assoc (formulaNodes f) (formulaNodes h) r) ∙ b .3) in
+      formula-once f (b .0) (formulaNodes h ++ r) (formulaNodes (b .1) ++ s) (sym (append-assoc (formulaNodes f) (formulaNodes h) r) ∙ b .3) in
       let j : (h ≡ b .1) × (r ≡ s) = formula-once h (b .1) r s (i .1) in
       (ap₂ (until k1 k2) (i .0) (j .0) ∙ sym (b .2), j .1)

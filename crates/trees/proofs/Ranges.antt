@@ -62,26 +62,31 @@ mutual
   formula-ranged (negation f) n h = formula-ranged f n (h .2)
   formula-ranged (both f g) n h =
       (formula-ranged f n (in-front n (formulaNodes f) (formulaNodes g) (h .2)), formula-ranged g n (behind n (formulaNodes f) (formulaNodes g) (h .2)))
-  formula-ranged (compare r a b) n h =
-      (expression-ranged a n (in-front n (expressionNodes a) (expressionNodes b) (h .2)),
-      expression-ranged b n (behind n (expressionNodes a) (expressionNodes b) (h .2)))
+  formula-ranged (compare r a b) n h = (
+    expression-ranged a n (in-front n (expressionNodes a) (expressionNodes b) (h .2)),
+    expression-ranged b n (behind n (expressionNodes a) (expressionNodes b) (h .2)),
+  )
 
   pub expression-ranged : (a : Expression) (n : ℕ) → InRange n (expressionNodes a) → RangedIn n a
   expression-ranged (probability w) n h = path-ranged w n (h .2)
   expression-ranged (constant a b) n h = constant-range a b (h .1)
-  expression-ranged (sum a b) n h =
-      (expression-ranged a n (in-front n (expressionNodes a) (expressionNodes b) (h .2)),
-      expression-ranged b n (behind n (expressionNodes a) (expressionNodes b) (h .2)))
-  expression-ranged (difference a b) n h =
-      (expression-ranged a n (in-front n (expressionNodes a) (expressionNodes b) (h .2)),
-      expression-ranged b n (behind n (expressionNodes a) (expressionNodes b) (h .2)))
-  expression-ranged (product a b) n h =
-      (expression-ranged a n (in-front n (expressionNodes a) (expressionNodes b) (h .2)),
-      expression-ranged b n (behind n (expressionNodes a) (expressionNodes b) (h .2)))
+  expression-ranged (sum a b) n h = (
+    expression-ranged a n (in-front n (expressionNodes a) (expressionNodes b) (h .2)),
+    expression-ranged b n (behind n (expressionNodes a) (expressionNodes b) (h .2)),
+  )
+  expression-ranged (difference a b) n h = (
+    expression-ranged a n (in-front n (expressionNodes a) (expressionNodes b) (h .2)),
+    expression-ranged b n (behind n (expressionNodes a) (expressionNodes b) (h .2)),
+  )
+  expression-ranged (product a b) n h = (
+    expression-ranged a n (in-front n (expressionNodes a) (expressionNodes b) (h .2)),
+    expression-ranged b n (behind n (expressionNodes a) (expressionNodes b) (h .2)),
+  )
 
   pub path-ranged : (w : PathFormula) (n : ℕ) → InRange n (pathNodes w) → RangedFrom n w
   path-ranged (next f) n h = formula-ranged f n (h .2)
-  path-ranged (until k1 k2 f g) n h =
-      (ltb-false k2 k1 (or-left (ltb k2 k1) (ltb 60 k2) (h .1)),
-      ltb-false 60 k2 (or-right (ltb k2 k1) (ltb 60 k2) (h .1)),
-      (formula-ranged f n (in-front n (formulaNodes f) (formulaNodes g) (h .2)), formula-ranged g n (behind n (formulaNodes f) (formulaNodes g) (h .2))))
+  path-ranged (until k1 k2 f g) n h = (
+    ltb-false k2 k1 (or-left (ltb k2 k1) (ltb 60 k2) (h .1)),
+    ltb-false 60 k2 (or-right (ltb k2 k1) (ltb 60 k2) (h .1)),
+    (formula-ranged f n (in-front n (formulaNodes f) (formulaNodes g) (h .2)), formula-ranged g n (behind n (formulaNodes f) (formulaNodes g) (h .2))),
+  )

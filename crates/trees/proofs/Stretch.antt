@@ -76,12 +76,13 @@ laid front (n ∷ ns) rest h =
     let places : length (front ++ (slot n ∷ [])) + length ns ≡ length front + suc (length ns) = omega (arith, longer) in
     let h′ : length (front ++ (slot n ∷ [])) + length ns ≤ 64 = omega (arith, longer) in
     let more : Stretch ((front ++ (slot n ∷ [])) ++ (map slot ns ++ rest)) (length (front ++ (slot n ∷ []))) ns (length (front ++ (slot n ∷ [])) + length ns) =
-        laid (front ++ (slot n ∷ [])) ns rest h′ in
-    (omega arith,
-    ap (λ (s : Slot). s .node) (past-front front (slot n) (map slot ns ++ rest)),
-    subst (λ (l : List Slot). Stretch l (length front + 1) ns (length front + suc (length ns))) (append-assoc front (slot n ∷ []) (map slot ns ++ rest))
-    (subst (λ (q : ℕ). Stretch ((front ++ (slot n ∷ [])) ++ (map slot ns ++ rest)) (length front + 1) ns q) places
-    (subst (λ (p : ℕ). Stretch ((front ++ (slot n ∷ [])) ++ (map slot ns ++ rest)) p ns (length (front ++ (slot n ∷ [])) + length ns)) longer more)))
+    laid (front ++ (slot n ∷ [])) ns rest h′ in (
+      omega arith,
+      ap (λ (s : Slot). s .node) (past-front front (slot n) (map slot ns ++ rest)),
+      subst (λ (l : List Slot). Stretch l (length front + 1) ns (length front + suc (length ns))) (append-assoc front (slot n ∷ []) (map slot ns ++ rest))
+          (subst (λ (q : ℕ). Stretch ((front ++ (slot n ∷ [])) ++ (map slot ns ++ rest)) (length front + 1) ns q) places
+          (subst (λ (p : ℕ). Stretch ((front ++ (slot n ∷ [])) ++ (map slot ns ++ rest)) p ns (length (front ++ (slot n ∷ [])) + length ns)) longer more)),
+    )
 
 -- the record of a list of at most 64 nodes holds it from place 0 on
 pub record-stretch : (ps : List Bool) (ns : List Node) → length ns ≤ 64 → Stretch (recordOf ps ns .nodes) 0 ns (length ns)
