@@ -1,2 +1,8 @@
 -- Laws of trees and the places that they stand in.
 pub mod Cases
+pub mod Exists
+pub mod Needs
+pub mod Numbered
+pub mod Once
+pub mod Ranges
+pub mod Stretch

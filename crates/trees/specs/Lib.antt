@@ -1,5 +1,6 @@
 -- From node lists to trees.
 pub mod Listed
 pub mod Need
+pub mod Numbered
 pub mod Ranged
 pub mod Standing

@@ -1,0 +1,3 @@
+-- Laws of capped numbers, and of what the walk finds node by node.
+pub mod Capped
+pub mod Walk

@@ -1,0 +1,231 @@
+-- What the walk finds of a node, from what it found of the nodes after it. Assumes nothing.
+use Prim.Native.Nat.{ℕ, suc, _+_, _*_, _^_, _≤_, _<_}
+use mathlib.Core.Bool.{Bool, true, false, _||_}
+use mathlib.Core.List.{List}
+use mathlib.Core.Path.{_≡_, refl, sym, ap, ap₂, subst, _∙_}
+use native.Mathlib.Omega.{arith}
+use Rattle.sentence.specs.declared.Relation as Spelled
+use Rattle.sentence.specs.declared.Slot.{Slot}
+use Rattle.sentence.specs.declared.Node.{Node}
+use Rattle.sentence.specs.declared.Node.the-variants.{True, Label, Not, And, Compare, Probability, Constant, Sum, Difference, Product, Next, Until}
+use Rattle.meaning.specs.Tree.{Formula, Expression, PathFormula}
+use Rattle.meaning.specs.Meaning.{denominator}
+use Rattle.meaning.specs.Size.{size, addS, mulS, tooLarge, largeSize, largeCross, exceeds, exceedsIn, exceedsFrom}
+use Rattle.trees.specs.Standing.{nodeAt, FormulaAt, ExpressionAt, PathAt}
+use Rattle.trees.proofs.Cases.{FormulaCase, ExpressionCase, PathCase, formula-case, expression-case, path-case, formula-place, expression-place, path-place}
+use Rattle.sizes.specs.declared.Measure.{Measure}
+use Rattle.sizes.specs.declared.MeasureTwo.{MeasureTwo}
+use Rattle.sizes.specs.Sizing.{capped, Sizes, SizesTwo}
+use Rattle.sizes.proofs.Capped.{capped-times, capped-plus, capped-too}
+
+-- a product of capped numbers
+prod : (x y : ℕ) {u v : ℕ} → u ≡ capped x → v ≡ capped y → capped (u * v) ≡ capped (x * y)
+prod x y e f = ap₂ (λ (a b : ℕ). capped (a * b)) e f ∙ capped-times x y
+
+-- the test for too large of a capped number
+too : (x : ℕ) {u : ℕ} → u ≡ capped x → tooLarge u ≡ tooLarge x
+too x e = ap tooLarge e ∙ capped-too x
+
+or-assoc : (o x y : Bool) → ((o || x) || y) ≡ (o || (x || y))
+or-assoc true x y = refl
+or-assoc false x y = refl
+
+-- two numbers are tested beside what is found of the parts
+tested : {o p : Bool} (x y : ℕ) {u v : ℕ} → o ≡ p → u ≡ capped x → v ≡ capped y →
+    ((o || tooLarge u) || tooLarge v) ≡ (p || (tooLarge x || tooLarge y))
+tested {o} {p} x y {u} {v} e f g =
+    or-assoc o (tooLarge u) (tooLarge v) ∙ ap₂ _||_ e (ap₂ _||_ (too x f) (too y g))
+
+module _ (slots : List Slot) (at D n : ℕ) where
+  abbrev OfFormula : Measure → Formula → ℕ → Type 0
+  OfFormula r f q = (r .next ≡ q) × (r .over ≡ exceeds f D n)
+
+  abbrev OfExpression : Measure → Expression → ℕ → Type 0
+  OfExpression r a q = (r .next ≡ q) × (r .over ≡ exceedsIn a D n) × (r .d ≡ capped (size a D n .d)) × (r .m ≡ capped (size a D n .m))
+
+  abbrev OfPath : Measure → PathFormula → ℕ → Type 0
+  OfPath r w q = (r .next ≡ q) × (r .over ≡ exceedsFrom w D n) × (r .d ≡ capped (denominator w D n))
+
+  -- by the node at the place
+  by-node : (r : Measure) (x : Node) → nodeAt slots at ≡ x → at ≤ r .next → r .next ≤ 64 →
+      ((f : Formula) (q : ℕ) → FormulaCase slots at x f q → OfFormula r f q) →
+      ((a : Expression) (q : ℕ) → ExpressionCase slots at x a q → OfExpression r a q) →
+      ((w : PathFormula) (q : ℕ) → PathCase slots at x w q → OfPath r w q) → Sizes slots at D n r
+  by-node r x e g l f a w = record {
+    forward = g;
+    within = l;
+    formula = λ y q h. f y q (formula-case slots at x e h);
+    expression = λ y q h. a y q (expression-case slots at x e h);
+    path = λ y q h. w y q (path-case slots at x e h);
+  }
+
+  -- past the last place no tree stands
+  pub sized-past : (r : Measure) → 64 ≤ at → at ≤ 64 → r .next ≡ at → Sizes slots at D n r
+  sized-past r h l e = record {
+    forward = omega arith;
+    within = omega arith;
+    formula = λ f q w. absurd (let p = formula-place slots at w in omega arith);
+    expression = λ f q w. absurd (let p = expression-place slots at w in omega arith);
+    path = λ f q w. absurd (let p = path-place slots at w in omega arith);
+  }
+
+  module _ (room : at < 64) where
+    pub sized-true : (r : Measure) → r .next ≡ at + 1 → r .over ≡ false → nodeAt slots at ≡ True → Sizes slots at D n r
+    unfolding exceeds
+    sized-true r e k x = by-node r True x (omega arith) (omega arith)
+        (λ f q w. (e ∙ sym (w .1), k ∙ ap (λ (f : Formula). exceeds f D n) (sym (w .0))))
+        (λ a q w. absurd w) (λ a q w. absurd w)
+
+    pub sized-label : (r : Measure) → r .next ≡ at + 1 → r .over ≡ false → (l i : ℕ) → nodeAt slots at ≡ Label l i → Sizes slots at D n r
+    unfolding exceeds
+    sized-label r e k l i x = by-node r (Label l i) x (omega arith) (omega arith)
+        (λ f q w. (e ∙ sym (w .1), k ∙ ap (λ (f : Formula). exceeds f D n) (sym (w .0))))
+        (λ a q w. absurd w) (λ a q w. absurd w)
+
+    pub sized-constant : (r : Measure) (a b : ℕ) → r .next ≡ at + 1 → r .over ≡ (false || tooLarge b || tooLarge a) → r .d ≡ capped b → r .m ≡ capped a →
+        nodeAt slots at ≡ Constant a b → Sizes slots at D n r
+    unfolding exceedsIn size largeSize
+    sized-constant r a b e k d m x = by-node r (Constant a b) x (omega arith) (omega arith) (λ f q w. absurd w)
+        (λ c q w. (
+          e ∙ sym (w .1),
+          k ∙ ap (λ (c : Expression). exceedsIn c D n) (sym (w .0)),
+          d ∙ ap (λ (c : Expression). capped (size c D n .d)) (sym (w .0)),
+          m ∙ ap (λ (c : Expression). capped (size c D n .m)) (sym (w .0)),
+        ))
+        (λ a q w. absurd w)
+
+    pub sized-not : (r : Measure) → Sizes slots (at + 1) D n r → nodeAt slots at ≡ Not → Sizes slots at D n r
+    unfolding exceeds
+    sized-not r s x = by-node r Not x (omega arith) (s .within)
+        (λ f q w.
+        let h = s .formula (w .0) q (w .2) in
+        (h .0, h .1 ∙ ap (λ (f : Formula). exceeds f D n) (sym (w .1))))
+        (λ a q w. absurd w) (λ a q w. absurd w)
+
+    pub sized-probability : (t r : Measure) → Sizes slots (at + 1) D n t → r .next ≡ t .next → r .over ≡ (t .over || tooLarge (t .d) || tooLarge (t .d)) →
+        r .d ≡ t .d → r .m ≡ t .d → nodeAt slots at ≡ Probability → Sizes slots at D n r
+    unfolding exceedsIn size largeSize
+    sized-probability t r s e k d m x = by-node r Probability x (omega arith) (omega arith) (λ f q w. absurd w)
+        (λ c q w.
+        let h = s .path (w .0) q (w .2) in
+        let v = denominator (w .0) D n in (
+          e ∙ h .0,
+          k ∙ (tested v v (h .1) (h .2) (h .2) ∙ ap (λ (c : Expression). exceedsIn c D n) (sym (w .1))),
+          d ∙ (h .2 ∙ ap (λ (c : Expression). capped (size c D n .d)) (sym (w .1))),
+          m ∙ (h .2 ∙ ap (λ (c : Expression). capped (size c D n .m)) (sym (w .1))),
+        ))
+        (λ a q w. absurd w)
+
+    pub sized-next : (t r : Measure) → Sizes slots (at + 1) D n t → r .next ≡ t .next → r .over ≡ t .over → r .d ≡ capped (D ^ n) →
+        nodeAt slots at ≡ Next → Sizes slots at D n r
+    unfolding exceedsFrom denominator
+    sized-next t r s e k d x = by-node r Next x (omega arith) (omega arith) (λ f q w. absurd w) (λ a q w. absurd w)
+        (λ c q w.
+        let h = s .formula (w .0) q (w .2) in (
+          e ∙ h .0,
+          k ∙ (h .1 ∙ ap (λ (c : PathFormula). exceedsFrom c D n) (sym (w .1))),
+          d ∙ ap (λ (c : PathFormula). capped (denominator c D n)) (sym (w .1)),
+        ))
+
+    module _ (t : MeasureTwo) (s : SizesTwo slots (at + 1) D n t) (r : Measure) (e : r .next ≡ t .next) where
+      pub sized-and : r .over ≡ t .over → nodeAt slots at ≡ And → Sizes slots at D n r
+      unfolding exceeds
+      sized-and k x = by-node r And x (omega arith) (omega arith)
+          (λ f q w.
+          let h = s .formulas (w .0) (w .1) (w .2) q (w .4) (w .5) in
+          (e ∙ h .0, k ∙ (h .1 ∙ ap (λ (f : Formula). exceeds f D n) (sym (w .3)))))
+          (λ a q w. absurd w) (λ a q w. absurd w)
+
+      pub sized-compare : r .over ≡ (t .over || tooLarge (capped (t .m1 * t .d2)) || tooLarge (capped (t .m2 * t .d1))) →
+          (c : Spelled.Relation) → nodeAt slots at ≡ Compare c → Sizes slots at D n r
+      unfolding exceeds largeCross
+      sized-compare k c x = by-node r (Compare c) x (omega arith) (omega arith)
+          (λ f q w.
+          let h = s .expressions (w .1) (w .2) (w .3) q (w .6) (w .7) in
+          let a = size (w .1) D n in
+          let b = size (w .2) D n in (
+            e ∙ h .0,
+            k ∙ (tested (a .m * b .d) (b .m * a .d) (h .1) (prod (a .m) (b .d) (h .3) (h .4)) (prod (b .m) (a .d) (h .5) (h .2)) ∙ ap (λ (f : Formula). exceeds f D n) (sym (w .4))),
+          ))
+          (λ a q w. absurd w) (λ a q w. absurd w)
+
+      pub sized-until : (k1 k2 : ℕ) → r .over ≡ t .over → r .d ≡ capped (D ^ (n * k2)) → nodeAt slots at ≡ Until k1 k2 → Sizes slots at D n r
+      unfolding exceedsFrom denominator
+      sized-until k1 k2 k d x = by-node r (Until k1 k2) x (omega arith) (omega arith) (λ f q w. absurd w) (λ a q w. absurd w)
+          (λ c q w.
+          let h = s .formulas (w .0) (w .1) (w .2) q (w .4) (w .5) in (
+            e ∙ h .0,
+            k ∙ (h .1 ∙ ap (λ (c : PathFormula). exceedsFrom c D n) (sym (w .3))),
+            d ∙ ap (λ (c : PathFormula). capped (denominator c D n)) (sym (w .3)),
+          ))
+
+      module _ (k : r .over ≡ (t .over || tooLarge (r .d) || tooLarge (r .m))) (d : r .d ≡ capped (t .d1 * t .d2)) where
+        -- d and m of a sum or a difference of two expressions
+        module _ (m : r .m ≡ capped (capped (t .m1 * t .d2) + capped (t .m2 * t .d1))) where
+          abbrev Added : Expression → Expression → Type 0
+          Added a b = (r .d ≡ capped (size a D n .d * size b D n .d)) × (r .m ≡ capped (size a D n .m * size b D n .d + size b D n .m * size a D n .d))
+
+          added : (a b : Expression) (p q : ℕ) → ExpressionAt slots (at + 1) a p → ExpressionAt slots p b q → Added a b
+          added a b p q v w =
+              let h = s .expressions a b p q v w in
+              let x = size a D n in
+              let y = size b D n in (
+                d ∙ prod (x .d) (y .d) (h .2) (h .4),
+                m ∙ (ap₂ (λ (i j : ℕ). capped (i + j)) (prod (x .m) (y .d) (h .3) (h .4)) (prod (y .m) (x .d) (h .5) (h .2)) ∙ capped-plus (x .m * y .d) (y .m * x .d)),
+              )
+
+          pub sized-sum : nodeAt slots at ≡ Sum → Sizes slots at D n r
+          unfolding exceedsIn size addS largeSize
+          sized-sum x = by-node r Sum x (omega arith) (omega arith) (λ f q w. absurd w)
+              (λ c q w.
+              let h = s .expressions (w .0) (w .1) (w .2) q (w .4) (w .5) in
+              let g = added (w .0) (w .1) (w .2) q (w .4) (w .5) in (
+                e ∙ h .0,
+                k ∙ (tested _ _ (h .1) (g .0) (g .1) ∙ ap (λ (c : Expression). exceedsIn c D n) (sym (w .3))),
+                g .0 ∙ ap (λ (c : Expression). capped (size c D n .d)) (sym (w .3)),
+                g .1 ∙ ap (λ (c : Expression). capped (size c D n .m)) (sym (w .3)),
+              ))
+              (λ a q w. absurd w)
+
+          pub sized-difference : nodeAt slots at ≡ Difference → Sizes slots at D n r
+          unfolding exceedsIn size addS largeSize
+          sized-difference x = by-node r Difference x (omega arith) (omega arith) (λ f q w. absurd w)
+              (λ c q w.
+              let h = s .expressions (w .0) (w .1) (w .2) q (w .4) (w .5) in
+              let g = added (w .0) (w .1) (w .2) q (w .4) (w .5) in (
+                e ∙ h .0,
+                k ∙ (tested _ _ (h .1) (g .0) (g .1) ∙ ap (λ (c : Expression). exceedsIn c D n) (sym (w .3))),
+                g .0 ∙ ap (λ (c : Expression). capped (size c D n .d)) (sym (w .3)),
+                g .1 ∙ ap (λ (c : Expression). capped (size c D n .m)) (sym (w .3)),
+              ))
+              (λ a q w. absurd w)
+
+        pub sized-product : r .m ≡ capped (t .m1 * t .m2) → nodeAt slots at ≡ Product → Sizes slots at D n r
+        unfolding exceedsIn size mulS largeSize
+        sized-product m x = by-node r Product x (omega arith) (omega arith) (λ f q w. absurd w)
+            (λ c q w.
+            let h = s .expressions (w .0) (w .1) (w .2) q (w .4) (w .5) in
+            let i = d ∙ prod (size (w .0) D n .d) (size (w .1) D n .d) (h .2) (h .4) in
+            let j = m ∙ prod (size (w .0) D n .m) (size (w .1) D n .m) (h .3) (h .5) in (
+              e ∙ h .0,
+              k ∙ (tested _ _ (h .1) i j ∙ ap (λ (c : Expression). exceedsIn c D n) (sym (w .3))),
+              i ∙ ap (λ (c : Expression). capped (size c D n .d)) (sym (w .3)),
+              j ∙ ap (λ (c : Expression). capped (size c D n .m)) (sym (w .3)),
+            ))
+            (λ a q w. absurd w)
+
+-- two trees, one after another
+pub sized-two : (slots : List Slot) (at D n : ℕ) (a b : Measure) → Sizes slots at D n a → Sizes slots (a .next) D n b →
+    SizesTwo slots at D n (record { next = b .next; d1 = a .d; m1 = a .m; d2 = b .d; m2 = b .m; over = a .over || b .over })
+sized-two slots at D n a b s t = record {
+  forward = omega arith;
+  within = t .within;
+  formulas = λ f g m q v w.
+      let x = s .formula f m v in
+      let y = t .formula g q (subst (λ (m : ℕ). FormulaAt slots m g q) (sym (x .0)) w) in
+      (y .0, ap₂ _||_ (x .1) (y .1));
+  expressions = λ f g m q v w.
+      let x = s .expression f m v in
+      let y = t .expression g q (subst (λ (m : ℕ). ExpressionAt slots m g q) (sym (x .0)) w) in
+      (y .0, ap₂ _||_ (x .1) (y .1), x .2, x .3, y .2, y .3);
+}

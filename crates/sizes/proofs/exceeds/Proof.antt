@@ -1,0 +1,13 @@
+-- `exceeds` meets its contract: what is found at place 0. Assumes nothing.
+use borrow.Author.Needs.{needs}
+use Rattle.sizes.proofs.exceeds.Statement.{statement}
+use Rattle.sizes.proofs.exceeds.Tie as tie
+
+size-at-requires : tie.Need-size-at-requires
+size-at-requires c κs = search needs
+
+returns : tie.Need-returns
+returns c = λ f q h. c .size-at .ensures .formula f q h .1
+
+pub exceeds-spec : {M : Type 1} → statement M
+exceeds-spec = tie.close (tie.spec size-at-requires returns)

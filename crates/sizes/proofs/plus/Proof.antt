@@ -1,0 +1,21 @@
+-- `plus` meets its contract, by the test for too large. Assumes nothing.
+use borrow.Author.Needs.{needs}
+use mathlib.Core.Path.{sym}
+use native.Mathlib.Omega.{arith}
+use Rattle.sizes.proofs.Capped.{capped-small, capped-large}
+use Rattle.sizes.proofs.plus.Statement.{statement}
+use Rattle.sizes.proofs.plus.Tie as tie
+
+add-s : tie.Need-add-s
+add-s c = search needs
+
+returns : tie.Need-returns
+returns c = sym (capped-large _ (c .if1 .taken))
+
+returns-2 : tie.Need-returns-2
+returns-2 c =
+    let h = c .if1 .left in
+    sym (capped-small _ (omega arith))
+
+pub plus-spec : {M : Type 1} → statement M
+plus-spec = tie.close (tie.spec add-s returns returns-2)

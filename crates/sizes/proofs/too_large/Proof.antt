@@ -1,0 +1,12 @@
+-- `too_large` meets its contract. Assumes nothing.
+use mathlib.Core.Path.{refl}
+use Rattle.meaning.specs.Size.{tooLarge}
+use Rattle.sizes.proofs.too_large.Statement.{statement}
+use Rattle.sizes.proofs.too_large.Tie as tie
+
+returns : tie.Need-returns
+unfolding tooLarge
+returns c = refl
+
+pub too-large-spec : {M : Type 1} → statement M
+too-large-spec = tie.close (tie.spec returns)

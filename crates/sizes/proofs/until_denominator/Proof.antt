@@ -1,0 +1,21 @@
+-- `until_denominator` meets its contract: the exponent is at most 4 × 2^32. Assumes nothing.
+use borrow.Author.Needs.{needs}
+use Prim.Native.Nat.{_*_, _≤_}
+use native.Mathlib.Nat.{mul-le-mul-right}
+use native.Mathlib.Omega.{arith}
+use Rattle.sizes.proofs.until_denominator.Statement.{statement}
+use Rattle.sizes.proofs.until_denominator.Tie as tie
+
+mul-power : tie.Need-mul-power
+mul-power c =
+    let few : c .args .n * c .args .to ≤ 4 * c .args .to = mul-le-mul-right (c .args .to) (c .pre) in
+    omega (arith, few, c .fits .to)
+
+power-requires : tie.Need-power-requires
+power-requires c κs = search needs
+
+returns : tie.Need-returns
+returns c = search needs
+
+pub until-denominator-spec : {M : Type 1} → statement M
+until-denominator-spec = tie.close (tie.spec mul-power power-requires returns)

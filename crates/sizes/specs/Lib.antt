@@ -1,0 +1,2 @@
+-- What the size rule's walk over the places says.
+pub mod Sizing

@@ -1,0 +1,227 @@
+// The size rule, refusal 10, over the places of a sentence's record. No number here grows past 2^62 + 1: above 2^62 it only
+// matters that it is above.
+ghost use Prim.Native.Nat.{ℕ, _+_, _*_, _^_, _≤_, _<_};
+ghost use mathlib.Core.Bool.{false, _||_};
+ghost use mathlib.Core.Path.{_≡_};
+ghost use Rattle.meaning.specs.Size.{exceeds as exceedsRule, tooLarge};
+ghost use Rattle.meaning.specs.Tree.{Formula};
+ghost use Rattle.trees.specs.Standing.{FormulaAt};
+ghost use Rattle.sizes.specs.Sizing.{capped, Sizes, SizesTwo};
+use sentence::Node;
+use sentence::Sentence;
+use sentence::Slot;
+
+// What is found of a tree: where its nodes end, an expression's d and m (a path's denominator as both), capped, and whether
+// some number of the size rule is above 2^62.
+pub struct Measure {
+    pub next: usize,
+    pub d: u64,
+    pub m: u64,
+    pub over: bool,
+}
+
+// What is found of two trees, one after another.
+pub struct MeasureTwo {
+    pub next: usize,
+    pub d1: u64,
+    pub m1: u64,
+    pub d2: u64,
+    pub m2: u64,
+    pub over: bool,
+}
+
+// A product, capped.
+pub fn times(a: u64, b: u64) -> u64
+    ensures { λ r. ⌜ r ≡ capped (a * b) ⌝ }
+{
+    if b == 0 {
+        return 0;
+    }
+    if 4611686018427387904 / b < a {
+        return 4611686018427387905;
+    }
+    a * b
+}
+
+// A sum of capped numbers, capped.
+fn plus(a: u64, b: u64) -> u64
+    requires { ⌜ (a ≤ 4611686018427387905) × (b ≤ 4611686018427387905) ⌝ }
+    ensures { λ r. ⌜ r ≡ capped (a + b) ⌝ }
+{
+    let s = a + b;
+    if 4611686018427387904 < s {
+        return 4611686018427387905;
+    }
+    s
+}
+
+// A power, capped.
+pub fn power(base: u64, exponent: u64) -> u64
+    ensures { λ r. ⌜ r ≡ capped (base ^ exponent) ⌝ }
+{
+    let mut r: u64 = 1;
+    let mut i: u64 = 0;
+    while i < exponent {
+        r = times(r, base);
+        i = i + 1;
+    }
+    r
+}
+
+// The number is above 2^62.
+fn too_large(x: u64) -> bool
+    ensures { λ r. ⌜ r ≡ tooLarge x ⌝ }
+{
+    4611686018427387904 < x
+}
+
+// A tree that has no d and no m of its own.
+fn plain(next: usize, over: bool) -> Measure
+    ensures { λ r. ⌜ (r .next ≡ next) × (r .over ≡ over) ⌝ }
+{
+    Measure {
+        next,
+        d: 0,
+        m: 0,
+        over,
+    }
+}
+
+// An expression of d and m, whose parts exceed or not.
+fn judged(next: usize, d: u64, m: u64, over: bool) -> Measure
+    ensures { λ r. ⌜ (r .next ≡ next) × (r .over ≡ (over || tooLarge d || tooLarge m)) × (r .d ≡ d) × (r .m ≡ m) ⌝ }
+{
+    let over = over | too_large(d) | too_large(m);
+    Measure { next, d, m, over }
+}
+
+// A sum or a difference: d1 × d2 and m1 × d2 + m2 × d1.
+fn added(t: MeasureTwo) -> Measure
+    ensures { λ r. ⌜ (r .next ≡ t .next) × (r .over ≡ (t .over || tooLarge (r .d) || tooLarge (r .m))) × (r .d ≡ capped (t .d1 * t .d2)) × (r .m ≡ capped (capped (t .m1 * t .d2) + capped (t .m2 * t .d1))) ⌝ }
+{
+    let d = times(t.d1, t.d2);
+    let m = plus(times(t.m1, t.d2), times(t.m2, t.d1));
+    judged(t.next, d, m, t.over)
+}
+
+// A product: d1 × d2 and m1 × m2.
+fn multiplied(t: MeasureTwo) -> Measure
+    ensures { λ r. ⌜ (r .next ≡ t .next) × (r .over ≡ (t .over || tooLarge (r .d) || tooLarge (r .m))) × (r .d ≡ capped (t .d1 * t .d2)) × (r .m ≡ capped (t .m1 * t .m2)) ⌝ }
+{
+    let d = times(t.d1, t.d2);
+    let m = times(t.m1, t.m2);
+    judged(t.next, d, m, t.over)
+}
+
+// A comparison: its m1 × d2 and m2 × d1.
+fn crossed(t: MeasureTwo) -> Measure
+    ensures { λ r. ⌜ (r .next ≡ t .next) × (r .over ≡ (t .over || tooLarge (capped (t .m1 * t .d2)) || tooLarge (capped (t .m2 * t .d1)))) ⌝ }
+{
+    let first = times(t.m1, t.d2);
+    let second = times(t.m2, t.d1);
+    plain(t.next, t.over | too_large(first) | too_large(second))
+}
+
+// A path of a denominator, whose formulas exceed or not.
+fn stepped(next: usize, d: u64, over: bool) -> Measure
+    ensures { λ r. ⌜ (r .next ≡ next) × (r .over ≡ over) × (r .d ≡ d) ⌝ }
+{
+    Measure {
+        next,
+        d,
+        m: d,
+        over,
+    }
+}
+
+// Two formulas.
+fn joined(t: MeasureTwo) -> Measure
+    ensures { λ r. ⌜ (r .next ≡ t .next) × (r .over ≡ t .over) ⌝ }
+{
+    plain(t.next, t.over)
+}
+
+// A constant: d is its bottom, m its top.
+fn constant(next: usize, top: u32, bottom: u32) -> Measure
+    ensures { λ r. ⌜ (r .next ≡ next) × (r .over ≡ (false || tooLarge bottom || tooLarge top)) × (r .d ≡ capped bottom) × (r .m ≡ capped top) ⌝ }
+{
+    judged(next, bottom as u64, top as u64, false)
+}
+
+// The probability of a path: d and m are the path's denominator.
+fn probable(w: Measure) -> Measure
+    ensures { λ r. ⌜ (r .next ≡ w .next) × (r .over ≡ (w .over || tooLarge (w .d) || tooLarge (w .d))) × (r .d ≡ w .d) × (r .m ≡ w .d) ⌝ }
+{
+    judged(w.next, w.d, w.d, w.over)
+}
+
+// The denominator of an until with a window that ends at `to`.
+fn until_denominator(base: u64, n: u64, to: u32) -> u64
+    requires { ⌜ n ≤ 4 ⌝ }
+    ensures { λ r. ⌜ r ≡ capped (base ^ (n * to)) ⌝ }
+{
+    power(base, n * (to as u64))
+}
+
+// What is found of two trees, one after another.
+fn operands(nodes: [Slot; 64], at: usize, base: u64, n: u64) -> MeasureTwo
+    requires { ⌜ (at ≤ 64) × (n ≤ 4) ⌝ }
+    ensures { λ r. ⌜ SizesTwo nodes at base n r ⌝ }
+{
+    let first = size_at(nodes, at, base, n);
+    let second = size_at(nodes, first.next, base, n);
+    MeasureTwo {
+        next: second.next,
+        d1: first.d,
+        m1: first.m,
+        d2: second.d,
+        m2: second.m,
+        over: first.over | second.over,
+    }
+}
+
+// What is found of the tree at a place, with D and the number of variables.
+pub fn size_at(nodes: [Slot; 64], at: usize, base: u64, n: u64) -> Measure
+    requires { ⌜ (at ≤ 64) × (n ≤ 4) ⌝ }
+    ensures { λ r. ⌜ Sizes nodes at base n r ⌝ }
+{
+    if 64 <= at {
+        return plain(at, false);
+    }
+    let slot = nodes[at];
+    let node = slot.node;
+    match node {
+        Node::True => plain(at + 1, false),
+        Node::Label {
+            label: _,
+            variable: _,
+        } => plain(at + 1, false),
+        Node::Not => size_at(nodes, at + 1, base, n),
+        Node::And => joined(operands(nodes, at + 1, base, n)),
+        Node::Compare(_) => crossed(operands(nodes, at + 1, base, n)),
+        Node::Probability => probable(size_at(nodes, at + 1, base, n)),
+        Node::Constant { top, bottom } => constant(at + 1, top, bottom),
+        Node::Sum => added(operands(nodes, at + 1, base, n)),
+        Node::Difference => added(operands(nodes, at + 1, base, n)),
+        Node::Product => multiplied(operands(nodes, at + 1, base, n)),
+        Node::Next => {
+            let f = size_at(nodes, at + 1, base, n);
+            stepped(f.next, power(base, n), f.over)
+        }
+        Node::Until { from: _, to } => {
+            let t = operands(nodes, at + 1, base, n);
+            stepped(t.next, until_denominator(base, n, to), t.over)
+        }
+    }
+}
+
+// The size rule for a sentence of n letters whose record holds a formula from place 0 on: some number of the rule is above
+// 2^62.
+pub fn exceeds(s: Sentence, d: u64, n: usize) -> bool
+    requires { ⌜ n ≤ 4 ⌝ }
+    ensures { λ r. ⌜ ((f : Formula) (q : ℕ) → FormulaAt (s .nodes) 0 f q → r ≡ exceedsRule f d n) ⌝ }
+{
+    let nodes = s.nodes;
+    let found = size_at(nodes, 0, d, n as u64);
+    found.over
+}
