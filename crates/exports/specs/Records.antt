@@ -10,6 +10,7 @@ use Rattle.refusal.specs.declared.Written.the-variants.{Wrote, Refused as Unwri
 use Rattle.model.specs.declared.Model.{Model}
 use Rattle.model.specs.Layout.{fieldsOf, fileOf}
 use Rattle.model.specs.Rows.{fileNumber, recordNumber}
+use Rattle.merge.specs.Rows.{mergeNumber, mergedFile}
 
 -- N, A and D, in this order
 abbrev pub headOf : Model → List ℕ
@@ -27,7 +28,17 @@ unfoldable pub codeOf : Written → ℕ
 codeOf (Wrote size) = size
 codeOf (Unwritten number) = 4294967296 + number
 
--- write model, exported: what write model ensures, of its answer's code
-pub record WritesModel (m : Model) (before after : List ℕ) (r : ℕ) : Type 0 where
-  pub answered : r ≡ codeOf (writtenOf (recordNumber m (length before)) (length (fileOf m)))
-  pub left : after ≡ leftBy (recordNumber m (length before)) (fileOf m) before
+-- what an exported writer ensures, of the number of its rows, what is to be written, the output before and after, and the
+-- code that it returns
+pub record WritesCoded (number : ℕ) (text before after : List ℕ) (r : ℕ) : Type 0 where
+  pub answered : r ≡ codeOf (writtenOf number (length text))
+  pub left : after ≡ leftBy number text before
+
+-- write model, exported
+abbrev pub WritesModel : Model → (before after : List ℕ) → ℕ → Type 0
+WritesModel m before after r = WritesCoded (recordNumber m (length before)) (fileOf m) before after r
+
+-- merge, exported
+abbrev pub Merges : (file grouping before after : List ℕ) → ℕ → Type 0
+Merges file grouping before after r =
+    WritesCoded (mergeNumber file grouping (length before)) (mergedFile file grouping) before after r

@@ -1,5 +1,8 @@
 // The calls of document 01 as other languages see them: functions on numbers and slices, with the answer codes that
 // include/twolsken.h states. Each is thin over the library's own call.
+mod merging;
+mod sentences;
+
 ghost use mathlib.Core.Path.{_≡_};
 ghost use Rattle.model.specs.Layout.{modelOf};
 ghost use Rattle.exports.specs.Records.{ReadsModel, WritesModel};

@@ -2,14 +2,10 @@
 use borrow.Author.Needs.{needs}
 use Prim.Native.Nat.{ℕ}
 use mathlib.Core.List.{List}
-use mathlib.Core.Path.{_≡_, ap, sym, subst, _∙_}
-use lib.ListN.{length}
-use Rattle.refusal.specs.Answers.{Writes}
-use Rattle.refusal.specs.declared.Written.{Written}
-use Rattle.model.specs.declared.Model.{Model}
-use Rattle.model.specs.Layout.{modelOf, fileOf}
-use Rattle.model.specs.Rows.{recordNumber}
+use mathlib.Core.Path.{_≡_, ap, subst}
+use Rattle.model.specs.Layout.{modelOf}
 use Rattle.exports.specs.Records.{codeOf, WritesModel}
+use Rattle.exports.proofs.Coded.{coded}
 use Rattle.exports.proofs.twolsken_write_model.Statement.{statement}
 use Rattle.exports.proofs.twolsken_write_model.Tie as tie
 
@@ -33,11 +29,6 @@ add-result c = search needs
 
 same-length : tie.Need-same-length
 same-length c = search needs
-
--- the contract of the code, from that of the answer
-coded : {m : Model} {before after : List ℕ} {w : Written} {r : ℕ} → Writes (recordNumber m (length before)) (fileOf m) before after w →
-    codeOf w ≡ r → WritesModel m before after r
-coded h e = record { answered = sym e ∙ ap codeOf (h .answered); left = h .left }
 
 -- the model that is written is that of the lent parts
 wrote : (c : tie.After-write-model) →

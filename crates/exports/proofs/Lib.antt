@@ -1,0 +1,3 @@
+-- The laws that the proofs of the exported calls share.
+pub mod Coded
+pub mod Unread

@@ -1,0 +1,66 @@
+-- `exports::sentences::codes_of` meets its contract: the codes are filled from the front.
+use borrow.Author.Needs.{needs}
+use Prim.Native.Nat.{_-_}
+use mathlib.Core.List.{[]}
+use mathlib.Core.Path.{refl}
+use native.Mathlib.Omega.{arith}
+use lib.ListN.{getD}
+use Rattle.counting.proofs.Laws.{Filled, filled-none, filled-next, filled-all}
+use Rattle.sentence.specs.Calls.{slot}
+use Rattle.sentence.specs.declared.Node.the-variants.{True}
+use Rattle.exports.specs.Sentences.{codeOfNode}
+use Rattle.exports.proofs.sentences.codes_of.Statement.{statement}
+use Rattle.exports.proofs.sentences.codes_of.Tie as tie
+
+abbrev Inv-loop : tie.InvT-loop
+Inv-loop nodes codes₀ i₀ codes i = Filled 64 (λ i. codeOfNode (getD nodes i (slot True) .node)) [] i codes
+
+abbrev μ-loop : tie.MeasureT-loop
+μ-loop nodes codes₀ i₀ codes i = 64 - i
+
+loop-holds : tie.Need-loop-holds Inv-loop μ-loop
+loop-holds c = filled-none refl
+
+mul-slot : tie.Need-mul-slot Inv-loop μ-loop
+mul-slot c = search needs
+
+array-copy-out-slot : tie.Need-array-copy-out-slot Inv-loop μ-loop
+array-copy-out-slot c = search needs
+
+code-of-requires : tie.Need-code-of-requires Inv-loop μ-loop
+code-of-requires c κs = search needs
+
+mul-codes : tie.Need-mul-codes Inv-loop μ-loop
+mul-codes c = search needs
+
+array-set-from-codes : tie.Need-array-set-from-codes Inv-loop μ-loop
+array-set-from-codes c = search needs
+
+add-i : tie.Need-add-i Inv-loop μ-loop
+add-i c = search needs
+
+loop-less : tie.Need-loop-less Inv-loop μ-loop
+loop-less c = search needs
+
+loop-again : tie.Need-loop-again Inv-loop μ-loop
+loop-again c = filled-next (c .before .before .before .loop .inv) (omega arith) (c .code-of .ensures)
+
+returns : tie.Need-returns Inv-loop μ-loop
+returns c = filled-all (c .before .loop .inv) (omega arith)
+
+pub codes-of-spec : {M : Type 1} → statement M
+codes-of-spec =
+    tie.close
+    (tie.spec
+    Inv-loop
+    μ-loop
+    loop-holds
+    mul-slot
+    array-copy-out-slot
+    code-of-requires
+    mul-codes
+    array-set-from-codes
+    add-i
+    loop-less
+    loop-again
+    returns)

@@ -1,0 +1,36 @@
+-- `exports::sentences::comparison_of` meets its contract: a number has its comparison, and none past the last.
+use borrow.Author.Needs.{needs}
+use Prim.Native.Nat.{_≤_}
+use mathlib.Core.Path.{sym, ap, _∙_}
+use native.Mathlib.Omega.{arith}
+use lib.ListN.{List·getD-eq-default}
+use Rattle.exports.specs.Sentences.{comparisons, comparisonOf, unspelled}
+use Rattle.exports.proofs.sentences.comparison_of.Statement.{statement}
+use Rattle.exports.proofs.sentences.comparison_of.Tie as tie
+
+no-node-requires : tie.Need-no-node-requires
+no-node-requires c κs = search needs
+
+returns : tie.Need-returns
+returns c = ap comparisonOf (sym (c .match .keys1))
+
+returns-2 : tie.Need-returns-2
+returns-2 c = ap comparisonOf (sym (c .match .keys2))
+
+returns-3 : tie.Need-returns-3
+returns-3 c = ap comparisonOf (sym (c .match .keys3))
+
+returns-4 : tie.Need-returns-4
+returns-4 c = ap comparisonOf (sym (c .match .keys4))
+
+returns-5 : tie.Need-returns-5
+returns-5 c = ap comparisonOf (sym (c .match .keys5))
+
+returns-6 : tie.Need-returns-6
+returns-6 c =
+    let past : 5 ≤ c .before .before .args .x = omega arith in
+    c .no-node .ensures ∙ sym (List·getD-eq-default comparisons unspelled past)
+
+pub comparison-of-spec : {M : Type 1} → statement M
+comparison-of-spec =
+    tie.close (tie.spec no-node-requires returns returns-2 returns-3 returns-4 returns-5 returns-6)

@@ -1,0 +1,66 @@
+-- `exports::sentences::places_of` meets its contract: the places are filled from the front.
+use borrow.Author.Needs.{needs}
+use Prim.Native.Nat.{_-_}
+use mathlib.Core.List.{[]}
+use mathlib.Core.Path.{refl, ap}
+use native.Mathlib.Omega.{arith}
+use lib.ListN.{getD}
+use Rattle.counting.proofs.Laws.{Filled, filled-none, filled-next, filled-all}
+use Rattle.sentence.specs.Calls.{slot}
+use Rattle.sentence.specs.declared.Node.the-variants.{True}
+use Rattle.exports.specs.Sentences.{nodeOfCode}
+use Rattle.exports.proofs.sentences.places_of.Statement.{statement}
+use Rattle.exports.proofs.sentences.places_of.Tie as tie
+
+abbrev Inv-loop : tie.InvT-loop
+Inv-loop codes nodes₀ i₀ nodes i = Filled 64 (λ i. slot (nodeOfCode (getD codes i []))) (slot True) i nodes
+
+abbrev μ-loop : tie.MeasureT-loop
+μ-loop codes nodes₀ i₀ nodes i = 64 - i
+
+loop-holds : tie.Need-loop-holds Inv-loop μ-loop
+loop-holds c = filled-none refl
+
+mul-code : tie.Need-mul-code Inv-loop μ-loop
+mul-code c = search needs
+
+array-copy-out-code : tie.Need-array-copy-out-code Inv-loop μ-loop
+array-copy-out-code c = search needs
+
+node-of-code-requires : tie.Need-node-of-code-requires Inv-loop μ-loop
+node-of-code-requires c κs = search needs
+
+mul-nodes : tie.Need-mul-nodes Inv-loop μ-loop
+mul-nodes c = search needs
+
+array-set-from-nodes : tie.Need-array-set-from-nodes Inv-loop μ-loop
+array-set-from-nodes c = search needs
+
+add-i : tie.Need-add-i Inv-loop μ-loop
+add-i c = search needs
+
+loop-less : tie.Need-loop-less Inv-loop μ-loop
+loop-less c = search needs
+
+loop-again : tie.Need-loop-again Inv-loop μ-loop
+loop-again c = filled-next (c .before .before .before .loop .inv) (omega arith) (ap slot (c .node-of-code .ensures))
+
+returns : tie.Need-returns Inv-loop μ-loop
+returns c = filled-all (c .before .loop .inv) (omega arith)
+
+pub places-of-spec : {M : Type 1} → statement M
+places-of-spec =
+    tie.close
+    (tie.spec
+    Inv-loop
+    μ-loop
+    loop-holds
+    mul-code
+    array-copy-out-code
+    node-of-code-requires
+    mul-nodes
+    array-set-from-nodes
+    add-i
+    loop-less
+    loop-again
+    returns)

@@ -1,0 +1,120 @@
+/*
+ * The calls of Twolsken for C, and for every language that calls C. Link the archive of the crate `exports`.
+ *
+ * Memory is lent for the length of a call. A slice is a pointer and then its length in elements; an array of a fixed size
+ * is a pointer to its first element. No pointer may be null, not even that of a slice of length 0. What a call may write
+ * overlaps nothing else that is lent to it. The calls allocate nothing, and keep no pointer.
+ *
+ * Refusals. Of the rows that belong to a call the smallest number that applies is given. A refusal carries only its number:
+ * all lent memory is as it was.
+ *
+ *    2  the model file's length is not a multiple of 512 in 512..3,072
+ *    3  some block's check is wrong
+ *    4  a byte, a field or the number of blocks breaks the layout of the model file
+ *    5  the row of some state below N does not add up to D
+ *    6  a text that is not in the grammar or is over 400 bytes; a prefix and a list of nodes that no text of the grammar
+ *       within 400 bytes spells, or a count over 64
+ *    7  a constant's top over 65,535, its bottom 0 or over 65,535; a window k1..k2 with k1 > k2 or k2 > 60; a variable above
+ *       the number of letters
+ *    8  a text of over 64 nodes
+ *   12  the grouping's length is not N, or its numbers are not exactly 0..M-1, each used
+ *   13  two states of a group differ in mask or in weight into some group
+ *   14  the output is shorter than what is to be written
+ *
+ * Answers. A reader returns 0, or the refusal's number. A writer, or merge, returns the number of bytes that it wrote at the
+ * front of the output, with what is beyond as it was; or TWOLSKEN_REFUSED plus the refusal's number.
+ */
+#ifndef TWOLSKEN_H
+#define TWOLSKEN_H
+
+#include <stddef.h>
+#include <stdint.h>
+
+#ifdef __cplusplus
+extern "C" {
+#endif
+
+/* 2^32: a writer's answer from here on is a refusal, and the rest of it the refusal's number. */
+#define TWOLSKEN_REFUSED UINT64_C(4294967296)
+
+/* The sizes of lent arrays. */
+#define TWOLSKEN_STATES 32 /* masks, rows of weights, and weights in a row */
+#define TWOLSKEN_LETTERS 4 /* letters of a sentence's prefix */
+#define TWOLSKEN_NODES 64  /* nodes of a sentence */
+
+/*
+ * A node of a sentence is three numbers: its tag, x and y. A number that the node does not have is read back as 0, and is
+ * not looked at by the writer.
+ */
+enum twolsken_tag {
+    TWOLSKEN_TRUE = 0,
+    TWOLSKEN_LABEL = 1,       /* x: the label, 0 for `a` to 15 for `p`; y: the variable, 1..4 */
+    TWOLSKEN_NOT = 2,         /* one state formula follows */
+    TWOLSKEN_AND = 3,         /* two state formulas follow */
+    TWOLSKEN_COMPARE = 4,     /* x: the relation; two expressions follow */
+    TWOLSKEN_PROBABILITY = 5, /* a path follows */
+    TWOLSKEN_CONSTANT = 6,    /* x: the top; y: the bottom */
+    TWOLSKEN_SUM = 7,         /* two expressions follow, as at 8 and 9 */
+    TWOLSKEN_DIFFERENCE = 8,
+    TWOLSKEN_PRODUCT = 9,
+    TWOLSKEN_NEXT = 10, /* a path: one state formula follows */
+    TWOLSKEN_UNTIL = 11 /* a path: x and y are the window, from x to y; two state formulas follow */
+};
+
+/* x of a comparison. */
+enum twolsken_relation {
+    TWOLSKEN_LESS = 0,
+    TWOLSKEN_AT_MOST = 1,
+    TWOLSKEN_EQUAL = 2,
+    TWOLSKEN_AT_LEAST = 3,
+    TWOLSKEN_GREATER = 4
+};
+
+/*
+ * Read model. Returns 0, with N, A and D in head, the label mask of each state in masks and the weight from state s to
+ * state t in rows[s][t] (0 from N on); or a refusal of 2, 3, 4, 5.
+ */
+uint32_t twolsken_read_model(const uint8_t *file, size_t file_length, uint32_t head[3],
+                             uint16_t masks[TWOLSKEN_STATES],
+                             uint16_t rows[TWOLSKEN_STATES][TWOLSKEN_STATES]);
+
+/*
+ * Write model. Returns the length of the model's file, which it wrote at the front of out; or TWOLSKEN_REFUSED plus 4, 5
+ * or 14.
+ */
+uint64_t twolsken_write_model(uint8_t n, uint8_t a, uint32_t d, const uint16_t masks[TWOLSKEN_STATES],
+                              const uint16_t rows[TWOLSKEN_STATES][TWOLSKEN_STATES], uint8_t *out,
+                              size_t out_length);
+
+/*
+ * Read sentence. Returns 0, with the number of letters and the number of nodes in head, 1 in exists for each letter that
+ * is `E` (0 for `A`, and past the letters) and the nodes in written order in codes (0, 0, 0 past the count); or a refusal
+ * of 6, 7, 8.
+ */
+uint32_t twolsken_read_sentence(const uint8_t *text, size_t text_length, uint64_t head[2],
+                                uint8_t exists[TWOLSKEN_LETTERS],
+                                uint32_t codes[TWOLSKEN_NODES][3]);
+
+/*
+ * Write sentence. In exists 0 is `A` and every other number `E`; places past the letters and past the count are no part of
+ * the sentence. A code that is no node's (a tag above 11, a relation above 4, a label or a variable above 255) stands for a
+ * node that no text spells: where it counts it is refused as 6. Returns the length of the text, which it wrote at the front
+ * of out; or TWOLSKEN_REFUSED plus 6, 7 or 14.
+ */
+uint64_t twolsken_write_sentence(uint64_t letters, uint64_t count,
+                                 const uint8_t exists[TWOLSKEN_LETTERS],
+                                 const uint32_t codes[TWOLSKEN_NODES][3], uint8_t *out,
+                                 size_t out_length);
+
+/*
+ * Merge. grouping has one byte a state, the number of its group. Returns the length of the merged model's file, which it
+ * wrote at the front of out; or TWOLSKEN_REFUSED plus 2, 3, 4, 5, 12, 13 or 14.
+ */
+uint64_t twolsken_merge(const uint8_t *file, size_t file_length, const uint8_t *grouping,
+                        size_t grouping_length, uint8_t *out, size_t out_length);
+
+#ifdef __cplusplus
+}
+#endif
+
+#endif
