@@ -1,0 +1,218 @@
+-- A state formula's node: what its operands are evaluated with, and what the layer holds after the call at the node.
+use Prim.Native.Nat.{ℕ, suc, _+_, _-_, _*_, _^_, _≤_, _<_}
+use mathlib.Core.Bool.{Bool, false, cond, _||_}
+use mathlib.Core.List.{List}
+use mathlib.Core.Path.{_≡_, refl, sym, ap, subst, _∙_}
+use native.Mathlib.Omega.{arith}
+use lib.Dec.{eqb}
+use lib.ListN.{length, getD, drop}
+use Rattle.sentence.specs.declared.Relation as Spelled
+use Rattle.sentence.specs.declared.Slot.{Slot}
+use Rattle.sentence.specs.declared.Node.{Node}
+use Rattle.sentence.specs.declared.Node.the-variants.{True, Label, Not, And, Compare, Probability, Constant, Sum, Difference, Product, Next, Until}
+use Rattle.meaning.specs.Chain.{Chain, Tuple}
+use Rattle.meaning.specs.Tree.{Relation, less, atMost, equal, atLeast, greater}
+use Rattle.meaning.specs.Tree.{Formula, always, labelled, negation, both, compare, Expression}
+use Rattle.meaning.specs.Meaning.{holds}
+use Rattle.meaning.specs.Size.{size, exceeds, exceedsIn}
+use Rattle.meaning.proofs.Tests.{or-left, or-right}
+use Rattle.layers.specs.Layers.{Layer, truth, Written, negatedAt, bothAt}
+use Rattle.layers.proofs.Truth.{always-layer, negated-layer, both-layer}
+use Rattle.fractions.specs.declared.Relation as Compared
+use Rattle.fractions.specs.Operations.{relationOf, comparedAt, CompareFits}
+use Rattle.fractions.specs.Values.{numerators}
+use Rattle.fractions.proofs.Values.{sides-small, compare-fits, compare-layer}
+use Rattle.trees.specs.Listed as listed
+use Rattle.trees.specs.Need.{paired, need, needIn}
+use Rattle.trees.specs.Ranged.{Ranged}
+use Rattle.trees.specs.Standing.{nodeAt, FormulaAt}
+use Rattle.trees.proofs.Cases.{FormulaCase, formula-case, formula-place}
+use Rattle.evaluate.specs.declared.Setting.{Setting}
+use Rattle.evaluate.specs.declared.ValuedTwo.{ValuedTwo}
+use Rattle.evaluate.specs.Evaluation.{unspelled, Fixed, LabelReady, LabelDone}
+use Rattle.evaluate.specs.Evaluation.{FormulaReady, FormulasReady, ExpressionsReady, FormulaDone, FormulasDone, ExpressionsDone}
+use Rattle.evaluate.proofs.Needing.{need-some, needIn-some, paired-two, room-of}
+use Rattle.evaluate.proofs.Fixing.{to-chain, tuple-count}
+
+-- the relation of a comparison's node is the comparison's
+unspelled-spelled : (e : Relation) → unspelled (listed.relationOf e) ≡ e
+unspelled-spelled less = refl
+unspelled-spelled atMost = refl
+unspelled-spelled equal = refl
+unspelled-spelled atLeast = refl
+unspelled-spelled greater = refl
+
+pub relation-is : (x : Compared.Relation) {r : Spelled.Relation} (e : Relation) → relationOf x ≡ unspelled r → r ≡ listed.relationOf e → relationOf x ≡ e
+relation-is x e p q = p ∙ ap unspelled q ∙ unspelled-spelled e
+
+module _ {nodes : List Slot} {g : Setting} {masks : List ℕ} {rows : List (List ℕ)} {at : ℕ} {w : List ℕ}
+    (ready : FormulaReady nodes g masks rows at w) where
+  pub formula-inside : at < 64
+  formula-inside = formula-place nodes at (ready .stands)
+
+  -- there is room for its own layer
+  pub formula-room : g .tuples ≤ length w
+  formula-room =
+      let p = room-of (g .tuples) (need-some (ready .formula)) (ready .room) in
+      omega arith
+
+  pub label-ready : (l i : ℕ) → nodeAt nodes at ≡ Label l i → LabelReady g masks l i w
+  label-ready l i e =
+      let it = formula-case nodes at (Label l i) e (ready .stands) in
+      let range = subst (λ (f : Formula). Ranged (g .variables) f) (it .0) (ready .ranged) in
+      record {
+        letter = range .0;
+        some = range .1;
+        bound = range .2;
+        few = ready .few;
+        sizes = ready .fixed .sizes;
+        room = formula-room;
+      }
+
+  pub not-ready : nodeAt nodes at ≡ Not → FormulaReady nodes g masks rows (at + 1) w
+  unfolding exceeds need
+  not-ready e =
+      let it = formula-case nodes at Not e (ready .stands) in
+      record {
+        chain = ready .chain;
+        fixed = ready .fixed;
+        few = ready .few;
+        formula = it .0;
+        end = ready .end;
+        stands = it .2;
+        ranged = subst (λ (f : Formula). Ranged (g .variables) f) (it .1) (ready .ranged);
+        fits = subst (λ (f : Formula). exceeds f (ready .chain .D) (g .variables) ≡ false) (it .1) (ready .fits);
+        room = subst (λ (f : Formula). need f * g .tuples ≤ length w) (it .1) (ready .room);
+      }
+
+  pub and-ready : nodeAt nodes at ≡ And → FormulasReady nodes g masks rows (at + 1) w
+  unfolding exceeds need
+  and-ready e =
+      let it = formula-case nodes at And e (ready .stands) in
+      let D = ready .chain .D in
+      let fits = subst (λ (f : Formula). exceeds f D (g .variables) ≡ false) (it .3) (ready .fits) in
+      record {
+        chain = ready .chain;
+        fixed = ready .fixed;
+        few = ready .few;
+        first = it .0;
+        second = it .1;
+        middle = it .2;
+        end = ready .end;
+        stands = it .4;
+        follows = it .5;
+        ranged = subst (λ (f : Formula). Ranged (g .variables) f) (it .3) (ready .ranged);
+        fits = or-left (exceeds (it .0) D (g .variables)) (exceeds (it .1) D (g .variables)) fits;
+        fits′ = or-right (exceeds (it .0) D (g .variables)) (exceeds (it .1) D (g .variables)) fits;
+        room = subst (λ (f : Formula). need f * g .tuples ≤ length w) (it .3) (ready .room);
+      }
+
+  pub compare-ready : (r : Spelled.Relation) → nodeAt nodes at ≡ Compare r → ExpressionsReady nodes g masks rows (at + 1) w
+  unfolding need
+  compare-ready r e =
+      let it = formula-case nodes at (Compare r) e (ready .stands) in
+      let small = sides-small (it .0) (it .1) (it .2) (ready .chain .D) (g .variables)
+      (subst (λ (f : Formula). exceeds f (ready .chain .D) (g .variables) ≡ false) (it .4) (ready .fits)) in
+      record {
+        chain = ready .chain;
+        fixed = ready .fixed;
+        few = ready .few;
+        first = it .1;
+        second = it .2;
+        middle = it .3;
+        end = ready .end;
+        stands = it .6;
+        follows = it .7;
+        ranged = subst (λ (f : Formula). Ranged (g .variables) f) (it .4) (ready .ranged);
+        fits = small .0;
+        fits′ = small .1;
+        room = subst (λ (f : Formula). need f * g .tuples ≤ length w) (it .4) (ready .room);
+      }
+
+  -- what comparing asks, of the layers and the denominators of the two expressions
+  pub comparing-ready : (r : Spelled.Relation) → nodeAt nodes at ≡ Compare r → {mid : List ℕ} {two : ValuedTwo} →
+      ExpressionsDone nodes g masks rows (at + 1) mid two → length mid ≡ length w → (x : Compared.Relation) → relationOf x ≡ unspelled r →
+      CompareFits (two .first) (two .second) (g .tuples) mid
+  unfolding need
+  comparing-ready r e {mid} {two} done long x spelled =
+      let it = formula-case nodes at (Compare r) e (ready .stands) in
+      let c = ready .chain in
+      let n = g .variables in
+      let fits = subst (λ (f : Formula). exceeds f (c .D) n ≡ false) (it .4) (ready .fits) in
+      let small = sides-small (it .0) (it .1) (it .2) (c .D) n fits in
+      let h = done .each c (it .1) (it .2) (it .3) (ready .end) (ready .fixed) (it .6) (it .7) (small .0) (small .1) in
+      let fits′ = subst (λ (e : Relation). exceeds (compare e (it .1) (it .2)) (c .D) n ≡ false) (sym (relation-is x (it .0) spelled (it .5))) fits in
+      let room = room-of (g .tuples) (paired-two (needIn (it .1)) (needIn (it .2)) (needIn-some (it .1)) (needIn-some (it .2)))
+      (subst (λ (f : Formula). need f * g .tuples ≤ length w) (it .4) (ready .room)) in
+      let m = compare-fits c (ready .fixed .held .sound) (tuple-count (ready .fixed)) (it .1) (it .2) (small .0) (small .1) (h .3) (h .4) x fits′ (omega arith) in
+      subst (λ (d : ℕ). CompareFits d (two .second) (g .tuples) mid) (sym (h .1))
+      (subst (λ (d : ℕ). CompareFits (size (it .1) (c .D) n .d) d (g .tuples) mid) (sym (h .2)) m)
+
+-- ---- what is left, by the node at the place
+module _ {nodes : List Slot} {g : Setting} {masks : List ℕ} {rows : List (List ℕ)} {at : ℕ} where
+  -- by the case of the node
+  formula-done : {after : List ℕ} {r : ℕ} (n : Node) → nodeAt nodes at ≡ n →
+      ((c : Chain) (f : Formula) (q : ℕ) → Fixed c masks rows g → FormulaCase nodes at n f q → exceeds f (c .D) (g .variables) ≡ false →
+      (r ≡ q) × Layer (c .N) (g .variables) (truth (λ t. holds f c (g .variables) t)) after) → FormulaDone nodes g masks rows at after r
+  formula-done n e h = record { each = λ c f q fixed stands fits. h c f q fixed (formula-case nodes at n e stands) fits }
+
+  pub true-done : nodeAt nodes at ≡ True → {before after : List ℕ} → Written (g .tuples) (λ k. 1) before after → FormulaDone nodes g masks rows at after (at + 1)
+  unfolding holds
+  true-done e {after = after} written = formula-done True e
+      (λ c f q fixed it fits.
+      (sym (it .1), subst (λ (f : Formula). Layer (c .N) (g .variables) (truth (λ t. holds f c (g .variables) t)) after) (sym (it .0)) (always-layer (tuple-count fixed) written)))
+
+  pub label-done : (l i : ℕ) → nodeAt nodes at ≡ Label l i → {after : List ℕ} → LabelDone g masks l i after → FormulaDone nodes g masks rows at after (at + 1)
+  unfolding holds
+  label-done l i e {after} done = formula-done (Label l i) e
+      (λ c f q fixed it fits. (
+        sym (it .1),
+        subst (λ (f : Formula). Layer (c .N) (g .variables) (truth (λ t. holds f c (g .variables) t)) after) (sym (it .0))
+            (to-chain fixed (done .each c (fixed .labels l))),
+      ))
+
+  pub not-done : nodeAt nodes at ≡ Not → {mid after : List ℕ} {r : ℕ} → FormulaDone nodes g masks rows (at + 1) mid r →
+      Written (g .tuples) (negatedAt mid) mid after → FormulaDone nodes g masks rows at after r
+  unfolding holds exceeds
+  not-done e {after = after} done written = formula-done Not e
+      (λ c f q fixed it fits.
+      let n = g .variables in
+      let h = done .each c (it .0) q fixed (it .2) (subst (λ (f : Formula). exceeds f (c .D) n ≡ false) (it .1) fits) in (
+        h .0,
+        subst (λ (f : Formula). Layer (c .N) n (truth (λ t. holds f c n t)) after) (sym (it .1))
+            (negated-layer (tuple-count fixed) (λ t. holds (it .0) c n t) (h .1) written),
+      ))
+
+  pub and-done : nodeAt nodes at ≡ And → {mid after : List ℕ} {r : ℕ} → FormulasDone nodes g masks rows (at + 1) mid r →
+      Written (g .tuples) (bothAt (g .tuples) mid) mid after → FormulaDone nodes g masks rows at after r
+  unfolding holds exceeds
+  and-done e {after = after} done written = formula-done And e
+      (λ c f q fixed it fits.
+      let n = g .variables in
+      let small = subst (λ (f : Formula). exceeds f (c .D) n ≡ false) (it .3) fits in
+      let h = done .each c (it .0) (it .1) (it .2) q fixed (it .4) (it .5) (or-left (exceeds (it .0) (c .D) n) (exceeds (it .1) (c .D) n) small)
+      (or-right (exceeds (it .0) (c .D) n) (exceeds (it .1) (c .D) n) small) in (
+        h .0,
+        subst (λ (f : Formula). Layer (c .N) n (truth (λ t. holds f c n t)) after) (sym (it .3))
+            (both-layer (tuple-count fixed) (λ t. holds (it .0) c n t) (λ t. holds (it .1) c n t) (h .1) (h .2) written),
+      ))
+
+  pub compare-done : (r : Spelled.Relation) → nodeAt nodes at ≡ Compare r → {mid after : List ℕ} {two : ValuedTwo} → ExpressionsDone nodes g masks rows (at + 1) mid two →
+      (x : Compared.Relation) → relationOf x ≡ unspelled r →
+      Written (g .tuples) (comparedAt x (two .first) (two .second) (g .tuples) mid) mid after → FormulaDone nodes g masks rows at after (two .next)
+  compare-done r e {mid} {after} {two} done x spelled written = formula-done (Compare r) e
+      (λ c f q fixed it fits.
+      let n = g .variables in
+      let small = sides-small (it .0) (it .1) (it .2) (c .D) n (subst (λ (f : Formula). exceeds f (c .D) n ≡ false) (it .4) fits) in
+      let h = done .each c (it .1) (it .2) (it .3) q fixed (it .6) (it .7) (small .0) (small .1) in
+      let w₁ = subst (λ (d : ℕ). Written (g .tuples) (comparedAt x d (two .second) (g .tuples) mid) mid after) (h .1) written in
+      let w₂ = subst (λ (d : ℕ). Written (g .tuples) (comparedAt x (size (it .1) (c .D) n .d) d (g .tuples) mid) mid after) (h .2) w₁ in
+      let is : compare (relationOf x) (it .1) (it .2) ≡ f = ap (λ (e : Relation). compare e (it .1) (it .2)) (relation-is x (it .0) spelled (it .5)) ∙ sym (it .4) in (
+        h .0,
+        subst (λ (f : Formula). Layer (c .N) n (truth (λ t. holds f c n t)) after) is
+            (compare-layer c (fixed .held .sound) (tuple-count fixed) (it .1) (it .2) (small .0) (small .1) (h .3) (h .4) x w₂),
+      ))
+
+  -- no state formula stands at a node of another kind
+  pub no-formula : (n : Node) → nodeAt nodes at ≡ n → ((f : Formula) (q : ℕ) → FormulaCase nodes at n f q → ⊥) → {after : List ℕ} {r : ℕ} → FormulaDone nodes g masks rows at after r
+  no-formula n e none = formula-done n e (λ c f q fixed it fits. absurd (none f q it))

@@ -1,0 +1,211 @@
+-- A path's node: what its formulas are evaluated with, and what the layer and the denominator are after the call at the
+-- node.
+use Prim.Native.Nat.{ℕ, suc, _+_, _-_, _*_, _^_, _≤_, _<_, max}
+use mathlib.Core.Bool.{Bool, false, _||_}
+use mathlib.Core.List.{List}
+use mathlib.Core.Path.{_≡_, refl, sym, ap, subst, _∙_}
+use native.Mathlib.Nat.{le-trans, le-of-eq, mul-le-mul, one-mul, mul-one}
+use native.Mathlib.Omega.{arith}
+use lib.ListN.{length, getD, drop}
+use lib.Seq.{getD-drop}
+use Rattle.sentence.specs.declared.Slot.{Slot}
+use Rattle.sentence.specs.declared.Node.{Node}
+use Rattle.sentence.specs.declared.Node.the-variants.{Next, Until}
+use Rattle.meaning.specs.Chain.{Chain, Tuple}
+use Rattle.meaning.specs.Tree.{Formula, PathFormula, next, until}
+use Rattle.meaning.specs.Meaning.{holds, numerator, denominator}
+use Rattle.meaning.specs.Size.{exceeds, exceedsFrom}
+use Rattle.meaning.proofs.Tests.{or-left, or-right}
+use Rattle.layers.specs.Layers.{Layer, truth}
+use Rattle.layers.specs.Steps.{StepFits, Stepped}
+use Rattle.layers.specs.Untils.{UntilFits, UntilTaken}
+use Rattle.layers.proofs.Paths.{truth-small, next-layer, until-layer}
+use Rattle.trees.specs.Need.{paired, need, needFrom}
+use Rattle.trees.specs.Ranged.{Ranged, RangedFrom}
+use Rattle.trees.specs.Standing.{nodeAt, FormulaAt, PathAt}
+use Rattle.trees.proofs.Cases.{PathCase, path-case, path-place}
+use Rattle.evaluate.specs.declared.Setting.{Setting}
+use Rattle.evaluate.specs.declared.Valued.{Valued}
+use Rattle.evaluate.specs.Evaluation.{Fixed, FormulaReady, FormulasReady, PathReady, FormulaDone, FormulasDone, PathDone}
+use Rattle.evaluate.proofs.Needing.{needFrom-some, room-of}
+use Rattle.evaluate.proofs.Fixing.{to-chain, to-setting, tuple-count}
+
+module _ {nodes : List Slot} {g : Setting} {masks : List ℕ} {rows : List (List ℕ)} {at : ℕ} {w : List ℕ}
+    (ready : PathReady nodes g masks rows at w) where
+  pub path-inside : at < 64
+  path-inside = path-place nodes at (ready .stands)
+
+  pub path-room : g .tuples ≤ length w
+  path-room =
+      let p = room-of (g .tuples) (needFrom-some (ready .path)) (ready .room) in
+      omega arith
+
+  -- the chain's D is the setting's, so the path's denominator is at most 2^62 by it
+  setting-small : (p : PathFormula) → ready .path ≡ p → denominator p (g .d) (g .variables) ≤ 2 ^ 62
+  setting-small p e =
+      le-trans (le-of-eq (ap (λ (D : ℕ). denominator p D (g .variables)) (sym (ready .fixed .sums))))
+      (subst (λ (p : PathFormula). denominator p (ready .chain .D) (g .variables) ≤ 2 ^ 62) e (ready .small))
+
+  module _ (e : nodeAt nodes at ≡ Next) where
+    pub next-ready : FormulaReady nodes g masks rows (at + 1) w
+    unfolding exceedsFrom needFrom
+    next-ready =
+        let it = path-case nodes at Next e (ready .stands) in
+        record {
+          chain = ready .chain;
+          fixed = ready .fixed;
+          few = ready .few;
+          formula = it .0;
+          end = ready .end;
+          stands = it .2;
+          ranged = subst (λ (p : PathFormula). RangedFrom (g .variables) p) (it .1) (ready .ranged);
+          fits = subst (λ (p : PathFormula). exceedsFrom p (ready .chain .D) (g .variables) ≡ false) (it .1) (ready .fits);
+          room = subst (λ (p : PathFormula). needFrom p * g .tuples ≤ length w) (it .1) (ready .room);
+        }
+
+    -- the denominator's factors
+    pub next-scales : (1 ≤ g .d) × (1 * g .d ^ g .variables ≤ 2 ^ 62)
+    unfolding denominator
+    next-scales =
+        let it = path-case nodes at Next e (ready .stands) in
+        (ready .fixed .weighed, le-trans (le-of-eq (one-mul (g .d ^ g .variables))) (setting-small (next (it .0)) (it .1)))
+
+    -- what a joint step asks of the formula's layer
+    pub stepping-ready : {mid : List ℕ} {r : ℕ} → FormulaDone nodes g masks rows (at + 1) mid r → length mid ≡ length w →
+        StepFits rows (g .states) (g .variables) (g .tuples) mid
+    unfolding denominator next-ready
+    stepping-ready {mid} done long =
+        let c = ready .chain in
+        let n = g .variables in
+        let it = path-case nodes at Next e (ready .stands) in
+        let under = next-ready in
+        let h = done .each c (under .formula) (under .end) (under .fixed) (under .stands) (under .fits) in
+        let count = tuple-count (ready .fixed) in
+        let sums = ready .fixed .sums in
+        let weighed = ready .fixed .weighed in
+        let room = path-room in
+        record {
+          chain = c;
+          holds = ready .fixed .held;
+          weighed = omega arith;
+          sizes = ready .fixed .sizes;
+          room = omega arith;
+          bound = 1;
+          small = λ k l. truth-small (λ t. holds (under .formula) c n t) (h .1) k (omega arith);
+          fits = le-trans (le-of-eq (mul-one (c .D ^ n))) (subst (λ (p : PathFormula). denominator p (c .D) n ≤ 2 ^ 62) (it .1) (ready .small));
+        }
+
+  module _ (k1 k2 : ℕ) (e : nodeAt nodes at ≡ Until k1 k2) where
+    pub until-ready : FormulasReady nodes g masks rows (at + 1) w
+    unfolding exceedsFrom needFrom
+    until-ready =
+        let it = path-case nodes at (Until k1 k2) e (ready .stands) in
+        let D = ready .chain .D in
+        let n = g .variables in
+        let fits = subst (λ (p : PathFormula). exceedsFrom p D n ≡ false) (it .3) (ready .fits) in
+        let room = subst (λ (p : PathFormula). needFrom p * g .tuples ≤ length w) (it .3) (ready .room) in
+        record {
+          chain = ready .chain;
+          fixed = ready .fixed;
+          few = ready .few;
+          first = it .0;
+          second = it .1;
+          middle = it .2;
+          end = ready .end;
+          stands = it .4;
+          follows = it .5;
+          ranged = subst (λ (p : PathFormula). RangedFrom n p) (it .3) (ready .ranged) .2;
+          fits = or-left (exceeds (it .0) D n) (exceeds (it .1) D n) fits;
+          fits′ = or-right (exceeds (it .0) D n) (exceeds (it .1) D n) fits;
+          room = room-of {k = paired (need (it .0)) (need (it .1))} {m = max 3 (paired (need (it .0)) (need (it .1)))} (g .tuples) (omega arith) room;
+        }
+
+    -- the window's ends
+    window : (k1 ≤ k2) × (k2 ≤ 60)
+    window =
+        let it = path-case nodes at (Until k1 k2) e (ready .stands) in
+        let range = subst (λ (p : PathFormula). RangedFrom (g .variables) p) (it .3) (ready .ranged) in
+        (range .0, range .1)
+
+    pub until-times : g .variables * k2 ≤ 240
+    until-times = mul-le-mul (ready .few) (window .1)
+
+    pub until-scales : (1 ≤ g .d) × (1 * g .d ^ (g .variables * k2) ≤ 2 ^ 62)
+    unfolding denominator
+    until-scales =
+        let it = path-case nodes at (Until k1 k2) e (ready .stands) in
+        (ready .fixed .weighed, le-trans (le-of-eq (one-mul (g .d ^ (g .variables * k2)))) (setting-small (until k1 k2 (it .0) (it .1)) (it .3)))
+
+    -- room for a third layer
+    three-room : g .tuples + g .tuples + g .tuples ≤ length w
+    unfolding needFrom
+    three-room =
+        let it = path-case nodes at (Until k1 k2) e (ready .stands) in
+        let room = subst (λ (p : PathFormula). needFrom p * g .tuples ≤ length w) (it .3) (ready .room) in
+        let p = room-of {k = 3} {m = max 3 (paired (need (it .0)) (need (it .1)))} (g .tuples) (omega arith) room in
+        omega arith
+
+    -- what an until asks of the two layers
+    pub taking-ready : {mid : List ℕ} {r : ℕ} → FormulasDone nodes g masks rows (at + 1) mid r → length mid ≡ length w →
+        UntilFits rows (g .states) (g .variables) (g .tuples) (g .d) k1 k2 mid
+    unfolding until-ready
+    taking-ready {mid} done long =
+        let c = ready .chain in
+        let n = g .variables in
+        let u = until-ready in
+        let h = done .each c (u .first) (u .second) (u .middle) (u .end) (u .fixed) (u .stands) (u .follows) (u .fits) (u .fits′) in
+        let count = tuple-count (ready .fixed) in
+        let room = three-room in
+        record {
+          chain = c;
+          holds = ready .fixed .held;
+          weighed = ready .fixed .weighed;
+          sum = ready .fixed .sums;
+          sizes = ready .fixed .sizes;
+          room = omega arith;
+          ones = λ k l. le-trans (le-of-eq (sym (getD-drop (g .tuples) mid k 0))) (truth-small (λ t. holds (u .second) c n t) (h .2) k (omega arith));
+          window = window .0;
+          fits = le-trans (le-of-eq (sym (one-mul (g .d ^ (n * k2))))) (until-scales .1);
+        }
+
+-- ---- what is left, by the node at the place
+module _ {nodes : List Slot} {g : Setting} {masks : List ℕ} {rows : List (List ℕ)} {at : ℕ} where
+  path-done : {after : List ℕ} {r : Valued} (n : Node) → nodeAt nodes at ≡ n →
+      ((c : Chain) (p : PathFormula) (q : ℕ) → Fixed c masks rows g → PathCase nodes at n p q → exceedsFrom p (c .D) (g .variables) ≡ false →
+      (r .next ≡ q) × (r .bottom ≡ denominator p (c .D) (g .variables)) × Layer (c .N) (g .variables) (numerator p c (g .variables)) after) →
+      PathDone nodes g masks rows at after r
+  path-done n e h = record { each = λ c p q fixed stands fits. h c p q fixed (path-case nodes at n e stands) fits }
+
+  pub next-done : nodeAt nodes at ≡ Next → {mid after : List ℕ} {r b : ℕ} → FormulaDone nodes g masks rows (at + 1) mid r →
+      Stepped rows (g .states) (g .variables) (g .tuples) mid after → b ≡ 1 * g .d ^ g .variables →
+      PathDone nodes g masks rows at after (record { next = r; bottom = b })
+  unfolding exceedsFrom denominator
+  next-done e {after = after} done stepped scaled = path-done Next e
+      (λ c p q fixed it fits.
+      let n = g .variables in
+      let h = done .each c (it .0) q fixed (it .2) (subst (λ (p : PathFormula). exceedsFrom p (c .D) n ≡ false) (it .1) fits) in (
+        h .0,
+        scaled ∙ one-mul (g .d ^ n) ∙ ap (λ (D : ℕ). D ^ n) (sym (fixed .sums)) ∙ ap (λ (p : PathFormula). denominator p (c .D) n) (sym (it .1)),
+        subst (λ (p : PathFormula). Layer (c .N) n (numerator p c n) after) (sym (it .1))
+            (to-chain fixed (next-layer (fixed .held) (it .0) (to-setting fixed (h .1)) stepped)),
+      ))
+
+  pub until-done : (k1 k2 : ℕ) → nodeAt nodes at ≡ Until k1 k2 → {mid after : List ℕ} {r b : ℕ} → FormulasDone nodes g masks rows (at + 1) mid r →
+      UntilTaken rows (g .states) (g .variables) (g .tuples) (g .d) k1 k2 mid after → b ≡ 1 * g .d ^ (g .variables * k2) →
+      PathDone nodes g masks rows at after (record { next = r; bottom = b })
+  unfolding exceedsFrom denominator
+  until-done k1 k2 e {after = after} done taken scaled = path-done (Until k1 k2) e
+      (λ c p q fixed it fits.
+      let n = g .variables in
+      let small = subst (λ (p : PathFormula). exceedsFrom p (c .D) n ≡ false) (it .3) fits in
+      let h = done .each c (it .0) (it .1) (it .2) q fixed (it .4) (it .5) (or-left (exceeds (it .0) (c .D) n) (exceeds (it .1) (c .D) n) small)
+      (or-right (exceeds (it .0) (c .D) n) (exceeds (it .1) (c .D) n) small) in (
+        h .0,
+        scaled ∙ one-mul (g .d ^ (n * k2)) ∙ ap (λ (D : ℕ). D ^ (n * k2)) (sym (fixed .sums)) ∙ ap (λ (p : PathFormula). denominator p (c .D) n) (sym (it .3)),
+        subst (λ (p : PathFormula). Layer (c .N) n (numerator p c n) after) (sym (it .3))
+            (to-chain fixed (until-layer (fixed .held) (it .0) (to-setting fixed (h .1)) (it .1) (to-setting fixed (h .2)) (fixed .sums) taken)),
+      ))
+
+  -- no path stands at a node of another kind
+  pub no-path : (n : Node) → nodeAt nodes at ≡ n → ((p : PathFormula) (q : ℕ) → PathCase nodes at n p q → ⊥) → {after : List ℕ} {r : Valued} → PathDone nodes g masks rows at after r
+  no-path n e none = path-done n e (λ c p q fixed it fits. absurd (none p q it))

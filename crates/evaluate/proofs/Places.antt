@@ -1,0 +1,45 @@
+-- Places and lengths in a walk over the nodes: a node is counted three times, so that the functions for two operands and
+-- for an operation on them stand between a node and the next; and a layer that has room keeps it over a call.
+use Prim.Native.Nat.{ℕ, _+_, _-_, _*_, _^_, _≤_, _<_}
+use mathlib.Core.Path.{_≡_}
+use native.Mathlib.Omega.{arith}
+use mir.Syntax.{w64}
+use mir.Val.{Fits}
+
+-- from a node to the place after it
+module _ (at t : ℕ) (inside : at < 64) (measure : 3 * (64 - at) ≡ t) where
+  pub to-operand : 3 * (64 - (at + 1)) < t
+  to-operand = omega arith
+
+  pub to-operands : 3 * (64 - (at + 1)) + 1 < t
+  to-operands = omega arith
+
+  pub to-operation : 3 * (64 - (at + 1)) + 2 < t
+  to-operation = omega arith
+
+-- from two operands to each
+pub to-each : (at next t : ℕ) → 3 * (64 - at) + 1 ≡ t → at ≤ next → 3 * (64 - next) < t
+to-each at next t measure forward = omega arith
+
+-- a place is at most 64, and counts in a number
+pub place-most : (at : ℕ) → at < 64 → at ≤ 64
+place-most at h = omega arith
+
+pub next-fits : (at : ℕ) → at < 64 → Fits w64 (at + 1)
+next-fits at h = record { fits = omega arith }
+
+pub place-fits : (at : ℕ) → at < 64 → Fits w64 (at * 12)
+place-fits at h = record { fits = omega arith }
+
+pub small-fits : (x : ℕ) → x ≤ 2 ^ 62 → Fits w64 x
+small-fits x h = record { fits = omega arith }
+
+pub times-fit : (x : ℕ) → x ≤ 240 → Fits w64 x
+times-fit x h = record { fits = omega arith }
+
+-- room stays over a call, which leaves as many numbers
+pub room-kept : {k long before : ℕ} → k ≤ before → long ≡ before → k ≤ long
+room-kept h same = omega arith
+
+pub front-kept : (T : ℕ) {long before : ℕ} → T + T ≤ before → long ≡ before → T ≤ long
+front-kept T h same = omega arith

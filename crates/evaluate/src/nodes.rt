@@ -1,0 +1,256 @@
+// The nodes of a sentence, evaluated: three functions for the three kinds, which call each other with the node count
+// falling. Each evaluates the node at a place, with its own nodes, into the front layer of the work area, and answers the
+// place after them.
+ghost use Rattle.evaluate.specs.Evaluation.{FormulaReady, ExpressionReady, PathReady, FormulasReady, ExpressionsReady, CombinedReady};
+ghost use Rattle.evaluate.specs.Evaluation.{FormulaDone, ExpressionDone, PathDone, FormulasDone, ExpressionsDone, CombinedDone};
+use crate::Setting;
+use crate::Valued;
+use crate::ValuedTwo;
+use crate::plain::label;
+use crate::plain::relation_of;
+use crate::plain::swap;
+use crate::survey::survey;
+use fractions::Operation;
+use fractions::codes::combine;
+use fractions::codes::compare;
+use fractions::codes::constant;
+use layers::plain::always;
+use layers::plain::both;
+use layers::plain::negated;
+use layers::step::joint_step;
+use layers::until::scaled;
+use layers::until::until;
+use sentence::Node;
+use sentence::Slot;
+
+// A state formula: its truth at all tuples.
+pub fn state_formula(
+    nodes: [Slot; 64],
+    g: Setting,
+    masks: &[u16; 32],
+    rows: &[[u16; 32]; 32],
+    at: usize,
+    work: &mut [u64],
+) -> usize
+    requires { ⌜ FormulaReady nodes g (now masks) (now rows) at (now work) ⌝ }
+    ensures { λ r. ⌜ FormulaDone nodes g (now (masks .entry)) (now (rows .entry)) at (now (work .exit)) r ⌝ }
+{
+    let slot = nodes[at];
+    let node = slot.node;
+    match node {
+        Node::True => {
+            always(g.tuples, work);
+            at + 1
+        }
+        Node::Label { label: l, variable } => {
+            label(g, masks, l, variable, work);
+            at + 1
+        }
+        Node::Not => {
+            let next = state_formula(nodes, g, masks, rows, at + 1, work);
+            negated(g.tuples, work);
+            next
+        }
+        Node::And => {
+            let next = two_formulas(nodes, g, masks, rows, at + 1, work);
+            both(g.tuples, work);
+            next
+        }
+        Node::Compare(relation) => {
+            let two = two_expressions(nodes, g, masks, rows, at + 1, work);
+            compare(relation_of(relation), two.first, two.second, g.tuples, work);
+            two.next
+        }
+        Node::Probability => at,
+        Node::Constant { top: _, bottom: _ } => at,
+        Node::Sum => at,
+        Node::Difference => at,
+        Node::Product => at,
+        Node::Next => at,
+        Node::Until { from: _, to: _ } => at,
+    }
+}
+
+// Two state formulas, the one that needs more layers first; the first one's truth in the front layer, the other's in the
+// next.
+fn two_formulas(
+    nodes: [Slot; 64],
+    g: Setting,
+    masks: &[u16; 32],
+    rows: &[[u16; 32]; 32],
+    at: usize,
+    work: &mut [u64],
+) -> usize
+    requires { ⌜ FormulasReady nodes g (now masks) (now rows) at (now work) ⌝ }
+    ensures { λ r. ⌜ FormulasDone nodes g (now (masks .entry)) (now (rows .entry)) at (now (work .exit)) r ⌝ }
+{
+    let tuples = g.tuples;
+    let first = survey(nodes, at);
+    let second = survey(nodes, first.next);
+    if second.layers <= first.layers {
+        state_formula(nodes, g, masks, rows, at, work);
+        return state_formula(nodes, g, masks, rows, first.next, &mut work[tuples..]);
+    }
+    let next = state_formula(nodes, g, masks, rows, first.next, work);
+    state_formula(nodes, g, masks, rows, at, &mut work[tuples..]);
+    swap(tuples, work);
+    next
+}
+
+// An expression: the code of its numerator at all tuples, and its denominator.
+fn expression(
+    nodes: [Slot; 64],
+    g: Setting,
+    masks: &[u16; 32],
+    rows: &[[u16; 32]; 32],
+    at: usize,
+    work: &mut [u64],
+) -> Valued
+    requires { ⌜ ExpressionReady nodes g (now masks) (now rows) at (now work) ⌝ }
+    ensures { λ r. ⌜ ExpressionDone nodes g (now (masks .entry)) (now (rows .entry)) at (now (work .exit)) r ⌝ }
+{
+    let slot = nodes[at];
+    let node = slot.node;
+    match node {
+        Node::Probability => path(nodes, g, masks, rows, at + 1, work),
+        Node::Constant { top, bottom } => {
+            constant(top as u64, g.tuples, work);
+            Valued {
+                next: at + 1,
+                bottom: bottom as u64,
+            }
+        }
+        Node::Sum => combined(Operation::Sum, nodes, g, masks, rows, at + 1, work),
+        Node::Difference => combined(Operation::Difference, nodes, g, masks, rows, at + 1, work),
+        Node::Product => combined(Operation::Product, nodes, g, masks, rows, at + 1, work),
+        Node::True => nothing(at),
+        Node::Label {
+            label: _,
+            variable: _,
+        } => nothing(at),
+        Node::Not => nothing(at),
+        Node::And => nothing(at),
+        Node::Compare(_) => nothing(at),
+        Node::Next => nothing(at),
+        Node::Until { from: _, to: _ } => nothing(at),
+    }
+}
+
+// No expression stands here.
+fn nothing(at: usize) -> Valued {
+    Valued {
+        next: at,
+        bottom: 1,
+    }
+}
+
+// Two expressions and what an operation makes of them.
+fn combined(
+    op: Operation,
+    nodes: [Slot; 64],
+    g: Setting,
+    masks: &[u16; 32],
+    rows: &[[u16; 32]; 32],
+    at: usize,
+    work: &mut [u64],
+) -> Valued
+    requires { ⌜ CombinedReady op nodes g (now masks) (now rows) at (now work) ⌝ }
+    ensures { λ r. ⌜ CombinedDone op nodes g (now (masks .entry)) (now (rows .entry)) at (now (work .exit)) r ⌝ }
+{
+    let two = two_expressions(nodes, g, masks, rows, at, work);
+    combine(op, two.first, two.second, g.tuples, work);
+    Valued {
+        next: two.next,
+        bottom: two.first * two.second,
+    }
+}
+
+// Two expressions, the one that needs more layers first; the first one's codes in the front layer, the other's in the next.
+fn two_expressions(
+    nodes: [Slot; 64],
+    g: Setting,
+    masks: &[u16; 32],
+    rows: &[[u16; 32]; 32],
+    at: usize,
+    work: &mut [u64],
+) -> ValuedTwo
+    requires { ⌜ ExpressionsReady nodes g (now masks) (now rows) at (now work) ⌝ }
+    ensures { λ r. ⌜ ExpressionsDone nodes g (now (masks .entry)) (now (rows .entry)) at (now (work .exit)) r ⌝ }
+{
+    let tuples = g.tuples;
+    let first = survey(nodes, at);
+    let second = survey(nodes, first.next);
+    if second.layers <= first.layers {
+        let one = expression(nodes, g, masks, rows, at, work);
+        let other = expression(nodes, g, masks, rows, first.next, &mut work[tuples..]);
+        return ValuedTwo {
+            next: other.next,
+            first: one.bottom,
+            second: other.bottom,
+        };
+    }
+    let other = expression(nodes, g, masks, rows, first.next, work);
+    let one = expression(nodes, g, masks, rows, at, &mut work[tuples..]);
+    swap(tuples, work);
+    ValuedTwo {
+        next: other.next,
+        first: one.bottom,
+        second: other.bottom,
+    }
+}
+
+// A path: its numerator at all tuples, and its denominator.
+pub fn path(
+    nodes: [Slot; 64],
+    g: Setting,
+    masks: &[u16; 32],
+    rows: &[[u16; 32]; 32],
+    at: usize,
+    work: &mut [u64],
+) -> Valued
+    requires { ⌜ PathReady nodes g (now masks) (now rows) at (now work) ⌝ }
+    ensures { λ r. ⌜ PathDone nodes g (now (masks .entry)) (now (rows .entry)) at (now (work .exit)) r ⌝ }
+{
+    let slot = nodes[at];
+    let node = slot.node;
+    match node {
+        Node::Next => {
+            let next = state_formula(nodes, g, masks, rows, at + 1, work);
+            joint_step(rows, g.states, g.variables, g.tuples, work);
+            Valued {
+                next: next,
+                bottom: scaled(1, g.d, g.variables),
+            }
+        }
+        Node::Until { from, to } => {
+            let next = two_formulas(nodes, g, masks, rows, at + 1, work);
+            until(
+                rows,
+                g.states,
+                g.variables,
+                g.d,
+                from as usize,
+                to as usize,
+                g.tuples,
+                work,
+            );
+            Valued {
+                next: next,
+                bottom: scaled(1, g.d, g.variables * (to as usize)),
+            }
+        }
+        Node::True => nothing(at),
+        Node::Label {
+            label: _,
+            variable: _,
+        } => nothing(at),
+        Node::Not => nothing(at),
+        Node::And => nothing(at),
+        Node::Compare(_) => nothing(at),
+        Node::Probability => nothing(at),
+        Node::Constant { top: _, bottom: _ } => nothing(at),
+        Node::Sum => nothing(at),
+        Node::Difference => nothing(at),
+        Node::Product => nothing(at),
+    }
+}
