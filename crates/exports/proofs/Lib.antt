@@ -1,3 +1,4 @@
 -- The laws that the proofs of the exported calls share.
 pub mod Coded
 pub mod Unread
+pub mod Theorems

@@ -175,12 +175,12 @@ fn places_of(codes: [[u32; 3]; 64]) -> [Slot; 64]
 {
     let empty = Slot { node: Node::True };
     let mut nodes = [empty; 64];
-    for i in 0..64 {
-        let code = codes[i];
+    for place in 0..64 {
+        let code = codes[place];
         let slot = Slot {
             node: node_of_code(code),
         };
-        nodes[i] = slot;
+        nodes[place] = slot;
     }
     nodes
 }

@@ -13,10 +13,10 @@ use Rattle.exports.proofs.sentences.places_of.Statement.{statement}
 use Rattle.exports.proofs.sentences.places_of.Tie as tie
 
 abbrev Inv-loop : tie.InvT-loop
-Inv-loop codes nodes₀ i₀ nodes i = Filled 64 (λ i. slot (nodeOfCode (getD codes i []))) (slot True) i nodes
+Inv-loop codes nodes₀ place₀ nodes place = Filled 64 (λ i. slot (nodeOfCode (getD codes i []))) (slot True) place nodes
 
 abbrev μ-loop : tie.MeasureT-loop
-μ-loop codes nodes₀ i₀ nodes i = 64 - i
+μ-loop codes nodes₀ place₀ nodes place = 64 - place
 
 loop-holds : tie.Need-loop-holds Inv-loop μ-loop
 loop-holds c = filled-none refl
@@ -36,8 +36,8 @@ mul-nodes c = search needs
 array-set-from-nodes : tie.Need-array-set-from-nodes Inv-loop μ-loop
 array-set-from-nodes c = search needs
 
-add-i : tie.Need-add-i Inv-loop μ-loop
-add-i c = search needs
+add-place : tie.Need-add-place Inv-loop μ-loop
+add-place c = search needs
 
 loop-less : tie.Need-loop-less Inv-loop μ-loop
 loop-less c = search needs
@@ -60,7 +60,7 @@ places-of-spec =
     node-of-code-requires
     mul-nodes
     array-set-from-nodes
-    add-i
+    add-place
     loop-less
     loop-again
     returns)

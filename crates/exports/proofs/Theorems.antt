@@ -1,0 +1,91 @@
+-- What the exported contracts leave: one result and one content of all that is lent; and a node's code stands for that node.
+use Prim.Native.Nat.{ℕ, _≤_}
+use mathlib.Core.Bool.{Bool, cond}
+use mathlib.Core.List.{List}
+use mathlib.Core.Path.{_≡_, refl, sym, ap, ap₂, _∙_}
+use borrow.Author.Tests.{le-leb}
+use Rattle.counting.proofs.Laws.{and-true}
+use Rattle.refusal.specs.Answers.{unlessRefused}
+use Rattle.sentence.specs.Calls.{numberOf}
+use Rattle.sentence.specs.declared.Relation.the-variants.{Less, AtMost, Equal, AtLeast, Greater}
+use Rattle.sentence.specs.declared.Node.{Node}
+use Rattle.sentence.specs.declared.Node.the-variants.{True, Label, Not, And, Compare, Probability, Constant, Sum, Difference, Product, Next, Until}
+use Rattle.sentence.specs.declared.Sentence.{Sentence}
+use Rattle.sentence.specs.declared.SentenceRead.{SentenceRead}
+use Rattle.sentence.proofs.ReadAll.{one-answer}
+use Rattle.sentence.proofs.WriteAll.{one-writing}
+use Rattle.exports.specs.Records.{ReadsModel, WritesCoded}
+use Rattle.exports.specs.Sentences.{sentenceHead, letterCodes, codesOf, codeOfNode, ReadsSentence, unspelled, nodeOf, nodeOfCode, codeOfWritten, WritesSentence}
+
+-- ---- any two results that a contract allows are equal
+
+module _ {head masks h h′ m m′ : List ℕ} {rows w w′ : List (List ℕ)} {r r′ : ℕ} where
+  pub one-model-read : {file : List ℕ} → ReadsModel file head masks rows h m w r → ReadsModel file head masks rows h′ m′ w′ r′ →
+      (r ≡ r′) × (h ≡ h′) × (m ≡ m′) × (w ≡ w′)
+  one-model-read a b = (
+    a .answered ∙ sym (b .answered),
+    a .head-left ∙ sym (b .head-left),
+    a .masks-left ∙ sym (b .masks-left),
+    a .rows-left ∙ sym (b .rows-left),
+  )
+
+-- write model and merge
+pub one-coded : {n : ℕ} {text before after after′ : List ℕ} {r r′ : ℕ} → WritesCoded n text before after r →
+    WritesCoded n text before after′ r′ → (r ≡ r′) × (after ≡ after′)
+one-coded a b = (a .answered ∙ sym (b .answered), a .left ∙ sym (b .left))
+
+module _ {text head exists h h′ e e′ : List ℕ} {codes c c′ : List (List ℕ)} {r r′ : ℕ} where
+  pub one-sentence-read : ReadsSentence text head exists codes h e c r → ReadsSentence text head exists codes h′ e′ c′ r′ →
+      (r ≡ r′) × (h ≡ h′) × (e ≡ e′) × (c ≡ c′)
+  one-sentence-read a b =
+      let same : a .read ≡ b .read = one-answer (a .answer) (b .answer) in
+      let n : r ≡ r′ = a .answered ∙ ap (λ (x : SentenceRead). numberOf (x .outcome)) same ∙ sym (b .answered) in (
+        n,
+        a .head-left ∙ ap₂ (λ (k : ℕ) (x : SentenceRead). unlessRefused k (sentenceHead (x .sentence)) head) n same ∙ sym (b .head-left),
+        a .exists-left ∙ ap₂ (λ (k : ℕ) (x : SentenceRead). unlessRefused k (letterCodes (x .sentence .exists)) exists) n same ∙ sym (b .exists-left),
+        a .codes-left ∙ ap₂ (λ (k : ℕ) (x : SentenceRead). unlessRefused k (codesOf (x .sentence .nodes)) codes) n same ∙ sym (b .codes-left),
+      )
+
+pub one-sentence-written : {s : Sentence} {before after after′ : List ℕ} {r r′ : ℕ} → WritesSentence s before after r →
+    WritesSentence s before after′ r′ → (r ≡ r′) × (after ≡ after′)
+one-sentence-written a b =
+    let same = one-writing (a .answer) (b .answer) in
+    (a .answered ∙ ap codeOfWritten (same .0) ∙ sym (b .answered), same .1)
+
+-- ---- the writer takes what the reader leaves
+
+-- a label and a variable are bytes
+abbrev pub Bytes : Node → Type 0
+Bytes True = Unit
+Bytes (Label label variable) = (label ≤ 255) × (variable ≤ 255)
+Bytes Not = Unit
+Bytes And = Unit
+Bytes (Compare relation) = Unit
+Bytes Probability = Unit
+Bytes (Constant top bottom) = Unit
+Bytes Sum = Unit
+Bytes Difference = Unit
+Bytes Product = Unit
+Bytes Next = Unit
+Bytes (Until from to) = Unit
+
+-- the code of a node stands for that node
+pub node-back : (n : Node) → Bytes n → nodeOfCode (codeOfNode n) ≡ n
+unfolding nodeOf
+node-back True b = refl
+node-back (Label label variable) b =
+    ap (λ (t : Bool). cond t (Label label variable) unspelled) (and-true (le-leb label 255 (b .0)) (le-leb variable 255 (b .1)))
+node-back Not b = refl
+node-back And b = refl
+node-back (Compare Less) b = refl
+node-back (Compare AtMost) b = refl
+node-back (Compare Equal) b = refl
+node-back (Compare AtLeast) b = refl
+node-back (Compare Greater) b = refl
+node-back Probability b = refl
+node-back (Constant top bottom) b = refl
+node-back Sum b = refl
+node-back Difference b = refl
+node-back Product b = refl
+node-back Next b = refl
+node-back (Until from to) b = refl
