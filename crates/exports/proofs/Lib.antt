@@ -1,4 +1,5 @@
 -- The laws that the proofs of the exported calls share.
+pub mod Arms
 pub mod Coded
 pub mod Unread
 pub mod Theorems

@@ -1,21 +1,27 @@
 -- What the exported contracts leave: one result and one content of all that is lent; and a node's code stands for that node.
-use Prim.Native.Nat.{ℕ, _≤_}
-use mathlib.Core.Bool.{Bool, cond}
-use mathlib.Core.List.{List}
-use mathlib.Core.Path.{_≡_, refl, sym, ap, ap₂, _∙_}
+use Prim.Native.Nat.{ℕ, _≤_, _<_}
+use mathlib.Core.Bool.{Bool, true, false, not, cond}
+use mathlib.Core.List.{List, [], _∷_, _++_}
+use mathlib.Core.Path.{_≡_, refl, sym, ap, ap₂, subst, _∙_}
+use native.Mathlib.Omega.{arith}
+use lib.Dec.{eqb}
+use lib.ListN.{length, getD}
 use borrow.Author.Tests.{le-leb}
-use Rattle.counting.proofs.Laws.{and-true}
+use Rattle.counting.proofs.Laws.{and-true, table-at, table-is}
 use Rattle.refusal.specs.Answers.{unlessRefused}
-use Rattle.sentence.specs.Calls.{numberOf}
+use Rattle.sentence.specs.Calls.{numberOf, slot, nodesOf, WriteRow}
+use Rattle.sentence.specs.Grammar.{Writable}
+use Rattle.sentence.specs.Writing.{AllWritable}
+use Rattle.sentence.specs.declared.Slot.{Slot}
 use Rattle.sentence.specs.declared.Relation.the-variants.{Less, AtMost, Equal, AtLeast, Greater}
 use Rattle.sentence.specs.declared.Node.{Node}
 use Rattle.sentence.specs.declared.Node.the-variants.{True, Label, Not, And, Compare, Probability, Constant, Sum, Difference, Product, Next, Until}
 use Rattle.sentence.specs.declared.Sentence.{Sentence}
 use Rattle.sentence.specs.declared.SentenceRead.{SentenceRead}
 use Rattle.sentence.proofs.ReadAll.{one-answer}
-use Rattle.sentence.proofs.WriteAll.{one-writing}
+use Rattle.sentence.proofs.WriteAll.{all-writable, one-writing}
 use Rattle.exports.specs.Records.{ReadsModel, WritesCoded}
-use Rattle.exports.specs.Sentences.{sentenceHead, letterCodes, codesOf, codeOfNode, ReadsSentence, unspelled, nodeOf, nodeOfCode, codeOfWritten, WritesSentence}
+use Rattle.exports.specs.Sentences.{sentenceHead, letterCode, letterCodes, codesOf, codeOfNode, ReadsSentence, unspelled, nodeOf, nodeOfCode, placesOf, lettersOf, codeOfWritten, WritesSentence}
 
 -- ---- any two results that a contract allows are equal
 
@@ -89,3 +95,32 @@ node-back Difference b = refl
 node-back Product b = refl
 node-back Next b = refl
 node-back (Until from to) b = refl
+
+-- the codes of 64 places stand for those places
+pub places-back : (nodes : List Slot) → length nodes ≡ 64 → ((k : ℕ) → k < 64 → Bytes (getD nodes k (slot True) .node)) → placesOf (codesOf nodes) ≡ nodes
+places-back nodes long bytes =
+    sym (table-is 64 (λ i. slot (nodeOfCode (getD (codesOf nodes) i []))) (slot True) nodes long (λ k less.
+    sym (ap slot (node-back (getD nodes k (slot True) .node) (bytes k less))) ∙
+    ap (λ (c : List ℕ). slot (nodeOfCode c)) (sym (table-at 64 (λ i. codeOfNode (getD nodes i (slot True) .node)) [] k less))))
+
+letter-back : (b : Bool) → not (eqb (letterCode b) 0) ≡ b
+letter-back true = refl
+letter-back false = refl
+
+-- the codes of four letters stand for those letters
+pub letters-back : (exists : List Bool) → length exists ≡ 4 → lettersOf (letterCodes exists) ≡ exists
+letters-back exists long =
+    sym (table-is 4 (λ i. not (eqb (getD (letterCodes exists) i 0) 0)) false exists long (λ k less.
+    sym (letter-back (getD exists k false)) ∙
+    ap (λ (n : ℕ). not (eqb n 0)) (sym (table-at 4 (λ i. letterCode (getD exists i false)) 0 k less))))
+
+-- ---- a code that is no node's is refused as 6 where it counts
+
+inner-writable : (before after : List Node) (n : Node) → AllWritable (before ++ n ∷ after) → Writable n
+inner-writable [] after n h = h .0
+inner-writable (x ∷ before) after n h = inner-writable before after n (h .1)
+
+pub no-node-refused : (s : Sentence) (room : ℕ) (before after : List Node) → nodesOf s ≡ before ++ unspelled ∷ after → WriteRow s room 6
+no-node-refused s room before after e = WriteRow.unspelled (λ t p short.
+    let w = inner-writable before after unspelled (subst AllWritable e (all-writable (p .nests))) in
+    omega (arith, w .0))

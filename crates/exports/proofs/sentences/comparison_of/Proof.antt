@@ -1,10 +1,9 @@
 -- `exports::sentences::comparison_of` meets its contract: a number has its comparison, and none past the last.
 use borrow.Author.Needs.{needs}
-use Prim.Native.Nat.{_≤_}
 use mathlib.Core.Path.{sym, ap, _∙_}
-use native.Mathlib.Omega.{arith}
 use lib.ListN.{List·getD-eq-default}
 use Rattle.exports.specs.Sentences.{comparisons, comparisonOf, unspelled}
+use Rattle.exports.proofs.Arms.{past-arms}
 use Rattle.exports.proofs.sentences.comparison_of.Statement.{statement}
 use Rattle.exports.proofs.sentences.comparison_of.Tie as tie
 
@@ -28,7 +27,7 @@ returns-5 c = ap comparisonOf (sym (c .match .keys5))
 
 returns-6 : tie.Need-returns-6
 returns-6 c =
-    let past : 5 ≤ c .before .before .args .x = omega arith in
+    let past = past-arms 5 (c .before .before .args .x) (c .before .match .rest) in
     c .no-node .ensures ∙ sym (List·getD-eq-default comparisons unspelled past)
 
 pub comparison-of-spec : {M : Type 1} → statement M

@@ -1,10 +1,10 @@
 -- `exports::sentences::node_of` meets its contract: a tag has its node, and none past the last.
 use borrow.Author.Needs.{needs}
-use Prim.Native.Nat.{ℕ, _+_, _≤_}
+use Prim.Native.Nat.{ℕ}
 use mathlib.Core.Path.{_≡_, sym, ap, _∙_}
-use native.Mathlib.Omega.{arith}
 use lib.ListN.{List·getD-eq-default}
 use Rattle.exports.specs.Sentences.{nodesByTag, nodeOf, unspelled}
+use Rattle.exports.proofs.Arms.{past-arms}
 use Rattle.exports.proofs.sentences.node_of.Statement.{statement}
 use Rattle.exports.proofs.sentences.node_of.Tie as tie
 
@@ -16,10 +16,6 @@ comparison-of-requires c κs = search needs
 
 no-node-requires : tie.Need-no-node-requires
 no-node-requires c κs = search needs
-
--- a number that is at least k and not k
-next : {n : ℕ} (k : ℕ) → k ≤ n → (n ≡ k → ⊥) → k + 1 ≤ n
-next k least other = omega arith
 
 -- the node of a tag that is known
 tagged : {tag k : ℕ} (x y : ℕ) → tag ≡ k → nodeOf k x y ≡ nodeOf tag x y
@@ -77,8 +73,7 @@ returns-13 : tie.Need-returns-13
 unfolding nodeOf
 returns-13 c =
     let a = c .before .before .args in
-    let r = c .before .match .rest in
-    let past : 12 ≤ a .tag = next 11 (next 10 (next 9 (next 8 (next 7 (next 6 (next 5 (next 4 (next 3 (next 2 (next 1 (next 0 (omega arith) (r .0 .0 .0 .0 .0 .0 .0 .0 .0 .0 .0 .1)) (r .0 .0 .0 .0 .0 .0 .0 .0 .0 .0 .1)) (r .0 .0 .0 .0 .0 .0 .0 .0 .0 .1)) (r .0 .0 .0 .0 .0 .0 .0 .0 .1)) (r .0 .0 .0 .0 .0 .0 .0 .1)) (r .0 .0 .0 .0 .0 .0 .1)) (r .0 .0 .0 .0 .0 .1)) (r .0 .0 .0 .0 .1)) (r .0 .0 .0 .1)) (r .0 .0 .1)) (r .0 .1)) (r .1) in
+    let past = past-arms 12 (a .tag) (c .before .match .rest) in
     c .no-node .ensures ∙ sym (List·getD-eq-default (nodesByTag (a .x) (a .y)) unspelled past)
 
 pub node-of-spec : {M : Type 1} → statement M
