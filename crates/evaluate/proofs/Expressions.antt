@@ -1,21 +1,22 @@
 -- An expression's node: what its operands are evaluated with, and what the layer and the denominator are after the call
 -- at the node.
-use Prim.Native.Nat.{ℕ, suc, _+_, _-_, _*_, _^_, _≤_, _<_}
-use mathlib.Core.Bool.{Bool, false, _||_}
+use Prim.Native.Nat.{ℕ, _+_, _*_, _^_, _≤_, _<_}
+use mathlib.Core.Bool.{false}
 use mathlib.Core.List.{List}
 use mathlib.Core.Path.{_≡_, refl, sym, ap, ap₂, subst, _∙_}
 use native.Mathlib.Nat.{le-trans, le-of-eq}
 use native.Mathlib.Omega.{arith}
-use lib.ListN.{length, getD, drop}
+use lib.ListN.{length}
 use Rattle.sentence.specs.declared.Slot.{Slot}
 use Rattle.sentence.specs.declared.Node.{Node}
-use Rattle.sentence.specs.declared.Node.the-variants.{Probability, Constant, Sum as SumNode, Difference as DifferenceNode, Product as ProductNode}
-use Rattle.meaning.specs.Chain.{Chain, Tuple}
-use Rattle.meaning.specs.Tree.{Expression, probability, constant, sum, difference, product, PathFormula}
+use Rattle.sentence.specs.declared.Node.the-variants.{Probability, Constant, Sum as SumNode}
+use Rattle.sentence.specs.declared.Node.the-variants.{Difference as DifferenceNode, Product as ProductNode}
+use Rattle.meaning.specs.Chain.{Chain}
+use Rattle.meaning.specs.Tree.{Expression, probability, product}
 use Rattle.meaning.specs.Meaning.{denominator}
-use Rattle.meaning.specs.Size.{Size, size, addS, mulS, exceedsIn, exceedsFrom, largeSize}
+use Rattle.meaning.specs.Size.{size, addS, mulS, exceedsIn, exceedsFrom, largeSize}
 use Rattle.meaning.proofs.Bounds.{size-fits}
-use Rattle.meaning.proofs.Tests.{or-left, or-right}
+use Rattle.meaning.proofs.Tests.{or-left}
 use Rattle.layers.specs.Layers.{Layer, Written}
 use Rattle.fractions.specs.declared.Operation.{Operation}
 use Rattle.fractions.specs.declared.Operation.the-variants.{Sum, Difference, Product}
@@ -29,7 +30,7 @@ use Rattle.trees.proofs.Cases.{ExpressionCase, expression-case, expression-plac
 use Rattle.evaluate.specs.declared.Setting.{Setting}
 use Rattle.evaluate.specs.declared.Valued.{Valued}
 use Rattle.evaluate.specs.declared.ValuedTwo.{ValuedTwo}
-use Rattle.evaluate.specs.Evaluation.{Fixed, ExpressionReady, ExpressionsReady, PathReady, CombinedReady}
+use Rattle.evaluate.specs.Evaluation.{Fixed, ExpressionReady, PathReady, CombinedReady}
 use Rattle.evaluate.specs.Evaluation.{ExpressionDone, ExpressionsDone, PathDone, CombinedDone}
 use Rattle.evaluate.proofs.Needing.{needIn-some, room-of}
 use Rattle.evaluate.proofs.Fixing.{tuple-count}
@@ -44,12 +45,14 @@ operation-need Sum a b = refl
 operation-need Difference a b = refl
 operation-need Product a b = refl
 
-operation-ranged : (op : Operation) (n : ℕ) (a b : Expression) → RangedIn n (expressionOf op a b) → RangedIn n a × RangedIn n b
+operation-ranged : (op : Operation) (n : ℕ) (a b : Expression) → RangedIn n (expressionOf op a b) →
+    RangedIn n a × RangedIn n b
 operation-ranged Sum n a b h = h
 operation-ranged Difference n a b h = h
 operation-ranged Product n a b h = h
 
-operation-bottom : (op : Operation) (a b : Expression) (D n : ℕ) → size (expressionOf op a b) D n .d ≡ size a D n .d * size b D n .d
+operation-bottom : (op : Operation) (a b : Expression) (D n : ℕ) →
+    size (expressionOf op a b) D n .d ≡ size a D n .d * size b D n .d
 unfolding size addS mulS
 operation-bottom Sum a b D n = refl
 operation-bottom Difference a b D n = refl
@@ -58,7 +61,8 @@ operation-bottom Product a b D n = refl
 -- an operation's expression at a place, with its two operands after it
 abbrev pub OperationCase : List Slot → ℕ → Operation → Expression → ℕ → Type 0
 OperationCase nodes at op f q =
-    (a : Expression) × (b : Expression) × (m : ℕ) × (f ≡ expressionOf op a b) × ExpressionAt nodes (at + 1) a m × ExpressionAt nodes m b q
+    (a : Expression) × (b : Expression) × (m : ℕ) × (f ≡ expressionOf op a b) × ExpressionAt nodes (at + 1) a m ×
+    ExpressionAt nodes m b q
 
 -- ---- what the operands are evaluated with
 module _ {nodes : List Slot} {g : Setting} {masks : List ℕ} {rows : List (List ℕ)} {at : ℕ} {w : List ℕ}
@@ -92,7 +96,8 @@ module _ {nodes : List Slot} {g : Setting} {masks : List ℕ} {rows : List (List
         room = subst (λ (a : Expression). needIn a * g .tuples ≤ length w) (it .1) (ready .room);
       }
 
-  operation-ready : (op : Operation) → OperationCase nodes at op (ready .expression) (ready .end) → CombinedReady op nodes g masks rows (at + 1) w
+  operation-ready : (op : Operation) → OperationCase nodes at op (ready .expression) (ready .end) →
+      CombinedReady op nodes g masks rows (at + 1) w
   operation-ready op it =
       let D = ready .chain .D in
       let n = g .variables in
@@ -109,10 +114,12 @@ module _ {nodes : List Slot} {g : Setting} {masks : List ℕ} {rows : List (List
           end = ready .end;
           stands = it .4;
           follows = it .5;
-          ranged = operation-ranged op n (it .0) (it .1) (subst (λ (a : Expression). RangedIn n a) (it .3) (ready .ranged));
+          ranged = operation-ranged op n (it .0) (it .1)
+              (subst (λ (a : Expression). RangedIn n a) (it .3) (ready .ranged));
           fits = small .0;
           fits′ = small .1;
-          room = subst (λ (k : ℕ). k * g .tuples ≤ length w) (ap needIn (it .3) ∙ operation-need op (it .0) (it .1)) (ready .room);
+          room = subst (λ (k : ℕ). k * g .tuples ≤ length w) (ap needIn (it .3) ∙ operation-need op (it .0) (it .1))
+              (ready .room);
         };
         fits = fits;
       }
@@ -127,7 +134,8 @@ module _ {nodes : List Slot} {g : Setting} {masks : List ℕ} {rows : List (List
   product-ready e = operation-ready Product (expression-case nodes at ProductNode e (ready .stands))
 
 -- ---- two expressions and an operation on them
-module _ {op : Operation} {nodes : List Slot} {g : Setting} {masks : List ℕ} {rows : List (List ℕ)} {at : ℕ} {mid : List ℕ} {two : ValuedTwo}
+module _ {op : Operation} {nodes : List Slot} {g : Setting} {masks : List ℕ} {rows : List (List ℕ)} {at : ℕ}
+    {mid : List ℕ} {two : ValuedTwo}
     (done : ExpressionsDone nodes g masks rows at mid two) where
   -- what combining asks, and that the denominators' product fits
   pub combining-ready : {w : List ℕ} → CombinedReady op nodes g masks rows at w → length mid ≡ length w →
@@ -137,8 +145,10 @@ module _ {op : Operation} {nodes : List Slot} {g : Setting} {masks : List ℕ} {
       let c = r .chain in
       let n = g .variables in
       let room = expressions-room r in
-      let h = done .each c (r .first) (r .second) (r .middle) (r .end) (r .fixed) (r .stands) (r .follows) (r .fits) (r .fits′) in
-      let m = combine-fits c (r .fixed .held .sound) (tuple-count (r .fixed)) (r .first) (r .second) (r .fits) (r .fits′) (h .3) (h .4) op (ready .fits) (omega arith) in
+      let h = done .each c (r .first) (r .second) (r .middle) (r .end) (r .fixed) (r .stands) (r .follows) (r .fits)
+      (r .fits′) in
+      let m = combine-fits c (r .fixed .held .sound) (tuple-count (r .fixed)) (r .first) (r .second) (r .fits)
+      (r .fits′) (h .3) (h .4) op (ready .fits) (omega arith) in
       subst (λ (d : ℕ). CombineFits op d (two .second) (g .tuples) mid) (sym (h .1))
       (subst (λ (d : ℕ). CombineFits op (size (r .first) (c .D) n .d) d (g .tuples) mid) (sym (h .2)) m)
 
@@ -147,19 +157,23 @@ module _ {op : Operation} {nodes : List Slot} {g : Setting} {masks : List ℕ} {
       let r = ready .two in
       let c = r .chain in
       let n = g .variables in
-      let h = done .each c (r .first) (r .second) (r .middle) (r .end) (r .fixed) (r .stands) (r .follows) (r .fits) (r .fits′) in
+      let h = done .each c (r .first) (r .second) (r .middle) (r .end) (r .fixed) (r .stands) (r .follows) (r .fits)
+      (r .fits′) in
       le-trans (le-of-eq (ap₂ _*_ (h .1) (h .2) ∙ sym (operation-bottom op (r .first) (r .second) (c .D) n)))
       (size-fits (expressionOf op (r .first) (r .second)) (c .D) n (ready .fits) .0)
 
-  pub combined-done : {after : List ℕ} → Written (g .tuples) (combinedAt op (two .first) (two .second) (g .tuples) mid) mid after →
+  pub combined-done : {after : List ℕ} → Written (g .tuples) (combinedAt op (two .first) (two .second) (g .tuples) mid)
+      mid after →
       CombinedDone op nodes g masks rows at after (record { next = two .next; bottom = two .first * two .second })
   combined-done {after} written = record {
     each = λ c a b m q fixed p t fits.
         let n = g .variables in
         let small = operands-small op a b (c .D) n fits in
         let h = done .each c a b m q fixed p t (small .0) (small .1) in
-        let w₁ = subst (λ (d : ℕ). Written (g .tuples) (combinedAt op d (two .second) (g .tuples) mid) mid after) (h .1) written in
-        let w₂ = subst (λ (d : ℕ). Written (g .tuples) (combinedAt op (size a (c .D) n .d) d (g .tuples) mid) mid after) (h .2) w₁ in (
+        let w₁ = subst (λ (d : ℕ). Written (g .tuples) (combinedAt op d (two .second) (g .tuples) mid) mid after) (h .1)
+        written in
+        let w₂ = subst (λ (d : ℕ). Written (g .tuples) (combinedAt op (size a (c .D) n .d) d (g .tuples) mid) mid after)
+        (h .2) w₁ in (
           h .0,
           ap₂ _*_ (h .1) (h .2) ∙ sym (operation-bottom op a b (c .D) n),
           combine-layer c (fixed .held .sound) (tuple-count fixed) a b (small .0) (small .1) (h .3) (h .4) op w₂,
@@ -169,24 +183,33 @@ module _ {op : Operation} {nodes : List Slot} {g : Setting} {masks : List ℕ} {
 -- ---- what is left, by the node at the place
 module _ {nodes : List Slot} {g : Setting} {masks : List ℕ} {rows : List (List ℕ)} {at : ℕ} where
   expression-done : {after : List ℕ} {r : Valued} (n : Node) → nodeAt nodes at ≡ n →
-      ((c : Chain) (a : Expression) (q : ℕ) → Fixed c masks rows g → ExpressionCase nodes at n a q → exceedsIn a (c .D) (g .variables) ≡ false →
-      (r .next ≡ q) × (r .bottom ≡ size a (c .D) (g .variables) .d) × Layer (c .N) (g .variables) (numerators a c (g .variables)) after) →
+      ((c : Chain) (a : Expression) (q : ℕ) → Fixed c masks rows g → ExpressionCase nodes at n a q →
+      exceedsIn a (c .D) (g .variables) ≡ false →
+      (r .next ≡ q) × (r .bottom ≡ size a (c .D) (g .variables) .d) × Layer (c .N) (g .variables)
+      (numerators a c (g .variables)) after) →
       ExpressionDone nodes g masks rows at after r
-  expression-done n e h = record { each = λ c a q fixed stands fits. h c a q fixed (expression-case nodes at n e stands) fits }
+  expression-done n e h = record {
+    each = λ c a q fixed stands fits. h c a q fixed (expression-case nodes at n e stands)
+        fits;
+  }
 
-  pub probability-done : nodeAt nodes at ≡ Probability → {after : List ℕ} {r : Valued} → PathDone nodes g masks rows (at + 1) after r → ExpressionDone nodes g masks rows at after r
+  pub probability-done : nodeAt nodes at ≡ Probability → {after : List ℕ} {r : Valued} →
+      PathDone nodes g masks rows (at + 1) after r → ExpressionDone nodes g masks rows at after r
   unfolding exceedsIn size
   probability-done e {after} done = expression-done Probability e
       (λ c a q fixed it fits.
       let n = g .variables in
       let small = subst (λ (a : Expression). exceedsIn a (c .D) n ≡ false) (it .1) fits in
-      let h = done .each c (it .0) q fixed (it .2) (or-left (exceedsFrom (it .0) (c .D) n) (largeSize (size (probability (it .0)) (c .D) n)) small) in (
+      let h = done .each c (it .0) q fixed (it .2)
+      (or-left (exceedsFrom (it .0) (c .D) n) (largeSize (size (probability (it .0)) (c .D) n)) small) in (
         h .0,
         h .1 ∙ ap (λ (a : Expression). size a (c .D) n .d) (sym (it .1)),
-        subst (λ (a : Expression). Layer (c .N) n (numerators a c n) after) (sym (it .1)) (probability-layer (it .0) c (h .2)),
+        subst (λ (a : Expression). Layer (c .N) n (numerators a c n) after) (sym (it .1))
+            (probability-layer (it .0) c (h .2)),
       ))
 
-  pub constant-done : (a b : ℕ) → nodeAt nodes at ≡ Constant a b → {before after : List ℕ} → Written (g .tuples) (λ k. a) before after →
+  pub constant-done : (a b : ℕ) → nodeAt nodes at ≡ Constant a b → {before after : List ℕ} →
+      Written (g .tuples) (λ k. a) before after →
       ExpressionDone nodes g masks rows at after (record { next = at + 1; bottom = b })
   unfolding size
   constant-done x y e {after = after} written = expression-done (Constant x y) e
@@ -194,7 +217,8 @@ module _ {nodes : List Slot} {g : Setting} {masks : List ℕ} {rows : List (List
       let n = g .variables in (
         sym (it .1),
         ap (λ (a : Expression). size a (c .D) n .d) (sym (it .0)),
-        subst (λ (a : Expression). Layer (c .N) n (numerators a c n) after) (sym (it .0)) (constant-layer (tuple-count fixed) x y c written),
+        subst (λ (a : Expression). Layer (c .N) n (numerators a c n) after) (sym (it .0))
+            (constant-layer (tuple-count fixed) x y c written),
       ))
 
   operation-done : {after : List ℕ} {r : Valued} (op : Operation) (n : Node) → nodeAt nodes at ≡ n →
@@ -204,22 +228,28 @@ module _ {nodes : List Slot} {g : Setting} {masks : List ℕ} {rows : List (List
       (λ c a q fixed found fits.
       let n = g .variables in
       let it = case a q found in
-      let h = done .each c (it .0) (it .1) (it .2) q fixed (it .4) (it .5) (subst (λ (a : Expression). exceedsIn a (c .D) n ≡ false) (it .3) fits) in (
+      let h = done .each c (it .0) (it .1) (it .2) q fixed (it .4) (it .5)
+      (subst (λ (a : Expression). exceedsIn a (c .D) n ≡ false) (it .3) fits) in (
         h .0,
         h .1 ∙ ap (λ (a : Expression). size a (c .D) n .d) (sym (it .3)),
         subst (λ (a : Expression). Layer (c .N) n (numerators a c n) after) (sym (it .3)) (h .2),
       ))
 
   module _ {after : List ℕ} {r : Valued} where
-    pub sum-done : nodeAt nodes at ≡ SumNode → CombinedDone Sum nodes g masks rows (at + 1) after r → ExpressionDone nodes g masks rows at after r
+    pub sum-done : nodeAt nodes at ≡ SumNode → CombinedDone Sum nodes g masks rows (at + 1) after r →
+        ExpressionDone nodes g masks rows at after r
     sum-done e done = operation-done Sum SumNode e (λ a q it. it) done
 
-    pub difference-done : nodeAt nodes at ≡ DifferenceNode → CombinedDone Difference nodes g masks rows (at + 1) after r → ExpressionDone nodes g masks rows at after r
+    pub difference-done : nodeAt nodes at ≡ DifferenceNode →
+        CombinedDone Difference nodes g masks rows (at + 1) after r → ExpressionDone nodes g masks rows at after r
     difference-done e done = operation-done Difference DifferenceNode e (λ a q it. it) done
 
-    pub product-done : nodeAt nodes at ≡ ProductNode → CombinedDone Product nodes g masks rows (at + 1) after r → ExpressionDone nodes g masks rows at after r
+    pub product-done : nodeAt nodes at ≡ ProductNode → CombinedDone Product nodes g masks rows (at + 1) after r →
+        ExpressionDone nodes g masks rows at after r
     product-done e done = operation-done Product ProductNode e (λ a q it. it) done
 
   -- no expression stands at a node of another kind
-  pub no-expression : (n : Node) → nodeAt nodes at ≡ n → ((a : Expression) (q : ℕ) → ExpressionCase nodes at n a q → ⊥) → {after : List ℕ} {r : Valued} → ExpressionDone nodes g masks rows at after r
+  pub no-expression : (n : Node) → nodeAt nodes at ≡ n →
+      ((a : Expression) (q : ℕ) → ExpressionCase nodes at n a q → ⊥) → {after : List ℕ} {r : Valued} →
+      ExpressionDone nodes g masks rows at after r
   no-expression n e none = expression-done n e (λ c a q fixed it fits. absurd (none a q it))

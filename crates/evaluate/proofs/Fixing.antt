@@ -1,5 +1,5 @@
 -- What the setting gives: layers over the chain's states are layers over the setting's, and there are T tuples of them.
-use Prim.Native.Nat.{ℕ, _+_, _*_, _^_, _≤_, _<_}
+use Prim.Native.Nat.{ℕ, _^_}
 use mathlib.Core.List.{List}
 use mathlib.Core.Path.{_≡_, sym, ap, subst, _∙_}
 use Rattle.meaning.specs.Chain.{Chain, Tuple}

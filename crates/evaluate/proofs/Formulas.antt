@@ -1,36 +1,35 @@
 -- A state formula's node: what its operands are evaluated with, and what the layer holds after the call at the node.
-use Prim.Native.Nat.{ℕ, suc, _+_, _-_, _*_, _^_, _≤_, _<_}
-use mathlib.Core.Bool.{Bool, false, cond, _||_}
+use Prim.Native.Nat.{ℕ, _+_, _*_, _≤_, _<_}
+use mathlib.Core.Bool.{false}
 use mathlib.Core.List.{List}
 use mathlib.Core.Path.{_≡_, refl, sym, ap, subst, _∙_}
 use native.Mathlib.Omega.{arith}
-use lib.Dec.{eqb}
-use lib.ListN.{length, getD, drop}
+use lib.ListN.{length}
 use Rattle.sentence.specs.declared.Relation as Spelled
 use Rattle.sentence.specs.declared.Slot.{Slot}
 use Rattle.sentence.specs.declared.Node.{Node}
-use Rattle.sentence.specs.declared.Node.the-variants.{True, Label, Not, And, Compare, Probability, Constant, Sum, Difference, Product, Next, Until}
-use Rattle.meaning.specs.Chain.{Chain, Tuple}
+use Rattle.sentence.specs.declared.Node.the-variants.{True, Label, Not, And, Compare}
+use Rattle.meaning.specs.Chain.{Chain}
 use Rattle.meaning.specs.Tree.{Relation, less, atMost, equal, atLeast, greater}
-use Rattle.meaning.specs.Tree.{Formula, always, labelled, negation, both, compare, Expression}
+use Rattle.meaning.specs.Tree.{Formula, compare}
 use Rattle.meaning.specs.Meaning.{holds}
-use Rattle.meaning.specs.Size.{size, exceeds, exceedsIn}
+use Rattle.meaning.specs.Size.{size, exceeds}
 use Rattle.meaning.proofs.Tests.{or-left, or-right}
 use Rattle.layers.specs.Layers.{Layer, truth, Written, negatedAt, bothAt}
 use Rattle.layers.proofs.Truth.{always-layer, negated-layer, both-layer}
 use Rattle.fractions.specs.declared.Relation as Compared
 use Rattle.fractions.specs.Operations.{relationOf, comparedAt, CompareFits}
-use Rattle.fractions.specs.Values.{numerators}
 use Rattle.fractions.proofs.Values.{sides-small, compare-fits, compare-layer}
 use Rattle.trees.specs.Listed as listed
-use Rattle.trees.specs.Need.{paired, need, needIn}
+use Rattle.trees.specs.Need.{need, needIn}
 use Rattle.trees.specs.Ranged.{Ranged}
-use Rattle.trees.specs.Standing.{nodeAt, FormulaAt}
+use Rattle.trees.specs.Standing.{nodeAt}
 use Rattle.trees.proofs.Cases.{FormulaCase, formula-case, formula-place}
 use Rattle.evaluate.specs.declared.Setting.{Setting}
 use Rattle.evaluate.specs.declared.ValuedTwo.{ValuedTwo}
 use Rattle.evaluate.specs.Evaluation.{unspelled, Fixed, LabelReady, LabelDone}
-use Rattle.evaluate.specs.Evaluation.{FormulaReady, FormulasReady, ExpressionsReady, FormulaDone, FormulasDone, ExpressionsDone}
+use Rattle.evaluate.specs.Evaluation.{FormulaReady, FormulasReady, ExpressionsReady, FormulaDone, FormulasDone}
+use Rattle.evaluate.specs.Evaluation.{ExpressionsDone}
 use Rattle.evaluate.proofs.Needing.{need-some, needIn-some, paired-two, room-of}
 use Rattle.evaluate.proofs.Fixing.{to-chain, tuple-count}
 
@@ -42,7 +41,8 @@ unspelled-spelled equal = refl
 unspelled-spelled atLeast = refl
 unspelled-spelled greater = refl
 
-pub relation-is : (x : Compared.Relation) {r : Spelled.Relation} (e : Relation) → relationOf x ≡ unspelled r → r ≡ listed.relationOf e → relationOf x ≡ e
+pub relation-is : (x : Compared.Relation) {r : Spelled.Relation} (e : Relation) → relationOf x ≡ unspelled r →
+    r ≡ listed.relationOf e → relationOf x ≡ e
 relation-is x e p q = p ∙ ap unspelled q ∙ unspelled-spelled e
 
 module _ {nodes : List Slot} {g : Setting} {masks : List ℕ} {rows : List (List ℕ)} {at : ℕ} {w : List ℕ}
@@ -107,7 +107,8 @@ module _ {nodes : List Slot} {g : Setting} {masks : List ℕ} {rows : List (List
         room = subst (λ (f : Formula). need f * g .tuples ≤ length w) (it .3) (ready .room);
       }
 
-  pub compare-ready : (r : Spelled.Relation) → nodeAt nodes at ≡ Compare r → ExpressionsReady nodes g masks rows (at + 1) w
+  pub compare-ready : (r : Spelled.Relation) → nodeAt nodes at ≡ Compare r →
+      ExpressionsReady nodes g masks rows (at + 1) w
   unfolding need
   compare-ready r e =
       let it = formula-case nodes at (Compare r) e (ready .stands) in
@@ -131,7 +132,8 @@ module _ {nodes : List Slot} {g : Setting} {masks : List ℕ} {rows : List (List
 
   -- what comparing asks, of the layers and the denominators of the two expressions
   pub comparing-ready : (r : Spelled.Relation) → nodeAt nodes at ≡ Compare r → {mid : List ℕ} {two : ValuedTwo} →
-      ExpressionsDone nodes g masks rows (at + 1) mid two → length mid ≡ length w → (x : Compared.Relation) → relationOf x ≡ unspelled r →
+      ExpressionsDone nodes g masks rows (at + 1) mid two → length mid ≡ length w → (x : Compared.Relation) →
+      relationOf x ≡ unspelled r →
       CompareFits (two .first) (two .second) (g .tuples) mid
   unfolding need
   comparing-ready r e {mid} {two} done long x spelled =
@@ -141,10 +143,13 @@ module _ {nodes : List Slot} {g : Setting} {masks : List ℕ} {rows : List (List
       let fits = subst (λ (f : Formula). exceeds f (c .D) n ≡ false) (it .4) (ready .fits) in
       let small = sides-small (it .0) (it .1) (it .2) (c .D) n fits in
       let h = done .each c (it .1) (it .2) (it .3) (ready .end) (ready .fixed) (it .6) (it .7) (small .0) (small .1) in
-      let fits′ = subst (λ (e : Relation). exceeds (compare e (it .1) (it .2)) (c .D) n ≡ false) (sym (relation-is x (it .0) spelled (it .5))) fits in
-      let room = room-of (g .tuples) (paired-two (needIn (it .1)) (needIn (it .2)) (needIn-some (it .1)) (needIn-some (it .2)))
+      let fits′ = subst (λ (e : Relation). exceeds (compare e (it .1) (it .2)) (c .D) n ≡ false)
+      (sym (relation-is x (it .0) spelled (it .5))) fits in
+      let room = room-of (g .tuples) (paired-two (needIn (it .1)) (needIn (it .2)) (needIn-some (it .1))
+      (needIn-some (it .2)))
       (subst (λ (f : Formula). need f * g .tuples ≤ length w) (it .4) (ready .room)) in
-      let m = compare-fits c (ready .fixed .held .sound) (tuple-count (ready .fixed)) (it .1) (it .2) (small .0) (small .1) (h .3) (h .4) x fits′ (omega arith) in
+      let m = compare-fits c (ready .fixed .held .sound) (tuple-count (ready .fixed)) (it .1) (it .2) (small .0)
+      (small .1) (h .3) (h .4) x fits′ (omega arith) in
       subst (λ (d : ℕ). CompareFits d (two .second) (g .tuples) mid) (sym (h .1))
       (subst (λ (d : ℕ). CompareFits (size (it .1) (c .D) n .d) d (g .tuples) mid) (sym (h .2)) m)
 
@@ -152,22 +157,32 @@ module _ {nodes : List Slot} {g : Setting} {masks : List ℕ} {rows : List (List
 module _ {nodes : List Slot} {g : Setting} {masks : List ℕ} {rows : List (List ℕ)} {at : ℕ} where
   -- by the case of the node
   formula-done : {after : List ℕ} {r : ℕ} (n : Node) → nodeAt nodes at ≡ n →
-      ((c : Chain) (f : Formula) (q : ℕ) → Fixed c masks rows g → FormulaCase nodes at n f q → exceeds f (c .D) (g .variables) ≡ false →
-      (r ≡ q) × Layer (c .N) (g .variables) (truth (λ t. holds f c (g .variables) t)) after) → FormulaDone nodes g masks rows at after r
-  formula-done n e h = record { each = λ c f q fixed stands fits. h c f q fixed (formula-case nodes at n e stands) fits }
+      ((c : Chain) (f : Formula) (q : ℕ) → Fixed c masks rows g → FormulaCase nodes at n f q →
+      exceeds f (c .D) (g .variables) ≡ false →
+      (r ≡ q) × Layer (c .N) (g .variables) (truth (λ t. holds f c (g .variables) t)) after) →
+      FormulaDone nodes g masks rows at after r
+  formula-done n e h = record {
+    each = λ c f q fixed stands fits. h c f q fixed (formula-case nodes at n e stands) fits;
+  }
 
-  pub true-done : nodeAt nodes at ≡ True → {before after : List ℕ} → Written (g .tuples) (λ k. 1) before after → FormulaDone nodes g masks rows at after (at + 1)
+  pub true-done : nodeAt nodes at ≡ True → {before after : List ℕ} → Written (g .tuples) (λ k. 1) before after →
+      FormulaDone nodes g masks rows at after (at + 1)
   unfolding holds
   true-done e {after = after} written = formula-done True e
-      (λ c f q fixed it fits.
-      (sym (it .1), subst (λ (f : Formula). Layer (c .N) (g .variables) (truth (λ t. holds f c (g .variables) t)) after) (sym (it .0)) (always-layer (tuple-count fixed) written)))
+      (λ c f q fixed it fits. (
+        sym (it .1),
+        subst (λ (f : Formula). Layer (c .N) (g .variables) (truth (λ t. holds f c (g .variables) t)) after)
+            (sym (it .0)) (always-layer (tuple-count fixed) written),
+      ))
 
-  pub label-done : (l i : ℕ) → nodeAt nodes at ≡ Label l i → {after : List ℕ} → LabelDone g masks l i after → FormulaDone nodes g masks rows at after (at + 1)
+  pub label-done : (l i : ℕ) → nodeAt nodes at ≡ Label l i → {after : List ℕ} → LabelDone g masks l i after →
+      FormulaDone nodes g masks rows at after (at + 1)
   unfolding holds
   label-done l i e {after} done = formula-done (Label l i) e
       (λ c f q fixed it fits. (
         sym (it .1),
-        subst (λ (f : Formula). Layer (c .N) (g .variables) (truth (λ t. holds f c (g .variables) t)) after) (sym (it .0))
+        subst (λ (f : Formula). Layer (c .N) (g .variables) (truth (λ t. holds f c (g .variables) t)) after)
+            (sym (it .0))
             (to-chain fixed (done .each c (fixed .labels l))),
       ))
 
@@ -190,29 +205,39 @@ module _ {nodes : List Slot} {g : Setting} {masks : List ℕ} {rows : List (List
       (λ c f q fixed it fits.
       let n = g .variables in
       let small = subst (λ (f : Formula). exceeds f (c .D) n ≡ false) (it .3) fits in
-      let h = done .each c (it .0) (it .1) (it .2) q fixed (it .4) (it .5) (or-left (exceeds (it .0) (c .D) n) (exceeds (it .1) (c .D) n) small)
+      let h = done .each c (it .0) (it .1) (it .2) q fixed (it .4) (it .5)
+      (or-left (exceeds (it .0) (c .D) n) (exceeds (it .1) (c .D) n) small)
       (or-right (exceeds (it .0) (c .D) n) (exceeds (it .1) (c .D) n) small) in (
         h .0,
         subst (λ (f : Formula). Layer (c .N) n (truth (λ t. holds f c n t)) after) (sym (it .3))
-            (both-layer (tuple-count fixed) (λ t. holds (it .0) c n t) (λ t. holds (it .1) c n t) (h .1) (h .2) written),
+            (both-layer (tuple-count fixed) (λ t. holds (it .0) c n t) (λ t. holds (it .1) c n t) (h .1) (h .2)
+            written),
       ))
 
-  pub compare-done : (r : Spelled.Relation) → nodeAt nodes at ≡ Compare r → {mid after : List ℕ} {two : ValuedTwo} → ExpressionsDone nodes g masks rows (at + 1) mid two →
+  pub compare-done : (r : Spelled.Relation) → nodeAt nodes at ≡ Compare r → {mid after : List ℕ} {two : ValuedTwo} →
+      ExpressionsDone nodes g masks rows (at + 1) mid two →
       (x : Compared.Relation) → relationOf x ≡ unspelled r →
-      Written (g .tuples) (comparedAt x (two .first) (two .second) (g .tuples) mid) mid after → FormulaDone nodes g masks rows at after (two .next)
+      Written (g .tuples) (comparedAt x (two .first) (two .second) (g .tuples) mid) mid after →
+      FormulaDone nodes g masks rows at after (two .next)
   compare-done r e {mid} {after} {two} done x spelled written = formula-done (Compare r) e
       (λ c f q fixed it fits.
       let n = g .variables in
-      let small = sides-small (it .0) (it .1) (it .2) (c .D) n (subst (λ (f : Formula). exceeds f (c .D) n ≡ false) (it .4) fits) in
+      let small = sides-small (it .0) (it .1) (it .2) (c .D) n
+      (subst (λ (f : Formula). exceeds f (c .D) n ≡ false) (it .4) fits) in
       let h = done .each c (it .1) (it .2) (it .3) q fixed (it .6) (it .7) (small .0) (small .1) in
-      let w₁ = subst (λ (d : ℕ). Written (g .tuples) (comparedAt x d (two .second) (g .tuples) mid) mid after) (h .1) written in
-      let w₂ = subst (λ (d : ℕ). Written (g .tuples) (comparedAt x (size (it .1) (c .D) n .d) d (g .tuples) mid) mid after) (h .2) w₁ in
-      let is : compare (relationOf x) (it .1) (it .2) ≡ f = ap (λ (e : Relation). compare e (it .1) (it .2)) (relation-is x (it .0) spelled (it .5)) ∙ sym (it .4) in (
+      let w₁ = subst (λ (d : ℕ). Written (g .tuples) (comparedAt x d (two .second) (g .tuples) mid) mid after) (h .1)
+      written in
+      let w₂ = subst (λ (d : ℕ). Written (g .tuples) (comparedAt x (size (it .1) (c .D) n .d) d (g .tuples) mid) mid
+      after) (h .2) w₁ in
+      let is : compare (relationOf x) (it .1) (it .2) ≡ f = ap (λ (e : Relation). compare e (it .1) (it .2))
+      (relation-is x (it .0) spelled (it .5)) ∙ sym (it .4) in (
         h .0,
         subst (λ (f : Formula). Layer (c .N) n (truth (λ t. holds f c n t)) after) is
-            (compare-layer c (fixed .held .sound) (tuple-count fixed) (it .1) (it .2) (small .0) (small .1) (h .3) (h .4) x w₂),
+            (compare-layer c (fixed .held .sound) (tuple-count fixed) (it .1) (it .2) (small .0) (small .1) (h .3)
+            (h .4) x w₂),
       ))
 
   -- no state formula stands at a node of another kind
-  pub no-formula : (n : Node) → nodeAt nodes at ≡ n → ((f : Formula) (q : ℕ) → FormulaCase nodes at n f q → ⊥) → {after : List ℕ} {r : ℕ} → FormulaDone nodes g masks rows at after r
+  pub no-formula : (n : Node) → nodeAt nodes at ≡ n → ((f : Formula) (q : ℕ) → FormulaCase nodes at n f q → ⊥) →
+      {after : List ℕ} {r : ℕ} → FormulaDone nodes g masks rows at after r
   no-formula n e none = formula-done n e (λ c f q fixed it fits. absurd (none f q it))

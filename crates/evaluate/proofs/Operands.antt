@@ -1,16 +1,13 @@
 -- Two operands, the one that needs more layers first: what each is evaluated with, and what the two layers hold after
 -- both.
-use Prim.Native.Nat.{ℕ, suc, _+_, _-_, _*_, _^_, _≤_, _<_}
-use mathlib.Core.Bool.{false}
+use Prim.Native.Nat.{ℕ, _+_, _-_, _*_, _^_, _≤_, _<_}
 use mathlib.Core.List.{List}
-use mathlib.Core.Path.{_≡_, refl, sym, ap, subst, _∙_}
-use native.Mathlib.Nat.{le-trans, le-of-eq}
+use mathlib.Core.Path.{_≡_, sym, ap, subst, _∙_}
 use native.Mathlib.Omega.{arith}
-use lib.ListN.{length, getD, take, drop}
+use lib.ListN.{length, take, drop}
 use lib.ListN.{length-drop}
 use Rattle.sentence.specs.declared.Slot.{Slot}
-use Rattle.meaning.specs.Chain.{Chain, Tuple}
-use Rattle.meaning.specs.Tree.{Formula, Expression}
+use Rattle.meaning.specs.Chain.{Tuple}
 use Rattle.layers.specs.Layers.{Layer}
 use Rattle.layers.proofs.Tails.{Back, lent-tail}
 use Rattle.trees.specs.Need.{paired, need, needIn}
@@ -20,18 +17,28 @@ use Rattle.evaluate.specs.declared.Setting.{Setting}
 use Rattle.evaluate.specs.declared.Valued.{Valued}
 use Rattle.evaluate.specs.declared.survey.Extent.{Extent}
 use Rattle.evaluate.specs.Surveys.{Surveyed}
-use Rattle.evaluate.specs.Evaluation.{Fixed, Swapped, FormulaReady, FormulasReady, ExpressionReady, ExpressionsReady}
+use Rattle.evaluate.specs.Evaluation.{Swapped, FormulaReady, FormulasReady, ExpressionReady}
+use Rattle.evaluate.specs.Evaluation.{ExpressionsReady}
 use Rattle.evaluate.specs.Evaluation.{FormulaDone, FormulasDone, ExpressionDone, ExpressionsDone}
-use Rattle.evaluate.proofs.Needing.{need-some, needIn-some, paired-first, paired-second, paired-smaller, paired-smaller-first, paired-two, room-of, room-past}
+use Rattle.evaluate.proofs.Needing.{need-some, needIn-some, paired-first, paired-second, paired-smaller}
+use Rattle.evaluate.proofs.Needing.{paired-smaller-first, paired-two, room-of, room-past}
 use Rattle.evaluate.proofs.Fixing.{tuple-count}
 use Rattle.evaluate.proofs.Swapping.{front-swapped, next-swapped}
 
 -- ---- the layers
 
 -- what is lent past the front layer is as long as what lies there
-past-room : (T : ℕ) (mid : List ℕ) {long k : ℕ} → length mid ≡ long → k ≤ long - T → k ≤ length (take (length mid - T) (drop T mid))
+past-room : (T : ℕ) (mid : List ℕ) {long k : ℕ} → length mid ≡ long → k ≤ long - T →
+    k ≤ length (take (length mid - T) (drop T mid))
 past-room T mid same h =
-    let e : length (take (length mid - T) (drop T mid)) ≡ length mid - T = ap length (lent-tail T mid) ∙ length-drop T mid in
+    let e : length (take (length mid - T) (drop T mid)) ≡ length mid - T = ap length (lent-tail T mid) ∙
+    length-drop T mid in
+    omega arith
+
+-- two trees need two layers
+two-room : {a b : ℕ} (T : ℕ) {long : ℕ} → 1 ≤ a → 1 ≤ b → paired a b * T ≤ long → T + T ≤ long
+two-room {a} {b} T p q room =
+    let r = room-of T (paired-two a b p q) room in
     omega arith
 
 module _ {N n T : ℕ} (whole : T ≡ N ^ n) {f h : Tuple → ℕ} {mid lent after : List ℕ} (back : Back T mid lent after)
@@ -50,6 +57,28 @@ module _ {N n T : ℕ} (whole : T ≡ N ^ n) {f h : Tuple → ℕ} {mid lent aft
   pub tail-crossed : {last : List ℕ} → Swapped T after last → Layer N n f (drop T last)
   tail-crossed s = next-swapped (λ k l. omega arith) s f front-stays
 
+-- ---- two trees of a kind, the second where the survey of the first ends
+module _ {Tree : Type 0} (At : ℕ → Tree → ℕ → Type 0) {at : ℕ} {one : Extent} (needs : Tree → ℕ)
+    (found : (x : Tree) (q : ℕ) → At at x q → (one .next ≡ q) × (one .layers ≡ needs x)) where
+  follows-survey : {x y : Tree} {m q : ℕ} → At at x m → At m y q → At (one .next) y q
+  follows-survey {x} {y} {m} {q} stands follows = subst (λ (m : ℕ). At m y q) (sym (found x m stands .0)) follows
+
+  -- past the front layer there is room for the one that needs fewer
+  module _ {two : Extent} (found′ : (y : Tree) (q : ℕ) → At (one .next) y q → (two .next ≡ q) × (two .layers ≡ needs y))
+      {x y : Tree} {m q : ℕ} (stands : At at x m) (follows : At m y q) (T : ℕ) {long : ℕ}
+      (room : paired (needs x) (needs y) * T ≤ long) (mid : List ℕ) (same : length mid ≡ long) where
+    second-past : two .layers ≤ one .layers → needs y * T ≤ length (take (length mid - T) (drop T mid))
+    second-past h =
+        let a = found x m stands .1 in
+        let b = found′ y q (follows-survey stands follows) .1 in
+        past-room T mid same (room-past (needs y) T (paired-smaller (needs x) (needs y) (omega arith)) room)
+
+    first-past : one .layers < two .layers → needs x * T ≤ length (take (length mid - T) (drop T mid))
+    first-past h =
+        let a = found x m stands .1 in
+        let b = found′ y q (follows-survey stands follows) .1 in
+        past-room T mid same (room-past (needs x) T (paired-smaller-first (needs x) (needs y) (omega arith)) room)
+
 -- ---- two state formulas
 module _ {nodes : List Slot} {g : Setting} {masks : List ℕ} {rows : List (List ℕ)} {at : ℕ} {w : List ℕ}
     (ready : FormulasReady nodes g masks rows at w) where
@@ -58,88 +87,80 @@ module _ {nodes : List Slot} {g : Setting} {masks : List ℕ} {rows : List (List
 
   -- room for both layers
   pub formulas-room : g .tuples + g .tuples ≤ length w
-  formulas-room =
-      let p = room-of (g .tuples) (paired-two (need (ready .first)) (need (ready .second)) (need-some (ready .first)) (need-some (ready .second))) (ready .room) in
-      omega arith
+  formulas-room = two-room (g .tuples) (need-some (ready .first)) (need-some (ready .second)) (ready .room)
 
-  -- the second stands where the survey of the first ends
-  module _ {one two : Extent} (s : Surveyed nodes at one) (s′ : Surveyed nodes (one .next) two) where
-    first-formula-is : (one .next ≡ ready .middle) × (one .layers ≡ need (ready .first))
-    first-formula-is = s .formula (ready .first) (ready .middle) (ready .stands)
+  first-formula : {v : List ℕ} → need (ready .first) * g .tuples ≤ length v → FormulaReady nodes g masks rows at v
+  first-formula room = record {
+    chain = ready .chain;
+    fixed = ready .fixed;
+    few = ready .few;
+    formula = ready .first;
+    end = ready .middle;
+    stands = ready .stands;
+    ranged = ready .ranged .0;
+    fits = ready .fits;
+    room = room;
+  }
 
-    second-formula-stands : FormulaAt nodes (one .next) (ready .second) (ready .end)
-    second-formula-stands = subst (λ (m : ℕ). FormulaAt nodes m (ready .second) (ready .end)) (sym (first-formula-is .0)) (ready .follows)
+  pub first-formula-whole : FormulaReady nodes g masks rows at w
+  first-formula-whole = first-formula (room-of (g .tuples) (paired-first (need (ready .first)) (need (ready .second)))
+      (ready .room))
 
-    second-formula-is : (two .next ≡ ready .end) × (two .layers ≡ need (ready .second))
-    second-formula-is = s′ .formula (ready .second) (ready .end) second-formula-stands
-
-    first-formula-ready : {v : List ℕ} → need (ready .first) * g .tuples ≤ length v → FormulaReady nodes g masks rows at v
-    first-formula-ready room = record {
-      chain = ready .chain;
-      fixed = ready .fixed;
-      few = ready .few;
-      formula = ready .first;
-      end = ready .middle;
-      stands = ready .stands;
-      ranged = ready .ranged .0;
-      fits = ready .fits;
-      room = room;
-    }
-
-    second-formula-ready : {v : List ℕ} → need (ready .second) * g .tuples ≤ length v → FormulaReady nodes g masks rows (one .next) v
-    second-formula-ready room = record {
+  module _ {one : Extent} (s : Surveyed nodes at one) where
+    second-formula : {v : List ℕ} → need (ready .second) * g .tuples ≤ length v →
+        FormulaReady nodes g masks rows (one .next) v
+    second-formula room = record {
       chain = ready .chain;
       fixed = ready .fixed;
       few = ready .few;
       formula = ready .second;
       end = ready .end;
-      stands = second-formula-stands;
+      stands = follows-survey (FormulaAt nodes) need (s .formula) (ready .stands) (ready .follows);
       ranged = ready .ranged .1;
       fits = ready .fits′;
       room = room;
     }
 
-    pub first-formula-whole : FormulaReady nodes g masks rows at w
-    first-formula-whole = first-formula-ready (room-of (g .tuples) (paired-first (need (ready .first)) (need (ready .second))) (ready .room))
-
     pub second-formula-whole : FormulaReady nodes g masks rows (one .next) w
-    second-formula-whole = second-formula-ready (room-of (g .tuples) (paired-second (need (ready .first)) (need (ready .second))) (ready .room))
+    second-formula-whole = second-formula (room-of (g .tuples)
+        (paired-second (need (ready .first)) (need (ready .second))) (ready .room))
 
-    pub second-formula-past : two .layers ≤ one .layers → (mid : List ℕ) → length mid ≡ length w →
-        FormulaReady nodes g masks rows (one .next) (take (length mid - g .tuples) (drop (g .tuples) mid))
-    second-formula-past h mid same =
-        let a = first-formula-is .1 in
-        let b = second-formula-is .1 in
-        second-formula-ready (past-room (g .tuples) mid same (room-past (need (ready .second)) (g .tuples) (paired-smaller (need (ready .first)) (need (ready .second)) (omega arith)) (ready .room)))
+    module _ {two : Extent} (s′ : Surveyed nodes (one .next) two) (mid : List ℕ) (same : length mid ≡ length w) where
+      pub second-formula-past : two .layers ≤ one .layers →
+          FormulaReady nodes g masks rows (one .next) (take (length mid - g .tuples) (drop (g .tuples) mid))
+      second-formula-past h =
+          second-formula (second-past (FormulaAt nodes) need (s .formula) (s′ .formula) (ready .stands) (ready .follows)
+          (g .tuples) (ready .room) mid same h)
 
-    pub first-formula-past : one .layers < two .layers → (mid : List ℕ) → length mid ≡ length w →
-        FormulaReady nodes g masks rows at (take (length mid - g .tuples) (drop (g .tuples) mid))
-    first-formula-past h mid same =
-        let a = first-formula-is .1 in
-        let b = second-formula-is .1 in
-        first-formula-ready (past-room (g .tuples) mid same (room-past (need (ready .first)) (g .tuples) (paired-smaller-first (need (ready .first)) (need (ready .second)) (omega arith)) (ready .room)))
+      pub first-formula-past : one .layers < two .layers →
+          FormulaReady nodes g masks rows at (take (length mid - g .tuples) (drop (g .tuples) mid))
+      first-formula-past h =
+          first-formula (first-past (FormulaAt nodes) need (s .formula) (s′ .formula) (ready .stands) (ready .follows)
+          (g .tuples) (ready .room) mid same h)
 
--- the second stands after the first, wherever that ends
-after-formula : {nodes : List Slot} {at : ℕ} {one : Extent} → Surveyed nodes at one → {f h : Formula} {m q : ℕ} → FormulaAt nodes at f m → FormulaAt nodes m h q → FormulaAt nodes (one .next) h q
-after-formula {nodes} s {f} {h} {m} {q} p t = subst (λ (m : ℕ). FormulaAt nodes m h q) (sym (s .formula f m p .0)) t
-
-module _ {nodes : List Slot} {g : Setting} {masks : List ℕ} {rows : List (List ℕ)} {at : ℕ} {one : Extent} (s : Surveyed nodes at one)
+module _ {nodes : List Slot} {g : Setting} {masks : List ℕ} {rows : List (List ℕ)} {at : ℕ} {one : Extent}
+    (s : Surveyed nodes at one)
     {mid lent after : List ℕ} {r1 r2 : ℕ} (back : Back (g .tuples) mid lent after) where
-  pub formulas-in-order : FormulaDone nodes g masks rows at mid r1 → FormulaDone nodes g masks rows (one .next) lent r2 → FormulasDone nodes g masks rows at after r2
+  pub formulas-in-order : FormulaDone nodes g masks rows at mid r1 →
+      FormulaDone nodes g masks rows (one .next) lent r2 → FormulasDone nodes g masks rows at after r2
   formulas-in-order first second = record {
     each = λ c f h m q fixed p t small small′.
         let a = first .each c f m fixed p small in
-        let b = second .each c h q fixed (after-formula s p t) small′ in
+        let b = second .each c h q fixed (follows-survey (FormulaAt nodes) need (s .formula) p t) small′ in
         (b .0, front-stays (tuple-count fixed) back (a .1) (b .1), tail-comes (tuple-count fixed) back (a .1) (b .1));
   }
 
-  pub formulas-crossed : {last : List ℕ} → FormulaDone nodes g masks rows (one .next) mid r1 → FormulaDone nodes g masks rows at lent r2 →
+  pub formulas-crossed : {last : List ℕ} → FormulaDone nodes g masks rows (one .next) mid r1 →
+      FormulaDone nodes g masks rows at lent r2 →
       Swapped (g .tuples) after last → FormulasDone nodes g masks rows at last r1
   formulas-crossed second first swapped = record {
     each = λ c f h m q fixed p t small small′.
         let a = first .each c f m fixed p small in
-        let b = second .each c h q fixed (after-formula s p t) small′ in
-        (b .0, front-crossed (tuple-count fixed) back (b .1) (a .1) swapped, tail-crossed (tuple-count fixed) back (b .1) (a .1) swapped);
+        let b = second .each c h q fixed (follows-survey (FormulaAt nodes) need (s .formula) p t) small′ in (
+          b .0,
+          front-crossed (tuple-count fixed) back (b .1) (a .1) swapped,
+          tail-crossed (tuple-count fixed) back (b .1) (a .1) swapped,
+        );
   }
 
 -- ---- two expressions
@@ -150,87 +171,88 @@ module _ {nodes : List Slot} {g : Setting} {masks : List ℕ} {rows : List (List
 
   -- room for both layers
   pub expressions-room : g .tuples + g .tuples ≤ length w
-  expressions-room =
-      let p = room-of (g .tuples) (paired-two (needIn (ready .first)) (needIn (ready .second)) (needIn-some (ready .first)) (needIn-some (ready .second))) (ready .room) in
-      omega arith
+  expressions-room = two-room (g .tuples) (needIn-some (ready .first)) (needIn-some (ready .second)) (ready .room)
 
-  -- the second stands where the survey of the first ends
-  module _ {one two : Extent} (s : Surveyed nodes at one) (s′ : Surveyed nodes (one .next) two) where
-    first-expression-is : (one .next ≡ ready .middle) × (one .layers ≡ needIn (ready .first))
-    first-expression-is = s .expression (ready .first) (ready .middle) (ready .stands)
+  first-expression : {v : List ℕ} → needIn (ready .first) * g .tuples ≤ length v →
+      ExpressionReady nodes g masks rows at v
+  first-expression room = record {
+    chain = ready .chain;
+    fixed = ready .fixed;
+    few = ready .few;
+    expression = ready .first;
+    end = ready .middle;
+    stands = ready .stands;
+    ranged = ready .ranged .0;
+    fits = ready .fits;
+    room = room;
+  }
 
-    second-expression-stands : ExpressionAt nodes (one .next) (ready .second) (ready .end)
-    second-expression-stands = subst (λ (m : ℕ). ExpressionAt nodes m (ready .second) (ready .end)) (sym (first-expression-is .0)) (ready .follows)
+  pub first-expression-whole : ExpressionReady nodes g masks rows at w
+  first-expression-whole = first-expression
+      (room-of (g .tuples) (paired-first (needIn (ready .first)) (needIn (ready .second))) (ready .room))
 
-    second-expression-is : (two .next ≡ ready .end) × (two .layers ≡ needIn (ready .second))
-    second-expression-is = s′ .expression (ready .second) (ready .end) second-expression-stands
-
-    first-expression-ready : {v : List ℕ} → needIn (ready .first) * g .tuples ≤ length v → ExpressionReady nodes g masks rows at v
-    first-expression-ready room = record {
-      chain = ready .chain;
-      fixed = ready .fixed;
-      few = ready .few;
-      expression = ready .first;
-      end = ready .middle;
-      stands = ready .stands;
-      ranged = ready .ranged .0;
-      fits = ready .fits;
-      room = room;
-    }
-
-    second-expression-ready : {v : List ℕ} → needIn (ready .second) * g .tuples ≤ length v → ExpressionReady nodes g masks rows (one .next) v
-    second-expression-ready room = record {
+  module _ {one : Extent} (s : Surveyed nodes at one) where
+    second-expression : {v : List ℕ} → needIn (ready .second) * g .tuples ≤ length v →
+        ExpressionReady nodes g masks rows (one .next) v
+    second-expression room = record {
       chain = ready .chain;
       fixed = ready .fixed;
       few = ready .few;
       expression = ready .second;
       end = ready .end;
-      stands = second-expression-stands;
+      stands = follows-survey (ExpressionAt nodes) needIn (s .expression) (ready .stands) (ready .follows);
       ranged = ready .ranged .1;
       fits = ready .fits′;
       room = room;
     }
 
-    pub first-expression-whole : ExpressionReady nodes g masks rows at w
-    first-expression-whole = first-expression-ready (room-of (g .tuples) (paired-first (needIn (ready .first)) (needIn (ready .second))) (ready .room))
-
     pub second-expression-whole : ExpressionReady nodes g masks rows (one .next) w
-    second-expression-whole = second-expression-ready (room-of (g .tuples) (paired-second (needIn (ready .first)) (needIn (ready .second))) (ready .room))
+    second-expression-whole = second-expression
+        (room-of (g .tuples) (paired-second (needIn (ready .first)) (needIn (ready .second))) (ready .room))
 
-    pub second-expression-past : two .layers ≤ one .layers → (mid : List ℕ) → length mid ≡ length w →
-        ExpressionReady nodes g masks rows (one .next) (take (length mid - g .tuples) (drop (g .tuples) mid))
-    second-expression-past h mid same =
-        let a = first-expression-is .1 in
-        let b = second-expression-is .1 in
-        second-expression-ready (past-room (g .tuples) mid same (room-past (needIn (ready .second)) (g .tuples) (paired-smaller (needIn (ready .first)) (needIn (ready .second)) (omega arith)) (ready .room)))
+    module _ {two : Extent} (s′ : Surveyed nodes (one .next) two) (mid : List ℕ) (same : length mid ≡ length w) where
+      pub second-expression-past : two .layers ≤ one .layers →
+          ExpressionReady nodes g masks rows (one .next) (take (length mid - g .tuples) (drop (g .tuples) mid))
+      second-expression-past h =
+          second-expression (second-past (ExpressionAt nodes) needIn (s .expression) (s′ .expression) (ready .stands)
+          (ready .follows) (g .tuples) (ready .room) mid same h)
 
-    pub first-expression-past : one .layers < two .layers → (mid : List ℕ) → length mid ≡ length w →
-        ExpressionReady nodes g masks rows at (take (length mid - g .tuples) (drop (g .tuples) mid))
-    first-expression-past h mid same =
-        let a = first-expression-is .1 in
-        let b = second-expression-is .1 in
-        first-expression-ready (past-room (g .tuples) mid same (room-past (needIn (ready .first)) (g .tuples) (paired-smaller-first (needIn (ready .first)) (needIn (ready .second)) (omega arith)) (ready .room)))
+      pub first-expression-past : one .layers < two .layers →
+          ExpressionReady nodes g masks rows at (take (length mid - g .tuples) (drop (g .tuples) mid))
+      first-expression-past h =
+          first-expression (first-past (ExpressionAt nodes) needIn (s .expression) (s′ .expression) (ready .stands)
+          (ready .follows) (g .tuples) (ready .room) mid same h)
 
--- the second stands after the first, wherever that ends
-after-expression : {nodes : List Slot} {at : ℕ} {one : Extent} → Surveyed nodes at one → {a b : Expression} {m q : ℕ} → ExpressionAt nodes at a m → ExpressionAt nodes m b q → ExpressionAt nodes (one .next) b q
-after-expression {nodes} s {a} {b} {m} {q} p t = subst (λ (m : ℕ). ExpressionAt nodes m b q) (sym (s .expression a m p .0)) t
-
-module _ {nodes : List Slot} {g : Setting} {masks : List ℕ} {rows : List (List ℕ)} {at : ℕ} {one : Extent} (s : Surveyed nodes at one)
+module _ {nodes : List Slot} {g : Setting} {masks : List ℕ} {rows : List (List ℕ)} {at : ℕ} {one : Extent}
+    (s : Surveyed nodes at one)
     {mid lent after : List ℕ} {r1 r2 : Valued} (back : Back (g .tuples) mid lent after) where
-  pub expressions-in-order : ExpressionDone nodes g masks rows at mid r1 → ExpressionDone nodes g masks rows (one .next) lent r2 →
+  pub expressions-in-order : ExpressionDone nodes g masks rows at mid r1 →
+      ExpressionDone nodes g masks rows (one .next) lent r2 →
       ExpressionsDone nodes g masks rows at after (record { next = r2 .next; first = r1 .bottom; second = r2 .bottom })
   expressions-in-order first second = record {
     each = λ c x y m q fixed p t small small′.
         let a = first .each c x m fixed p small in
-        let b = second .each c y q fixed (after-expression s p t) small′ in
-        (b .0, a .1, b .1, front-stays (tuple-count fixed) back (a .2) (b .2), tail-comes (tuple-count fixed) back (a .2) (b .2));
+        let b = second .each c y q fixed (follows-survey (ExpressionAt nodes) needIn (s .expression) p t) small′ in (
+          b .0,
+          a .1,
+          b .1,
+          front-stays (tuple-count fixed) back (a .2) (b .2),
+          tail-comes (tuple-count fixed) back (a .2) (b .2),
+        );
   }
 
-  pub expressions-crossed : {last : List ℕ} → ExpressionDone nodes g masks rows (one .next) mid r1 → ExpressionDone nodes g masks rows at lent r2 →
-      Swapped (g .tuples) after last → ExpressionsDone nodes g masks rows at last (record { next = r1 .next; first = r2 .bottom; second = r1 .bottom })
+  pub expressions-crossed : {last : List ℕ} → ExpressionDone nodes g masks rows (one .next) mid r1 →
+      ExpressionDone nodes g masks rows at lent r2 →
+      Swapped (g .tuples) after last → ExpressionsDone nodes g masks rows at last
+      (record { next = r1 .next; first = r2 .bottom; second = r1 .bottom })
   expressions-crossed second first swapped = record {
     each = λ c x y m q fixed p t small small′.
         let a = first .each c x m fixed p small in
-        let b = second .each c y q fixed (after-expression s p t) small′ in
-        (b .0, a .1, b .1, front-crossed (tuple-count fixed) back (b .2) (a .2) swapped, tail-crossed (tuple-count fixed) back (b .2) (a .2) swapped);
+        let b = second .each c y q fixed (follows-survey (ExpressionAt nodes) needIn (s .expression) p t) small′ in (
+          b .0,
+          a .1,
+          b .1,
+          front-crossed (tuple-count fixed) back (b .2) (a .2) swapped,
+          tail-crossed (tuple-count fixed) back (b .2) (a .2) swapped,
+        );
   }

@@ -1,32 +1,33 @@
 -- A path's node: what its formulas are evaluated with, and what the layer and the denominator are after the call at the
 -- node.
-use Prim.Native.Nat.{ℕ, suc, _+_, _-_, _*_, _^_, _≤_, _<_, max}
-use mathlib.Core.Bool.{Bool, false, _||_}
+use Prim.Native.Nat.{ℕ, _+_, _*_, _^_, _≤_, _<_, max}
+use mathlib.Core.Bool.{false}
 use mathlib.Core.List.{List}
-use mathlib.Core.Path.{_≡_, refl, sym, ap, subst, _∙_}
+use mathlib.Core.Path.{_≡_, sym, ap, subst, _∙_}
 use native.Mathlib.Nat.{le-trans, le-of-eq, mul-le-mul, one-mul, mul-one}
 use native.Mathlib.Omega.{arith}
-use lib.ListN.{length, getD, drop}
+use lib.ListN.{length}
 use lib.Seq.{getD-drop}
 use Rattle.sentence.specs.declared.Slot.{Slot}
 use Rattle.sentence.specs.declared.Node.{Node}
 use Rattle.sentence.specs.declared.Node.the-variants.{Next, Until}
-use Rattle.meaning.specs.Chain.{Chain, Tuple}
-use Rattle.meaning.specs.Tree.{Formula, PathFormula, next, until}
+use Rattle.meaning.specs.Chain.{Chain}
+use Rattle.meaning.specs.Tree.{PathFormula, next, until}
 use Rattle.meaning.specs.Meaning.{holds, numerator, denominator}
 use Rattle.meaning.specs.Size.{exceeds, exceedsFrom}
 use Rattle.meaning.proofs.Tests.{or-left, or-right}
-use Rattle.layers.specs.Layers.{Layer, truth}
+use Rattle.layers.specs.Layers.{Layer}
 use Rattle.layers.specs.Steps.{StepFits, Stepped}
 use Rattle.layers.specs.Untils.{UntilFits, UntilTaken}
 use Rattle.layers.proofs.Paths.{truth-small, next-layer, until-layer}
 use Rattle.trees.specs.Need.{paired, need, needFrom}
-use Rattle.trees.specs.Ranged.{Ranged, RangedFrom}
-use Rattle.trees.specs.Standing.{nodeAt, FormulaAt, PathAt}
+use Rattle.trees.specs.Ranged.{RangedFrom}
+use Rattle.trees.specs.Standing.{nodeAt}
 use Rattle.trees.proofs.Cases.{PathCase, path-case, path-place}
 use Rattle.evaluate.specs.declared.Setting.{Setting}
 use Rattle.evaluate.specs.declared.Valued.{Valued}
-use Rattle.evaluate.specs.Evaluation.{Fixed, FormulaReady, FormulasReady, PathReady, FormulaDone, FormulasDone, PathDone}
+use Rattle.evaluate.specs.Evaluation.{Fixed, FormulaReady, FormulasReady, PathReady, FormulaDone, FormulasDone}
+use Rattle.evaluate.specs.Evaluation.{PathDone}
 use Rattle.evaluate.proofs.Needing.{needFrom-some, room-of}
 use Rattle.evaluate.proofs.Fixing.{to-chain, to-setting, tuple-count}
 
@@ -59,7 +60,8 @@ module _ {nodes : List Slot} {g : Setting} {masks : List ℕ} {rows : List (List
           end = ready .end;
           stands = it .2;
           ranged = subst (λ (p : PathFormula). RangedFrom (g .variables) p) (it .1) (ready .ranged);
-          fits = subst (λ (p : PathFormula). exceedsFrom p (ready .chain .D) (g .variables) ≡ false) (it .1) (ready .fits);
+          fits = subst (λ (p : PathFormula). exceedsFrom p (ready .chain .D) (g .variables) ≡ false) (it .1)
+              (ready .fits);
           room = subst (λ (p : PathFormula). needFrom p * g .tuples ≤ length w) (it .1) (ready .room);
         }
 
@@ -67,11 +69,15 @@ module _ {nodes : List Slot} {g : Setting} {masks : List ℕ} {rows : List (List
     pub next-scales : (1 ≤ g .d) × (1 * g .d ^ g .variables ≤ 2 ^ 62)
     unfolding denominator
     next-scales =
-        let it = path-case nodes at Next e (ready .stands) in
-        (ready .fixed .weighed, le-trans (le-of-eq (one-mul (g .d ^ g .variables))) (setting-small (next (it .0)) (it .1)))
+        let it = path-case nodes at Next e (ready .stands) in (
+          ready .fixed .weighed,
+          le-trans (le-of-eq (one-mul (g .d ^ g .variables)))
+              (setting-small (next (it .0)) (it .1)),
+        )
 
     -- what a joint step asks of the formula's layer
-    pub stepping-ready : {mid : List ℕ} {r : ℕ} → FormulaDone nodes g masks rows (at + 1) mid r → length mid ≡ length w →
+    pub stepping-ready : {mid : List ℕ} {r : ℕ} → FormulaDone nodes g masks rows (at + 1) mid r →
+        length mid ≡ length w →
         StepFits rows (g .states) (g .variables) (g .tuples) mid
     unfolding denominator next-ready
     stepping-ready {mid} done long =
@@ -92,7 +98,8 @@ module _ {nodes : List Slot} {g : Setting} {masks : List ℕ} {rows : List (List
           room = omega arith;
           bound = 1;
           small = λ k l. truth-small (λ t. holds (under .formula) c n t) (h .1) k (omega arith);
-          fits = le-trans (le-of-eq (mul-one (c .D ^ n))) (subst (λ (p : PathFormula). denominator p (c .D) n ≤ 2 ^ 62) (it .1) (ready .small));
+          fits = le-trans (le-of-eq (mul-one (c .D ^ n)))
+              (subst (λ (p : PathFormula). denominator p (c .D) n ≤ 2 ^ 62) (it .1) (ready .small));
         }
 
   module _ (k1 k2 : ℕ) (e : nodeAt nodes at ≡ Until k1 k2) where
@@ -117,7 +124,8 @@ module _ {nodes : List Slot} {g : Setting} {masks : List ℕ} {rows : List (List
           ranged = subst (λ (p : PathFormula). RangedFrom n p) (it .3) (ready .ranged) .2;
           fits = or-left (exceeds (it .0) D n) (exceeds (it .1) D n) fits;
           fits′ = or-right (exceeds (it .0) D n) (exceeds (it .1) D n) fits;
-          room = room-of {k = paired (need (it .0)) (need (it .1))} {m = max 3 (paired (need (it .0)) (need (it .1)))} (g .tuples) (omega arith) room;
+          room = room-of {k = paired (need (it .0)) (need (it .1))} {m = max 3 (paired (need (it .0)) (need (it .1)))}
+              (g .tuples) (omega arith) room;
         }
 
     -- the window's ends
@@ -133,8 +141,11 @@ module _ {nodes : List Slot} {g : Setting} {masks : List ℕ} {rows : List (List
     pub until-scales : (1 ≤ g .d) × (1 * g .d ^ (g .variables * k2) ≤ 2 ^ 62)
     unfolding denominator
     until-scales =
-        let it = path-case nodes at (Until k1 k2) e (ready .stands) in
-        (ready .fixed .weighed, le-trans (le-of-eq (one-mul (g .d ^ (g .variables * k2)))) (setting-small (until k1 k2 (it .0) (it .1)) (it .3)))
+        let it = path-case nodes at (Until k1 k2) e (ready .stands) in (
+          ready .fixed .weighed,
+          le-trans (le-of-eq (one-mul (g .d ^ (g .variables * k2))))
+              (setting-small (until k1 k2 (it .0) (it .1)) (it .3)),
+        )
 
     -- room for a third layer
     three-room : g .tuples + g .tuples + g .tuples ≤ length w
@@ -153,7 +164,8 @@ module _ {nodes : List Slot} {g : Setting} {masks : List ℕ} {rows : List (List
         let c = ready .chain in
         let n = g .variables in
         let u = until-ready in
-        let h = done .each c (u .first) (u .second) (u .middle) (u .end) (u .fixed) (u .stands) (u .follows) (u .fits) (u .fits′) in
+        let h = done .each c (u .first) (u .second) (u .middle) (u .end) (u .fixed) (u .stands) (u .follows) (u .fits)
+        (u .fits′) in
         let count = tuple-count (ready .fixed) in
         let room = three-room in
         record {
@@ -163,7 +175,8 @@ module _ {nodes : List Slot} {g : Setting} {masks : List ℕ} {rows : List (List
           sum = ready .fixed .sums;
           sizes = ready .fixed .sizes;
           room = omega arith;
-          ones = λ k l. le-trans (le-of-eq (sym (getD-drop (g .tuples) mid k 0))) (truth-small (λ t. holds (u .second) c n t) (h .2) k (omega arith));
+          ones = λ k l. le-trans (le-of-eq (sym (getD-drop (g .tuples) mid k 0)))
+              (truth-small (λ t. holds (u .second) c n t) (h .2) k (omega arith));
           window = window .0;
           fits = le-trans (le-of-eq (sym (one-mul (g .d ^ (n * k2))))) (until-scales .1);
         }
@@ -171,41 +184,52 @@ module _ {nodes : List Slot} {g : Setting} {masks : List ℕ} {rows : List (List
 -- ---- what is left, by the node at the place
 module _ {nodes : List Slot} {g : Setting} {masks : List ℕ} {rows : List (List ℕ)} {at : ℕ} where
   path-done : {after : List ℕ} {r : Valued} (n : Node) → nodeAt nodes at ≡ n →
-      ((c : Chain) (p : PathFormula) (q : ℕ) → Fixed c masks rows g → PathCase nodes at n p q → exceedsFrom p (c .D) (g .variables) ≡ false →
-      (r .next ≡ q) × (r .bottom ≡ denominator p (c .D) (g .variables)) × Layer (c .N) (g .variables) (numerator p c (g .variables)) after) →
+      ((c : Chain) (p : PathFormula) (q : ℕ) → Fixed c masks rows g → PathCase nodes at n p q →
+      exceedsFrom p (c .D) (g .variables) ≡ false →
+      (r .next ≡ q) × (r .bottom ≡ denominator p (c .D) (g .variables)) × Layer (c .N) (g .variables)
+      (numerator p c (g .variables)) after) →
       PathDone nodes g masks rows at after r
   path-done n e h = record { each = λ c p q fixed stands fits. h c p q fixed (path-case nodes at n e stands) fits }
 
-  pub next-done : nodeAt nodes at ≡ Next → {mid after : List ℕ} {r b : ℕ} → FormulaDone nodes g masks rows (at + 1) mid r →
+  pub next-done : nodeAt nodes at ≡ Next → {mid after : List ℕ} {r b : ℕ} →
+      FormulaDone nodes g masks rows (at + 1) mid r →
       Stepped rows (g .states) (g .variables) (g .tuples) mid after → b ≡ 1 * g .d ^ g .variables →
       PathDone nodes g masks rows at after (record { next = r; bottom = b })
   unfolding exceedsFrom denominator
   next-done e {after = after} done stepped scaled = path-done Next e
       (λ c p q fixed it fits.
       let n = g .variables in
-      let h = done .each c (it .0) q fixed (it .2) (subst (λ (p : PathFormula). exceedsFrom p (c .D) n ≡ false) (it .1) fits) in (
+      let h = done .each c (it .0) q fixed (it .2)
+      (subst (λ (p : PathFormula). exceedsFrom p (c .D) n ≡ false) (it .1) fits) in (
         h .0,
-        scaled ∙ one-mul (g .d ^ n) ∙ ap (λ (D : ℕ). D ^ n) (sym (fixed .sums)) ∙ ap (λ (p : PathFormula). denominator p (c .D) n) (sym (it .1)),
+        scaled ∙ one-mul (g .d ^ n) ∙ ap (λ (D : ℕ). D ^ n) (sym (fixed .sums)) ∙
+            ap (λ (p : PathFormula). denominator p (c .D) n) (sym (it .1)),
         subst (λ (p : PathFormula). Layer (c .N) n (numerator p c n) after) (sym (it .1))
             (to-chain fixed (next-layer (fixed .held) (it .0) (to-setting fixed (h .1)) stepped)),
       ))
 
-  pub until-done : (k1 k2 : ℕ) → nodeAt nodes at ≡ Until k1 k2 → {mid after : List ℕ} {r b : ℕ} → FormulasDone nodes g masks rows (at + 1) mid r →
-      UntilTaken rows (g .states) (g .variables) (g .tuples) (g .d) k1 k2 mid after → b ≡ 1 * g .d ^ (g .variables * k2) →
+  pub until-done : (k1 k2 : ℕ) → nodeAt nodes at ≡ Until k1 k2 → {mid after : List ℕ} {r b : ℕ} →
+      FormulasDone nodes g masks rows (at + 1) mid r →
+      UntilTaken rows (g .states) (g .variables) (g .tuples) (g .d) k1 k2 mid after →
+      b ≡ 1 * g .d ^ (g .variables * k2) →
       PathDone nodes g masks rows at after (record { next = r; bottom = b })
   unfolding exceedsFrom denominator
   until-done k1 k2 e {after = after} done taken scaled = path-done (Until k1 k2) e
       (λ c p q fixed it fits.
       let n = g .variables in
       let small = subst (λ (p : PathFormula). exceedsFrom p (c .D) n ≡ false) (it .3) fits in
-      let h = done .each c (it .0) (it .1) (it .2) q fixed (it .4) (it .5) (or-left (exceeds (it .0) (c .D) n) (exceeds (it .1) (c .D) n) small)
+      let h = done .each c (it .0) (it .1) (it .2) q fixed (it .4) (it .5)
+      (or-left (exceeds (it .0) (c .D) n) (exceeds (it .1) (c .D) n) small)
       (or-right (exceeds (it .0) (c .D) n) (exceeds (it .1) (c .D) n) small) in (
         h .0,
-        scaled ∙ one-mul (g .d ^ (n * k2)) ∙ ap (λ (D : ℕ). D ^ (n * k2)) (sym (fixed .sums)) ∙ ap (λ (p : PathFormula). denominator p (c .D) n) (sym (it .3)),
+        scaled ∙ one-mul (g .d ^ (n * k2)) ∙ ap (λ (D : ℕ). D ^ (n * k2)) (sym (fixed .sums)) ∙
+            ap (λ (p : PathFormula). denominator p (c .D) n) (sym (it .3)),
         subst (λ (p : PathFormula). Layer (c .N) n (numerator p c n) after) (sym (it .3))
-            (to-chain fixed (until-layer (fixed .held) (it .0) (to-setting fixed (h .1)) (it .1) (to-setting fixed (h .2)) (fixed .sums) taken)),
+            (to-chain fixed (until-layer (fixed .held) (it .0) (to-setting fixed (h .1)) (it .1)
+            (to-setting fixed (h .2)) (fixed .sums) taken)),
       ))
 
   -- no path stands at a node of another kind
-  pub no-path : (n : Node) → nodeAt nodes at ≡ n → ((p : PathFormula) (q : ℕ) → PathCase nodes at n p q → ⊥) → {after : List ℕ} {r : Valued} → PathDone nodes g masks rows at after r
+  pub no-path : (n : Node) → nodeAt nodes at ≡ n → ((p : PathFormula) (q : ℕ) → PathCase nodes at n p q → ⊥) →
+      {after : List ℕ} {r : Valued} → PathDone nodes g masks rows at after r
   no-path n e none = path-done n e (λ c p q fixed it fits. absurd (none p q it))

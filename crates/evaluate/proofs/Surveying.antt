@@ -8,11 +8,13 @@ use lib.Dec.{eqb}
 use Rattle.sentence.specs.declared.Relation as Spelled
 use Rattle.sentence.specs.declared.Slot.{Slot}
 use Rattle.sentence.specs.declared.Node.{Node}
-use Rattle.sentence.specs.declared.Node.the-variants.{True, Label, Not, And, Compare, Probability, Constant, Sum, Difference, Product, Next, Until}
+use Rattle.sentence.specs.declared.Node.the-variants.{True, Label, Not, And, Compare, Probability, Constant, Sum}
+use Rattle.sentence.specs.declared.Node.the-variants.{Difference, Product, Next, Until}
 use Rattle.meaning.specs.Tree.{Formula, Expression, PathFormula}
 use Rattle.trees.specs.Need.{paired, need, needIn, needFrom}
 use Rattle.trees.specs.Standing.{nodeAt, FormulaAt, ExpressionAt, PathAt}
-use Rattle.trees.proofs.Cases.{FormulaCase, ExpressionCase, PathCase, formula-case, expression-case, path-case, formula-place, expression-place, path-place}
+use Rattle.trees.proofs.Cases.{FormulaCase, ExpressionCase, PathCase, formula-case, expression-case, path-case}
+use Rattle.trees.proofs.Cases.{formula-place, expression-place, path-place}
 use Rattle.evaluate.specs.declared.survey.Extent.{Extent}
 use Rattle.evaluate.specs.Surveys.{Surveyed, SurveyedTwo}
 
@@ -35,7 +37,8 @@ module _ (slots : List Slot) (at : ℕ) (r : Extent) where
   by-node : (n : Node) → nodeAt slots at ≡ n → Bounded at r →
       ((f : Formula) (q : ℕ) → FormulaCase slots at n f q → (r .next ≡ q) × (r .layers ≡ need f)) →
       ((a : Expression) (q : ℕ) → ExpressionCase slots at n a q → (r .next ≡ q) × (r .layers ≡ needIn a)) →
-      ((w : PathFormula) (q : ℕ) → PathCase slots at n w q → (r .next ≡ q) × (r .layers ≡ needFrom w)) → Surveyed slots at r
+      ((w : PathFormula) (q : ℕ) → PathCase slots at n w q → (r .next ≡ q) × (r .layers ≡ needFrom w)) →
+      Surveyed slots at r
   by-node n e b f a w = record {
     forward = b .forward;
     within = b .within;
@@ -63,15 +66,18 @@ module _ (slots : List Slot) (at : ℕ) (r : Extent) where
 
       pub surveyed-true : nodeAt slots at ≡ True → Surveyed slots at r
       unfolding need
-      surveyed-true n = by-node True n leaf (λ f q w. (e ∙ sym (w .1), k ∙ ap need (sym (w .0)))) (λ a q w. absurd w) (λ a q w. absurd w)
+      surveyed-true n = by-node True n leaf (λ f q w. (e ∙ sym (w .1), k ∙ ap need (sym (w .0)))) (λ a q w. absurd w)
+          (λ a q w. absurd w)
 
       pub surveyed-label : (l i : ℕ) → nodeAt slots at ≡ Label l i → Surveyed slots at r
       unfolding need
-      surveyed-label l i n = by-node (Label l i) n leaf (λ f q w. (e ∙ sym (w .1), k ∙ ap need (sym (w .0)))) (λ a q w. absurd w) (λ a q w. absurd w)
+      surveyed-label l i n = by-node (Label l i) n leaf (λ f q w. (e ∙ sym (w .1), k ∙ ap need (sym (w .0))))
+          (λ a q w. absurd w) (λ a q w. absurd w)
 
       pub surveyed-constant : (a b : ℕ) → nodeAt slots at ≡ Constant a b → Surveyed slots at r
       unfolding needIn
-      surveyed-constant a b n = by-node (Constant a b) n leaf (λ f q w. absurd w) (λ a q w. (e ∙ sym (w .1), k ∙ ap needIn (sym (w .0)))) (λ a q w. absurd w)
+      surveyed-constant a b n = by-node (Constant a b) n leaf (λ f q w. absurd w)
+          (λ a q w. (e ∙ sym (w .1), k ∙ ap needIn (sym (w .0)))) (λ a q w. absurd w)
 
     module _ (s : Surveyed slots (at + 1) r) where
       one : Bounded at r
@@ -146,7 +152,8 @@ module _ (slots : List Slot) (at : ℕ) (r : Extent) where
 
 -- an until computes in a third layer
 pub surveyed-until : (slots : List Slot) (at : ℕ) (t r : Extent) → at < 64 → SurveyedTwo slots (at + 1) t →
-    r .next ≡ t .next → r .layers ≡ max 3 (t .layers) → (k1 k2 : ℕ) → nodeAt slots at ≡ Until k1 k2 → Surveyed slots at r
+    r .next ≡ t .next → r .layers ≡ max 3 (t .layers) → (k1 k2 : ℕ) → nodeAt slots at ≡ Until k1 k2 →
+    Surveyed slots at r
 unfolding needFrom
 surveyed-until slots at t r room s e k k1 k2 n = by-node slots at r (Until k1 k2) n
     (record { forward = omega arith; within = omega arith; few = omega arith })

@@ -29,14 +29,16 @@ swapping-none = record {
   beyond = λ j h. refl;
 }
 
-module _ {T : ℕ} {before after : List ℕ} {i : ℕ} (h : Swapping T before i after) (less : i < T) (room : T + T ≤ length before) where
+module _ {T : ℕ} {before after : List ℕ} {i : ℕ} (h : Swapping T before i after) (less : i < T)
+    (room : T + T ≤ length before) where
   now : List ℕ
   now = set (set after i (getD after (T + i) 0)) (T + i) (getD after i 0)
 
   -- a number that is neither of the two stays
   stays : (k : ℕ) → (k ≡ i → ⊥) → (k ≡ T + i → ⊥) → getD now k 0 ≡ getD after k 0
   unfolding now
-  stays k p q = getD-set-other (set after i (getD after (T + i) 0)) (T + i) k (getD after i 0) 0 q ∙ getD-set-other after i k (getD after (T + i) 0) 0 p
+  stays k p q = getD-set-other (set after i (getD after (T + i) 0)) (T + i) k (getD after i 0) 0 q ∙
+      getD-set-other after i k (getD after (T + i) 0) 0 p
 
   here : getD now i 0 ≡ getD before (T + i) 0
   unfolding now
@@ -50,13 +52,15 @@ module _ {T : ℕ} {before after : List ℕ} {i : ℕ} (h : Swapping T before i 
   there =
       let long = h .long in
       let l = length-set after i (getD after (T + i) 0) in
-      getD-set-same (set after i (getD after (T + i) 0)) (T + i) (getD after i 0) 0 (omega arith) ∙ h .ahead i (omega arith) less
+      getD-set-same (set after i (getD after (T + i) 0)) (T + i) (getD after i 0) 0 (omega arith) ∙
+      h .ahead i (omega arith) less
 
   pub swapping-next : Swapping T before (i + 1) (set (set after i (getD after (T + i) 0)) (T + i) (getD after i 0))
   unfolding now
   swapping-next = record {
     upTo = omega arith;
-    long = length-set (set after i (getD after (T + i) 0)) (T + i) (getD after i 0) ∙ length-set after i (getD after (T + i) 0) ∙ h .long;
+    long = length-set (set after i (getD after (T + i) 0)) (T + i) (getD after i 0) ∙
+        length-set after i (getD after (T + i) 0) ∙ h .long;
     first = λ j l. go-first j l (decLt j i);
     second = λ j l. go-second j l (decLt j i);
     ahead = λ j p l. stays j (λ e. omega arith) (λ e. omega arith) ∙ h .ahead j (omega arith) l;
@@ -76,7 +80,12 @@ module _ {T : ℕ} {before after : List ℕ} {i : ℕ} (h : Swapping T before i 
           subst (λ (j : ℕ). getD now (T + j) 0 ≡ getD before j 0) e there
 
 pub swapping-all : {T i : ℕ} {before after : List ℕ} → Swapping T before i after → T ≤ i → Swapped T before after
-swapping-all h done = record { long = h .long; first = λ k l. h .first k (omega arith); second = λ k l. h .second k (omega arith) }
+swapping-all h done = record {
+  long = h .long;
+  first = λ k l. h .first k (omega arith);
+  second = λ k l. h .second k
+      (omega arith);
+}
 
 -- what the layers hold has changed places with them
 module _ {N n T : ℕ} {before after : List ℕ} (few : (k : ℕ) → k < N ^ n → k < T) (s : Swapped T before after) where

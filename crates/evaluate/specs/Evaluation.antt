@@ -1,5 +1,5 @@
--- What evaluating a tree's nodes asks and leaves: the front layer of the work area holds, at every tuple, the meaning's own
--- function of the tree that stands at the place.
+-- What evaluating a tree's nodes asks and leaves: the front layer of the work area holds, at every tuple, the meaning's
+-- own function of the tree that stands at the place.
 use Prim.Native.Nat.{ℕ, _+_, _*_, _^_, _≤_, _<_}
 use mathlib.Core.Bool.{Bool, false}
 use mathlib.Core.List.{List}
@@ -61,8 +61,8 @@ pub record LabelDone (g : Setting) (masks : List ℕ) (l variable : ℕ) (after 
       Layer (g .states) (g .variables) (truth (hasLabel c l variable)) after
 
 module _ (nodes : List Slot) (g : Setting) (masks : List ℕ) (rows : List (List ℕ)) where
-  -- a tree of each kind stands at the place; its numbers are in their ranges, the size rule does not refuse it, and there
-  -- is room for the layers that it needs
+  -- a tree of each kind stands at the place; its numbers are in their ranges, the size rule does not refuse it, and
+  -- there is room for the layers that it needs
   pub record FormulaReady (at : ℕ) (w : List ℕ) : Type 0 where
     pub chain : Chain
     pub fixed : Fixed chain masks rows g
@@ -137,21 +137,25 @@ module _ (nodes : List Slot) (g : Setting) (masks : List ℕ) (rows : List (List
   pub record ExpressionDone (at : ℕ) (after : List ℕ) (r : Valued) : Type 0 where
     pub each : (c : Chain) (a : Expression) (q : ℕ) → Fixed c masks rows g → ExpressionAt nodes at a q →
         exceedsIn a (c .D) (g .variables) ≡ false →
-        (r .next ≡ q) × (r .bottom ≡ size a (c .D) (g .variables) .d) × Layer (c .N) (g .variables) (numerators a c (g .variables)) after
+        (r .next ≡ q) × (r .bottom ≡ size a (c .D) (g .variables) .d) ×
+        Layer (c .N) (g .variables) (numerators a c (g .variables)) after
 
   pub record PathDone (at : ℕ) (after : List ℕ) (r : Valued) : Type 0 where
     pub each : (c : Chain) (w : PathFormula) (q : ℕ) → Fixed c masks rows g → PathAt nodes at w q →
         exceedsFrom w (c .D) (g .variables) ≡ false →
-        (r .next ≡ q) × (r .bottom ≡ denominator w (c .D) (g .variables)) × Layer (c .N) (g .variables) (numerator w c (g .variables)) after
+        (r .next ≡ q) × (r .bottom ≡ denominator w (c .D) (g .variables)) ×
+        Layer (c .N) (g .variables) (numerator w c (g .variables)) after
 
   pub record FormulasDone (at : ℕ) (after : List ℕ) (r : ℕ) : Type 0 where
-    pub each : (c : Chain) (f h : Formula) (m q : ℕ) → Fixed c masks rows g → FormulaAt nodes at f m → FormulaAt nodes m h q →
+    pub each : (c : Chain) (f h : Formula) (m q : ℕ) → Fixed c masks rows g → FormulaAt nodes at f m →
+        FormulaAt nodes m h q →
         exceeds f (c .D) (g .variables) ≡ false → exceeds h (c .D) (g .variables) ≡ false →
         (r ≡ q) × Layer (c .N) (g .variables) (truth (λ t. holds f c (g .variables) t)) after ×
         Layer (c .N) (g .variables) (truth (λ t. holds h c (g .variables) t)) (drop (g .tuples) after)
 
   pub record ExpressionsDone (at : ℕ) (after : List ℕ) (r : ValuedTwo) : Type 0 where
-    pub each : (c : Chain) (a b : Expression) (m q : ℕ) → Fixed c masks rows g → ExpressionAt nodes at a m → ExpressionAt nodes m b q →
+    pub each : (c : Chain) (a b : Expression) (m q : ℕ) → Fixed c masks rows g → ExpressionAt nodes at a m →
+        ExpressionAt nodes m b q →
         exceedsIn a (c .D) (g .variables) ≡ false → exceedsIn b (c .D) (g .variables) ≡ false →
         (r .next ≡ q) × (r .first ≡ size a (c .D) (g .variables) .d) × (r .second ≡ size b (c .D) (g .variables) .d) ×
         Layer (c .N) (g .variables) (numerators a c (g .variables)) after ×
@@ -164,7 +168,8 @@ module _ (op : Operation) (nodes : List Slot) (g : Setting) (masks : List ℕ) (
     pub fits : exceedsIn (expressionOf op (two .first) (two .second)) (two .chain .D) (g .variables) ≡ false
 
   pub record CombinedDone (at : ℕ) (after : List ℕ) (r : Valued) : Type 0 where
-    pub each : (c : Chain) (a b : Expression) (m q : ℕ) → Fixed c masks rows g → ExpressionAt nodes at a m → ExpressionAt nodes m b q →
+    pub each : (c : Chain) (a b : Expression) (m q : ℕ) → Fixed c masks rows g → ExpressionAt nodes at a m →
+        ExpressionAt nodes m b q →
         exceedsIn (expressionOf op a b) (c .D) (g .variables) ≡ false →
         (r .next ≡ q) × (r .bottom ≡ size (expressionOf op a b) (c .D) (g .variables) .d) ×
         Layer (c .N) (g .variables) (numerators (expressionOf op a b) c (g .variables)) after

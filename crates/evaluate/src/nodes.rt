@@ -178,18 +178,18 @@ fn two_expressions(
     ensures { λ r. ⌜ ExpressionsDone nodes g (now (masks .entry)) (now (rows .entry)) at (now (work .exit)) r ⌝ }
 {
     let tuples = g.tuples;
-    let first = survey(nodes, at);
-    let second = survey(nodes, first.next);
-    if second.layers <= first.layers {
+    let left = survey(nodes, at);
+    let right = survey(nodes, left.next);
+    if right.layers <= left.layers {
         let one = expression(nodes, g, masks, rows, at, work);
-        let other = expression(nodes, g, masks, rows, first.next, &mut work[tuples..]);
+        let other = expression(nodes, g, masks, rows, left.next, &mut work[tuples..]);
         return ValuedTwo {
             next: other.next,
             first: one.bottom,
             second: other.bottom,
         };
     }
-    let other = expression(nodes, g, masks, rows, first.next, work);
+    let other = expression(nodes, g, masks, rows, left.next, work);
     let one = expression(nodes, g, masks, rows, at, &mut work[tuples..]);
     swap(tuples, work);
     ValuedTwo {

@@ -1,16 +1,25 @@
--- Evaluation meets its contracts, node by node: what the operands are evaluated with, and what the call at the node leaves,
--- are laws about lists and records. The measure is the number of places left, counted three times.
+-- Evaluation meets its contracts, node by node: what the operands are evaluated with, and what the call at the node
+-- leaves, are laws about lists and records. The measure is the number of places left, counted three times.
 use borrow.Author.Needs.{needs}
 use native.Mathlib.Nat.{le-refl}
 use Rattle.layers.proofs.Tails.{put-back}
-use Rattle.evaluate.proofs.Expressions.{expression-inside, expression-room, probability-ready, sum-ready, difference-ready, product-ready}
-use Rattle.evaluate.proofs.Expressions.{combining-ready, bottoms-small, combined-done, probability-done, constant-done, sum-done, difference-done, product-done, no-expression}
-use Rattle.evaluate.proofs.Formulas.{formula-inside, formula-room, label-ready, not-ready, and-ready, compare-ready, comparing-ready}
+use Rattle.evaluate.proofs.Expressions.{expression-inside, expression-room, probability-ready, sum-ready}
+use Rattle.evaluate.proofs.Expressions.{difference-ready, product-ready}
+use Rattle.evaluate.proofs.Expressions.{combining-ready, bottoms-small, combined-done, probability-done}
+use Rattle.evaluate.proofs.Expressions.{constant-done, sum-done, difference-done, product-done, no-expression}
+use Rattle.evaluate.proofs.Formulas.{formula-inside, formula-room, label-ready, not-ready, and-ready}
+use Rattle.evaluate.proofs.Formulas.{compare-ready, comparing-ready}
 use Rattle.evaluate.proofs.Formulas.{true-done, label-done, not-done, and-done, compare-done, no-formula}
-use Rattle.evaluate.proofs.Operands.{formulas-inside, formulas-room, first-formula-whole, second-formula-whole, first-formula-past, second-formula-past, formulas-in-order, formulas-crossed}
-use Rattle.evaluate.proofs.Operands.{expressions-inside, expressions-room, first-expression-whole, second-expression-whole, first-expression-past, second-expression-past, expressions-in-order, expressions-crossed}
-use Rattle.evaluate.proofs.Pathways.{path-inside, next-ready, next-scales, stepping-ready, until-ready, until-times, until-scales, taking-ready, next-done, until-done, no-path}
-use Rattle.evaluate.proofs.Places.{to-operand, to-operands, to-operation, to-each, place-most, next-fits, place-fits, small-fits, times-fit, room-kept, front-kept}
+use Rattle.evaluate.proofs.Operands.{formulas-inside, formulas-room, first-formula-whole, second-formula-whole}
+use Rattle.evaluate.proofs.Operands.{first-formula-past, second-formula-past, formulas-in-order}
+use Rattle.evaluate.proofs.Operands.{formulas-crossed}
+use Rattle.evaluate.proofs.Operands.{expressions-inside, expressions-room, first-expression-whole}
+use Rattle.evaluate.proofs.Operands.{second-expression-whole, first-expression-past, second-expression-past}
+use Rattle.evaluate.proofs.Operands.{expressions-in-order, expressions-crossed}
+use Rattle.evaluate.proofs.Pathways.{path-inside, next-ready, next-scales, stepping-ready, until-ready}
+use Rattle.evaluate.proofs.Pathways.{until-times, until-scales, taking-ready, next-done, until-done, no-path}
+use Rattle.evaluate.proofs.Places.{to-operand, to-operands, to-operation, to-each, place-most, next-fits}
+use Rattle.evaluate.proofs.Places.{place-fits, small-fits, times-fit, room-kept, front-kept}
 use Prim.Native.Nat.{ℕ, _+_, _-_, _*_, _<_}
 use borrow.Fn.Kinds.{In}
 use borrow.Fn.PlainCycle.{Measures, is, falls, and}
@@ -22,7 +31,8 @@ use Rattle.evaluate.proofs.nodes.expression.Kinds as expression-kinds
 use Rattle.evaluate.proofs.nodes.+combined+expression+path+state_formula+two_expressions+two_formulas.Lts-expression as expression-lts
 use Rattle.evaluate.proofs.nodes.path.Reads as path
 use Rattle.evaluate.proofs.nodes.path.Kinds as path-kinds
-use Rattle.evaluate.proofs.nodes.+combined+expression+path+state_formula+two_expressions+two_formulas.Lts-path as path-lts
+use Rattle.evaluate.proofs.nodes.+combined+expression+path+state_formula+two_expressions+two_formulas.Lts-path as
+    path-lts
 use Rattle.evaluate.proofs.nodes.state_formula.Reads as state-formula
 use Rattle.evaluate.proofs.nodes.state_formula.Kinds as state-formula-kinds
 use Rattle.evaluate.proofs.nodes.+combined+expression+path+state_formula+two_expressions+two_formulas.Lts-state_formula as state-formula-lts
@@ -136,43 +146,104 @@ abbrev combined-claims : ℕ → combined-lts.Claims
 combined-claims t = (two-expressions-below t, two-expressions.Post, combine-reads.Asked, combine-reads.Learnt)
 
 abbrev expression-claims : ℕ → expression-lts.Claims
-expression-claims t = (path-below t, path.Post, constant-reads.Asked, constant-reads.Learnt, combined-below t, combined.Post, nothing-reads.Asked, nothing-reads.Learnt)
+expression-claims t = (
+  path-below t,
+  path.Post,
+  constant-reads.Asked,
+  constant-reads.Learnt,
+  combined-below t,
+  combined.Post,
+  nothing-reads.Asked,
+  nothing-reads.Learnt,
+)
 
 abbrev path-claims : ℕ → path-lts.Claims
-path-claims t = (state-formula-below t, state-formula.Post, joint-step-reads.Asked, joint-step-reads.Learnt, scaled-reads.Asked, scaled-reads.Learnt, two-formulas-below t, two-formulas.Post, until-reads.Asked, until-reads.Learnt, nothing-reads.Asked, nothing-reads.Learnt)
+path-claims t = (
+  state-formula-below t,
+  state-formula.Post,
+  joint-step-reads.Asked,
+  joint-step-reads.Learnt,
+  scaled-reads.Asked,
+  scaled-reads.Learnt,
+  two-formulas-below t,
+  two-formulas.Post,
+  until-reads.Asked,
+  until-reads.Learnt,
+  nothing-reads.Asked,
+  nothing-reads.Learnt,
+)
 
 abbrev state-formula-claims : ℕ → state-formula-lts.Claims
-state-formula-claims t = (always-reads.Asked, always-reads.Learnt, label-reads.Asked, label-reads.Learnt, state-formula-below t, state-formula.Post, negated-reads.Asked, negated-reads.Learnt, two-formulas-below t, two-formulas.Post, both-reads.Asked, both-reads.Learnt, two-expressions-below t, two-expressions.Post, relation-of-reads.Asked, relation-of-reads.Learnt, compare-reads.Asked, compare-reads.Learnt)
+state-formula-claims t = (
+  always-reads.Asked,
+  always-reads.Learnt,
+  label-reads.Asked,
+  label-reads.Learnt,
+  state-formula-below t,
+  state-formula.Post,
+  negated-reads.Asked,
+  negated-reads.Learnt,
+  two-formulas-below t,
+  two-formulas.Post,
+  both-reads.Asked,
+  both-reads.Learnt,
+  two-expressions-below t,
+  two-expressions.Post,
+  relation-of-reads.Asked,
+  relation-of-reads.Learnt,
+  compare-reads.Asked,
+  compare-reads.Learnt,
+)
 
 abbrev two-expressions-claims : ℕ → two-expressions-lts.Claims
-two-expressions-claims t = (survey-reads.Asked, survey-reads.Learnt, expression-below t, expression.Post, swap-reads.Asked, swap-reads.Learnt)
+two-expressions-claims t = (
+  survey-reads.Asked,
+  survey-reads.Learnt,
+  expression-below t,
+  expression.Post,
+  swap-reads.Asked,
+  swap-reads.Learnt,
+)
 
 abbrev two-formulas-claims : ℕ → two-formulas-lts.Claims
-two-formulas-claims t = (survey-reads.Asked, survey-reads.Learnt, state-formula-below t, state-formula.Post, swap-reads.Asked, swap-reads.Learnt)
+two-formulas-claims t = (
+  survey-reads.Asked,
+  survey-reads.Learnt,
+  state-formula-below t,
+  state-formula.Post,
+  swap-reads.Asked,
+  swap-reads.Learnt,
+)
 
-combined-two-expressions-requires : (t : ℕ) → combined-lts.Need-two-expressions-requires (combined-claims t) (combined-at t) combined.Post
+combined-two-expressions-requires : (t : ℕ) → combined-lts.Need-two-expressions-requires (combined-claims t)
+    (combined-at t) combined.Post
 combined-two-expressions-requires t c κs = search needs
 
-combined-combine-requires : (t : ℕ) → combined-lts.Need-combine-requires (combined-claims t) (combined-at t) combined.Post
+combined-combine-requires : (t : ℕ) → combined-lts.Need-combine-requires (combined-claims t) (combined-at t)
+    combined.Post
 combined-combine-requires t c κs =
     let two = c .before .before .before .two-expressions in
-    combining-ready (two .ensures) (c .before .before .before .before .before .before .pre .1) (two .kept .1 .1 .1 .1 .1 .0)
+    combining-ready (two .ensures) (c .before .before .before .before .before .before .pre .1)
+    (two .kept .1 .1 .1 .1 .1 .0)
 
 combined-mul-t14 : (t : ℕ) → combined-lts.Need-mul-t14 (combined-claims t) (combined-at t) combined.Post
 combined-mul-t14 t c =
-    small-fits _ (bottoms-small (c .before .before .before .before .before .before .before .two-expressions .ensures) (c .before .before .before .before .before .before .before .before .before .before .pre .1))
+    small-fits _ (bottoms-small (c .before .before .before .before .before .before .before .two-expressions .ensures)
+    (c .before .before .before .before .before .before .before .before .before .before .pre .1))
 
 combined-same-length : (t : ℕ) → combined-lts.Need-same-length (combined-claims t) (combined-at t) combined.Post
 combined-same-length t c = search needs
 
 combined-returns : (t : ℕ) → combined-lts.Need-returns (combined-claims t) (combined-at t) combined.Post
 combined-returns t c =
-    combined-done (c .before .before .before .before .before .before .before .two-expressions .ensures) (c .before .before .before .combine .ensures)
+    combined-done (c .before .before .before .before .before .before .before .two-expressions .ensures)
+    (c .before .before .before .combine .ensures)
 
 expression-mul-slot : (t : ℕ) → expression-lts.Need-mul-slot (expression-claims t) (expression-at t) expression.Post
 expression-mul-slot t c = place-fits (c .before .args .at) (expression-inside (c .before .pre .1))
 
-expression-array-copy-out-slot : (t : ℕ) → expression-lts.Need-array-copy-out-slot (expression-claims t) (expression-at t) expression.Post
+expression-array-copy-out-slot : (t : ℕ) → expression-lts.Need-array-copy-out-slot (expression-claims t)
+    (expression-at t) expression.Post
 expression-array-copy-out-slot t c = expression-inside (c .before .pre .1)
 
 expression-enum-told : (t : ℕ) → expression-lts.Need-enum-told (expression-claims t) (expression-at t) expression.Post
@@ -183,18 +254,24 @@ expression-add-path t c =
     let start = c .before .before .before .before in
     next-fits (start .args .at) (expression-inside (start .pre .1))
 
-expression-path-requires : (t : ℕ) → expression-lts.Need-path-requires (expression-claims t) (expression-at t) expression.Post
+expression-path-requires : (t : ℕ) → expression-lts.Need-path-requires (expression-claims t) (expression-at t)
+    expression.Post
 expression-path-requires t c κs =
-    let start = c .before .before .before .before .before in
-    (to-operand (start .args .at) t (expression-inside (start .pre .1)) (start .pre .0), probability-ready (start .pre .1) (c .before .enum-told .given .1))
+    let start = c .before .before .before .before .before in (
+      to-operand (start .args .at) t (expression-inside (start .pre .1)) (start .pre .0),
+      probability-ready (start .pre .1) (c .before .enum-told .given .1),
+    )
 
-expression-enum-known-node : (t : ℕ) → expression-lts.Need-enum-known-node (expression-claims t) (expression-at t) expression.Post
+expression-enum-known-node : (t : ℕ) → expression-lts.Need-enum-known-node (expression-claims t) (expression-at t)
+    expression.Post
 expression-enum-known-node t c = search needs
 
-expression-cast-constant : (t : ℕ) → expression-lts.Need-cast-constant (expression-claims t) (expression-at t) expression.Post
+expression-cast-constant : (t : ℕ) → expression-lts.Need-cast-constant (expression-claims t) (expression-at t)
+    expression.Post
 expression-cast-constant t c = search needs
 
-expression-constant-requires : (t : ℕ) → expression-lts.Need-constant-requires (expression-claims t) (expression-at t) expression.Post
+expression-constant-requires : (t : ℕ) → expression-lts.Need-constant-requires (expression-claims t) (expression-at t)
+    expression.Post
 expression-constant-requires t c κs = expression-room (c .before .before .before .before .before .before .pre .1)
 
 expression-add-t25 : (t : ℕ) → expression-lts.Need-add-t25 (expression-claims t) (expression-at t) expression.Post
@@ -205,95 +282,126 @@ expression-add-t25 t c =
 expression-cast-t22 : (t : ℕ) → expression-lts.Need-cast-t22 (expression-claims t) (expression-at t) expression.Post
 expression-cast-t22 t c = search needs
 
-expression-enum-told-2 : (t : ℕ) → expression-lts.Need-enum-told-2 (expression-claims t) (expression-at t) expression.Post
+expression-enum-told-2 : (t : ℕ) → expression-lts.Need-enum-told-2 (expression-claims t) (expression-at t)
+    expression.Post
 expression-enum-told-2 t c = search needs
 
-expression-add-combined : (t : ℕ) → expression-lts.Need-add-combined (expression-claims t) (expression-at t) expression.Post
+expression-add-combined : (t : ℕ) → expression-lts.Need-add-combined (expression-claims t) (expression-at t)
+    expression.Post
 expression-add-combined t c =
     let start = c .before .before .before .before in
     next-fits (start .args .at) (expression-inside (start .pre .1))
 
-expression-combined-requires : (t : ℕ) → expression-lts.Need-combined-requires (expression-claims t) (expression-at t) expression.Post
+expression-combined-requires : (t : ℕ) → expression-lts.Need-combined-requires (expression-claims t) (expression-at t)
+    expression.Post
 expression-combined-requires t c κs =
-    let start = c .before .before .before .before .before in
-    (to-operation (start .args .at) t (expression-inside (start .pre .1)) (start .pre .0), sum-ready (start .pre .1) (c .before .enum-told2 .given .1))
+    let start = c .before .before .before .before .before in (
+      to-operation (start .args .at) t (expression-inside (start .pre .1)) (start .pre .0),
+      sum-ready (start .pre .1) (c .before .enum-told2 .given .1),
+    )
 
-expression-enum-told-3 : (t : ℕ) → expression-lts.Need-enum-told-3 (expression-claims t) (expression-at t) expression.Post
+expression-enum-told-3 : (t : ℕ) → expression-lts.Need-enum-told-3 (expression-claims t) (expression-at t)
+    expression.Post
 expression-enum-told-3 t c = search needs
 
-expression-add-combined-2 : (t : ℕ) → expression-lts.Need-add-combined-2 (expression-claims t) (expression-at t) expression.Post
+expression-add-combined-2 : (t : ℕ) → expression-lts.Need-add-combined-2 (expression-claims t) (expression-at t)
+    expression.Post
 expression-add-combined-2 t c =
     let start = c .before .before .before .before in
     next-fits (start .args .at) (expression-inside (start .pre .1))
 
-expression-combined-requires-2 : (t : ℕ) → expression-lts.Need-combined-requires-2 (expression-claims t) (expression-at t) expression.Post
+expression-combined-requires-2 : (t : ℕ) → expression-lts.Need-combined-requires-2 (expression-claims t)
+    (expression-at t) expression.Post
 expression-combined-requires-2 t c κs =
-    let start = c .before .before .before .before .before in
-    (to-operation (start .args .at) t (expression-inside (start .pre .1)) (start .pre .0), difference-ready (start .pre .1) (c .before .enum-told3 .given .1))
+    let start = c .before .before .before .before .before in (
+      to-operation (start .args .at) t (expression-inside (start .pre .1)) (start .pre .0),
+      difference-ready (start .pre .1) (c .before .enum-told3 .given .1),
+    )
 
-expression-enum-told-4 : (t : ℕ) → expression-lts.Need-enum-told-4 (expression-claims t) (expression-at t) expression.Post
+expression-enum-told-4 : (t : ℕ) → expression-lts.Need-enum-told-4 (expression-claims t) (expression-at t)
+    expression.Post
 expression-enum-told-4 t c = search needs
 
-expression-add-combined-3 : (t : ℕ) → expression-lts.Need-add-combined-3 (expression-claims t) (expression-at t) expression.Post
+expression-add-combined-3 : (t : ℕ) → expression-lts.Need-add-combined-3 (expression-claims t) (expression-at t)
+    expression.Post
 expression-add-combined-3 t c =
     let start = c .before .before .before .before in
     next-fits (start .args .at) (expression-inside (start .pre .1))
 
-expression-combined-requires-3 : (t : ℕ) → expression-lts.Need-combined-requires-3 (expression-claims t) (expression-at t) expression.Post
+expression-combined-requires-3 : (t : ℕ) → expression-lts.Need-combined-requires-3 (expression-claims t)
+    (expression-at t) expression.Post
 expression-combined-requires-3 t c κs =
-    let start = c .before .before .before .before .before in
-    (to-operation (start .args .at) t (expression-inside (start .pre .1)) (start .pre .0), product-ready (start .pre .1) (c .before .enum-told4 .given .1))
+    let start = c .before .before .before .before .before in (
+      to-operation (start .args .at) t (expression-inside (start .pre .1)) (start .pre .0),
+      product-ready (start .pre .1) (c .before .enum-told4 .given .1),
+    )
 
-expression-enum-told-5 : (t : ℕ) → expression-lts.Need-enum-told-5 (expression-claims t) (expression-at t) expression.Post
+expression-enum-told-5 : (t : ℕ) → expression-lts.Need-enum-told-5 (expression-claims t) (expression-at t)
+    expression.Post
 expression-enum-told-5 t c = search needs
 
-expression-nothing-requires : (t : ℕ) → expression-lts.Need-nothing-requires (expression-claims t) (expression-at t) expression.Post
+expression-nothing-requires : (t : ℕ) → expression-lts.Need-nothing-requires (expression-claims t) (expression-at t)
+    expression.Post
 expression-nothing-requires t c κs = search needs
 
-expression-enum-told-6 : (t : ℕ) → expression-lts.Need-enum-told-6 (expression-claims t) (expression-at t) expression.Post
+expression-enum-told-6 : (t : ℕ) → expression-lts.Need-enum-told-6 (expression-claims t) (expression-at t)
+    expression.Post
 expression-enum-told-6 t c = search needs
 
-expression-nothing-requires-2 : (t : ℕ) → expression-lts.Need-nothing-requires-2 (expression-claims t) (expression-at t) expression.Post
+expression-nothing-requires-2 : (t : ℕ) → expression-lts.Need-nothing-requires-2 (expression-claims t) (expression-at t)
+    expression.Post
 expression-nothing-requires-2 t c κs = search needs
 
-expression-enum-told-7 : (t : ℕ) → expression-lts.Need-enum-told-7 (expression-claims t) (expression-at t) expression.Post
+expression-enum-told-7 : (t : ℕ) → expression-lts.Need-enum-told-7 (expression-claims t) (expression-at t)
+    expression.Post
 expression-enum-told-7 t c = search needs
 
-expression-nothing-requires-3 : (t : ℕ) → expression-lts.Need-nothing-requires-3 (expression-claims t) (expression-at t) expression.Post
+expression-nothing-requires-3 : (t : ℕ) → expression-lts.Need-nothing-requires-3 (expression-claims t) (expression-at t)
+    expression.Post
 expression-nothing-requires-3 t c κs = search needs
 
-expression-enum-told-8 : (t : ℕ) → expression-lts.Need-enum-told-8 (expression-claims t) (expression-at t) expression.Post
+expression-enum-told-8 : (t : ℕ) → expression-lts.Need-enum-told-8 (expression-claims t) (expression-at t)
+    expression.Post
 expression-enum-told-8 t c = search needs
 
-expression-nothing-requires-4 : (t : ℕ) → expression-lts.Need-nothing-requires-4 (expression-claims t) (expression-at t) expression.Post
+expression-nothing-requires-4 : (t : ℕ) → expression-lts.Need-nothing-requires-4 (expression-claims t) (expression-at t)
+    expression.Post
 expression-nothing-requires-4 t c κs = search needs
 
-expression-enum-told-9 : (t : ℕ) → expression-lts.Need-enum-told-9 (expression-claims t) (expression-at t) expression.Post
+expression-enum-told-9 : (t : ℕ) → expression-lts.Need-enum-told-9 (expression-claims t) (expression-at t)
+    expression.Post
 expression-enum-told-9 t c = search needs
 
-expression-nothing-requires-5 : (t : ℕ) → expression-lts.Need-nothing-requires-5 (expression-claims t) (expression-at t) expression.Post
+expression-nothing-requires-5 : (t : ℕ) → expression-lts.Need-nothing-requires-5 (expression-claims t) (expression-at t)
+    expression.Post
 expression-nothing-requires-5 t c κs = search needs
 
-expression-enum-told-10 : (t : ℕ) → expression-lts.Need-enum-told-10 (expression-claims t) (expression-at t) expression.Post
+expression-enum-told-10 : (t : ℕ) → expression-lts.Need-enum-told-10 (expression-claims t) (expression-at t)
+    expression.Post
 expression-enum-told-10 t c = search needs
 
-expression-nothing-requires-6 : (t : ℕ) → expression-lts.Need-nothing-requires-6 (expression-claims t) (expression-at t) expression.Post
+expression-nothing-requires-6 : (t : ℕ) → expression-lts.Need-nothing-requires-6 (expression-claims t) (expression-at t)
+    expression.Post
 expression-nothing-requires-6 t c κs = search needs
 
-expression-enum-told-11 : (t : ℕ) → expression-lts.Need-enum-told-11 (expression-claims t) (expression-at t) expression.Post
+expression-enum-told-11 : (t : ℕ) → expression-lts.Need-enum-told-11 (expression-claims t) (expression-at t)
+    expression.Post
 expression-enum-told-11 t c = search needs
 
-expression-nothing-requires-7 : (t : ℕ) → expression-lts.Need-nothing-requires-7 (expression-claims t) (expression-at t) expression.Post
+expression-nothing-requires-7 : (t : ℕ) → expression-lts.Need-nothing-requires-7 (expression-claims t) (expression-at t)
+    expression.Post
 expression-nothing-requires-7 t c κs = search needs
 
-expression-same-length : (t : ℕ) → expression-lts.Need-same-length (expression-claims t) (expression-at t) expression.Post
+expression-same-length : (t : ℕ) → expression-lts.Need-same-length (expression-claims t) (expression-at t)
+    expression.Post
 expression-same-length t c = search needs
 
 expression-returns : (t : ℕ) → expression-lts.Need-returns (expression-claims t) (expression-at t) expression.Post
 expression-returns t c =
     probability-done (c .before .before .before .before .enum-told .given .1) (c .before .before .path .ensures)
 
-expression-same-length-2 : (t : ℕ) → expression-lts.Need-same-length-2 (expression-claims t) (expression-at t) expression.Post
+expression-same-length-2 : (t : ℕ) → expression-lts.Need-same-length-2 (expression-claims t) (expression-at t)
+    expression.Post
 expression-same-length-2 t c = search needs
 
 expression-returns-2 : (t : ℕ) → expression-lts.Need-returns-2 (expression-claims t) (expression-at t) expression.Post
@@ -301,21 +409,24 @@ expression-returns-2 t c =
     let node = c .before .before .before .before .before .node .given in
     constant-done (node .0 .0) (node .0 .1 .0) (node .1) (c .before .before .constant .ensures)
 
-expression-same-length-3 : (t : ℕ) → expression-lts.Need-same-length-3 (expression-claims t) (expression-at t) expression.Post
+expression-same-length-3 : (t : ℕ) → expression-lts.Need-same-length-3 (expression-claims t) (expression-at t)
+    expression.Post
 expression-same-length-3 t c = search needs
 
 expression-returns-3 : (t : ℕ) → expression-lts.Need-returns-3 (expression-claims t) (expression-at t) expression.Post
 expression-returns-3 t c =
     sum-done (c .before .before .before .before .enum-told2 .given .1) (c .before .before .combined .ensures)
 
-expression-same-length-4 : (t : ℕ) → expression-lts.Need-same-length-4 (expression-claims t) (expression-at t) expression.Post
+expression-same-length-4 : (t : ℕ) → expression-lts.Need-same-length-4 (expression-claims t) (expression-at t)
+    expression.Post
 expression-same-length-4 t c = search needs
 
 expression-returns-4 : (t : ℕ) → expression-lts.Need-returns-4 (expression-claims t) (expression-at t) expression.Post
 expression-returns-4 t c =
     difference-done (c .before .before .before .before .enum-told3 .given .1) (c .before .before .combined2 .ensures)
 
-expression-same-length-5 : (t : ℕ) → expression-lts.Need-same-length-5 (expression-claims t) (expression-at t) expression.Post
+expression-same-length-5 : (t : ℕ) → expression-lts.Need-same-length-5 (expression-claims t) (expression-at t)
+    expression.Post
 expression-same-length-5 t c = search needs
 
 expression-returns-5 : (t : ℕ) → expression-lts.Need-returns-5 (expression-claims t) (expression-at t) expression.Post
@@ -359,17 +470,22 @@ path-add-state-formula t c =
 
 path-state-formula-requires : (t : ℕ) → path-lts.Need-state-formula-requires (path-claims t) (path-at t) path.Post
 path-state-formula-requires t c κs =
-    let start = c .before .before .before .before .before in
-    (to-operand (start .args .at) t (path-inside (start .pre .1)) (start .pre .0), next-ready (start .pre .1) (c .before .enum-told .given .1))
+    let start = c .before .before .before .before .before in (
+      to-operand (start .args .at) t (path-inside (start .pre .1)) (start .pre .0),
+      next-ready (start .pre .1) (c .before .enum-told .given .1),
+    )
 
 path-joint-step-requires : (t : ℕ) → path-lts.Need-joint-step-requires (path-claims t) (path-at t) path.Post
 path-joint-step-requires t c κs =
     let call = c .before .before .before .state-formula in
-    stepping-ready (c .before .before .before .before .before .before .before .before .before .pre .1) (c .before .before .before .before .before .enum-told .given .1) (call .ensures) (call .kept .1 .1 .1 .1 .1 .0)
+    stepping-ready (c .before .before .before .before .before .before .before .before .before .pre .1)
+    (c .before .before .before .before .before .enum-told .given .1) (call .ensures) (call .kept .1 .1 .1 .1 .1 .0)
 
 path-scaled-requires : (t : ℕ) → path-lts.Need-scaled-requires (path-claims t) (path-at t) path.Post
 path-scaled-requires t c κs =
-    let scales = next-scales (c .before .before .before .before .before .before .before .before .before .before .before .before .pre .1) (c .before .before .before .before .before .before .before .before .enum-told .given .1) in
+    let scales = next-scales
+    (c .before .before .before .before .before .before .before .before .before .before .before .before .pre .1)
+    (c .before .before .before .before .before .before .before .before .enum-told .given .1) in
     (scales .0, scales .1)
 
 path-enum-known-node : (t : ℕ) → path-lts.Need-enum-known-node (path-claims t) (path-at t) path.Post
@@ -383,8 +499,10 @@ path-add-two-formulas t c =
 path-two-formulas-requires : (t : ℕ) → path-lts.Need-two-formulas-requires (path-claims t) (path-at t) path.Post
 path-two-formulas-requires t c κs =
     let start = c .before .before .before .before .before .before in
-    let node = c .before .before .node .given in
-    (to-operands (start .args .at) t (path-inside (start .pre .1)) (start .pre .0), until-ready (start .pre .1) (node .0 .0) (node .0 .1 .0) (node .1))
+    let node = c .before .before .node .given in (
+      to-operands (start .args .at) t (path-inside (start .pre .1)) (start .pre .0),
+      until-ready (start .pre .1) (node .0 .0) (node .0 .1 .0) (node .1),
+    )
 
 path-cast-until : (t : ℕ) → path-lts.Need-cast-until (path-claims t) (path-at t) path.Post
 path-cast-until t c = search needs
@@ -396,7 +514,8 @@ path-until-requires : (t : ℕ) → path-lts.Need-until-requires (path-claims t)
 path-until-requires t c κs =
     let node = c .before .before .before .before .before .before .node .given in
     let call = c .before .before .before .two-formulas in
-    taking-ready (c .before .before .before .before .before .before .before .before .before .before .pre .1) (node .0 .0) (node .0 .1 .0) (node .1) (call .ensures) (call .kept .1 .1 .1 .1 .1 .0)
+    taking-ready (c .before .before .before .before .before .before .before .before .before .before .pre .1)
+    (node .0 .0) (node .0 .1 .0) (node .1) (call .ensures) (call .kept .1 .1 .1 .1 .1 .0)
 
 path-cast-scaled : (t : ℕ) → path-lts.Need-cast-scaled (path-claims t) (path-at t) path.Post
 path-cast-scaled t c = search needs
@@ -404,7 +523,8 @@ path-cast-scaled t c = search needs
 path-mul-scaled : (t : ℕ) → path-lts.Need-mul-scaled (path-claims t) (path-at t) path.Post
 path-mul-scaled t c =
     let node = c .before .before .before .before .before .before .before .before .before .before .node .given in
-    times-fit _ (until-times (c .before .before .before .before .before .before .before .before .before .before .before .before .before .before .pre .1) (node .0 .0) (node .0 .1 .0) (node .1))
+    times-fit _ (until-times
+    (c .before .before .before .before .before .before .before .before .before .before .before .before .before .before .pre .1) (node .0 .0) (node .0 .1 .0) (node .1))
 
 path-scaled-requires-2 : (t : ℕ) → path-lts.Need-scaled-requires-2 (path-claims t) (path-at t) path.Post
 path-scaled-requires-2 t c κs =
@@ -476,7 +596,9 @@ path-same-length t c = search needs
 
 path-returns : (t : ℕ) → path-lts.Need-returns (path-claims t) (path-at t) path.Post
 path-returns t c =
-    next-done (c .before .before .before .before .before .before .before .before .before .enum-told .given .1) (c .before .before .before .before .before .before .before .state-formula .ensures) (c .before .before .before .joint-step .ensures) (c .scaled .ensures)
+    next-done (c .before .before .before .before .before .before .before .before .before .enum-told .given .1)
+    (c .before .before .before .before .before .before .before .state-formula .ensures)
+    (c .before .before .before .joint-step .ensures) (c .scaled .ensures)
 
 path-same-length-2 : (t : ℕ) → path-lts.Need-same-length-2 (path-claims t) (path-at t) path.Post
 path-same-length-2 t c = search needs
@@ -484,7 +606,9 @@ path-same-length-2 t c = search needs
 path-returns-2 : (t : ℕ) → path-lts.Need-returns-2 (path-claims t) (path-at t) path.Post
 path-returns-2 t c =
     let node = c .before .before .before .before .before .before .before .before .before .before .before .node .given in
-    until-done (node .0 .0) (node .0 .1 .0) (node .1) (c .before .before .before .before .before .before .before .before .two-formulas .ensures) (c .before .before .before .before .until .ensures) (c .scaled2 .ensures)
+    until-done (node .0 .0) (node .0 .1 .0) (node .1)
+    (c .before .before .before .before .before .before .before .before .two-formulas .ensures)
+    (c .before .before .before .before .until .ensures) (c .scaled2 .ensures)
 
 path-returns-3 : (t : ℕ) → path-lts.Need-returns-3 (path-claims t) (path-at t) path.Post
 path-returns-3 t c = no-path _ (c .before .enum-told2 .given .1) (λ p q it. it)
@@ -516,237 +640,323 @@ path-returns-11 t c = no-path _ (c .before .enum-told10 .given .1) (λ p q it. i
 path-returns-12 : (t : ℕ) → path-lts.Need-returns-12 (path-claims t) (path-at t) path.Post
 path-returns-12 t c = no-path _ (c .before .enum-told11 .given .1) (λ p q it. it)
 
-state-formula-mul-slot : (t : ℕ) → state-formula-lts.Need-mul-slot (state-formula-claims t) (state-formula-at t) state-formula.Post
+state-formula-mul-slot : (t : ℕ) → state-formula-lts.Need-mul-slot (state-formula-claims t) (state-formula-at t)
+    state-formula.Post
 state-formula-mul-slot t c = place-fits (c .before .args .at) (formula-inside (c .before .pre .1))
 
-state-formula-array-copy-out-slot : (t : ℕ) → state-formula-lts.Need-array-copy-out-slot (state-formula-claims t) (state-formula-at t) state-formula.Post
+state-formula-array-copy-out-slot : (t : ℕ) → state-formula-lts.Need-array-copy-out-slot (state-formula-claims t)
+    (state-formula-at t) state-formula.Post
 state-formula-array-copy-out-slot t c = formula-inside (c .before .pre .1)
 
-state-formula-enum-told : (t : ℕ) → state-formula-lts.Need-enum-told (state-formula-claims t) (state-formula-at t) state-formula.Post
+state-formula-enum-told : (t : ℕ) → state-formula-lts.Need-enum-told (state-formula-claims t) (state-formula-at t)
+    state-formula.Post
 state-formula-enum-told t c = search needs
 
-state-formula-always-requires : (t : ℕ) → state-formula-lts.Need-always-requires (state-formula-claims t) (state-formula-at t) state-formula.Post
+state-formula-always-requires : (t : ℕ) → state-formula-lts.Need-always-requires (state-formula-claims t)
+    (state-formula-at t) state-formula.Post
 state-formula-always-requires t c κs = formula-room (c .before .before .before .before .before .pre .1)
 
-state-formula-add-result : (t : ℕ) → state-formula-lts.Need-add-result (state-formula-claims t) (state-formula-at t) state-formula.Post
+state-formula-add-result : (t : ℕ) → state-formula-lts.Need-add-result (state-formula-claims t) (state-formula-at t)
+    state-formula.Post
 state-formula-add-result t c =
     let start = c .before .before .before .before .before .before .before .before in
     next-fits (start .args .at) (formula-inside (start .pre .1))
 
-state-formula-enum-known-node : (t : ℕ) → state-formula-lts.Need-enum-known-node (state-formula-claims t) (state-formula-at t) state-formula.Post
+state-formula-enum-known-node : (t : ℕ) → state-formula-lts.Need-enum-known-node (state-formula-claims t)
+    (state-formula-at t) state-formula.Post
 state-formula-enum-known-node t c = search needs
 
-state-formula-label-requires : (t : ℕ) → state-formula-lts.Need-label-requires (state-formula-claims t) (state-formula-at t) state-formula.Post
+state-formula-label-requires : (t : ℕ) → state-formula-lts.Need-label-requires (state-formula-claims t)
+    (state-formula-at t) state-formula.Post
 state-formula-label-requires t c κs =
     let start = c .before .before .before .before .before .before in
     let node = c .before .before .node .given in
     label-ready (start .pre .1) (node .0 .0) (node .0 .1 .0) (node .1)
 
-state-formula-add-result-2 : (t : ℕ) → state-formula-lts.Need-add-result-2 (state-formula-claims t) (state-formula-at t) state-formula.Post
+state-formula-add-result-2 : (t : ℕ) → state-formula-lts.Need-add-result-2 (state-formula-claims t) (state-formula-at t)
+    state-formula.Post
 state-formula-add-result-2 t c =
     let start = c .before .before .before .before .before .before .before .before .before in
     next-fits (start .args .at) (formula-inside (start .pre .1))
 
-state-formula-enum-told-2 : (t : ℕ) → state-formula-lts.Need-enum-told-2 (state-formula-claims t) (state-formula-at t) state-formula.Post
+state-formula-enum-told-2 : (t : ℕ) → state-formula-lts.Need-enum-told-2 (state-formula-claims t) (state-formula-at t)
+    state-formula.Post
 state-formula-enum-told-2 t c = search needs
 
-state-formula-add-state-formula : (t : ℕ) → state-formula-lts.Need-add-state-formula (state-formula-claims t) (state-formula-at t) state-formula.Post
+state-formula-add-state-formula : (t : ℕ) → state-formula-lts.Need-add-state-formula (state-formula-claims t)
+    (state-formula-at t) state-formula.Post
 state-formula-add-state-formula t c =
     let start = c .before .before .before .before in
     next-fits (start .args .at) (formula-inside (start .pre .1))
 
-state-formula-state-formula-requires : (t : ℕ) → state-formula-lts.Need-state-formula-requires (state-formula-claims t) (state-formula-at t) state-formula.Post
+state-formula-state-formula-requires : (t : ℕ) → state-formula-lts.Need-state-formula-requires (state-formula-claims t)
+    (state-formula-at t) state-formula.Post
 state-formula-state-formula-requires t c κs =
-    let start = c .before .before .before .before .before in
-    (to-operand (start .args .at) t (formula-inside (start .pre .1)) (start .pre .0), not-ready (start .pre .1) (c .before .enum-told2 .given .1))
+    let start = c .before .before .before .before .before in (
+      to-operand (start .args .at) t (formula-inside (start .pre .1)) (start .pre .0),
+      not-ready (start .pre .1) (c .before .enum-told2 .given .1),
+    )
 
-state-formula-negated-requires : (t : ℕ) → state-formula-lts.Need-negated-requires (state-formula-claims t) (state-formula-at t) state-formula.Post
+state-formula-negated-requires : (t : ℕ) → state-formula-lts.Need-negated-requires (state-formula-claims t)
+    (state-formula-at t) state-formula.Post
 state-formula-negated-requires t c κs =
-    room-kept (formula-room (c .before .before .before .before .before .before .before .before .before .pre .1)) (c .before .before .before .state-formula .kept .1 .1 .1 .1 .1 .0)
+    room-kept (formula-room (c .before .before .before .before .before .before .before .before .before .pre .1))
+    (c .before .before .before .state-formula .kept .1 .1 .1 .1 .1 .0)
 
-state-formula-enum-told-3 : (t : ℕ) → state-formula-lts.Need-enum-told-3 (state-formula-claims t) (state-formula-at t) state-formula.Post
+state-formula-enum-told-3 : (t : ℕ) → state-formula-lts.Need-enum-told-3 (state-formula-claims t) (state-formula-at t)
+    state-formula.Post
 state-formula-enum-told-3 t c = search needs
 
-state-formula-add-two-formulas : (t : ℕ) → state-formula-lts.Need-add-two-formulas (state-formula-claims t) (state-formula-at t) state-formula.Post
+state-formula-add-two-formulas : (t : ℕ) → state-formula-lts.Need-add-two-formulas (state-formula-claims t)
+    (state-formula-at t) state-formula.Post
 state-formula-add-two-formulas t c =
     let start = c .before .before .before .before in
     next-fits (start .args .at) (formula-inside (start .pre .1))
 
-state-formula-two-formulas-requires : (t : ℕ) → state-formula-lts.Need-two-formulas-requires (state-formula-claims t) (state-formula-at t) state-formula.Post
+state-formula-two-formulas-requires : (t : ℕ) → state-formula-lts.Need-two-formulas-requires (state-formula-claims t)
+    (state-formula-at t) state-formula.Post
 state-formula-two-formulas-requires t c κs =
-    let start = c .before .before .before .before .before in
-    (to-operands (start .args .at) t (formula-inside (start .pre .1)) (start .pre .0), and-ready (start .pre .1) (c .before .enum-told3 .given .1))
+    let start = c .before .before .before .before .before in (
+      to-operands (start .args .at) t (formula-inside (start .pre .1)) (start .pre .0),
+      and-ready (start .pre .1) (c .before .enum-told3 .given .1),
+    )
 
-state-formula-both-requires : (t : ℕ) → state-formula-lts.Need-both-requires (state-formula-claims t) (state-formula-at t) state-formula.Post
+state-formula-both-requires : (t : ℕ) → state-formula-lts.Need-both-requires (state-formula-claims t)
+    (state-formula-at t) state-formula.Post
 state-formula-both-requires t c κs =
-    room-kept (formulas-room (and-ready (c .before .before .before .before .before .before .before .before .before .pre .1) (c .before .before .before .before .before .enum-told3 .given .1))) (c .before .before .before .two-formulas .kept .1 .1 .1 .1 .1 .0)
+    room-kept (formulas-room (and-ready
+    (c .before .before .before .before .before .before .before .before .before .pre .1)
+    (c .before .before .before .before .before .enum-told3 .given .1)))
+    (c .before .before .before .two-formulas .kept .1 .1 .1 .1 .1 .0)
 
-state-formula-enum-known-node-2 : (t : ℕ) → state-formula-lts.Need-enum-known-node-2 (state-formula-claims t) (state-formula-at t) state-formula.Post
+state-formula-enum-known-node-2 : (t : ℕ) → state-formula-lts.Need-enum-known-node-2 (state-formula-claims t)
+    (state-formula-at t) state-formula.Post
 state-formula-enum-known-node-2 t c = search needs
 
-state-formula-add-two-expressions : (t : ℕ) → state-formula-lts.Need-add-two-expressions (state-formula-claims t) (state-formula-at t) state-formula.Post
+state-formula-add-two-expressions : (t : ℕ) → state-formula-lts.Need-add-two-expressions (state-formula-claims t)
+    (state-formula-at t) state-formula.Post
 state-formula-add-two-expressions t c =
     let start = c .before .before .before .before .before in
     next-fits (start .args .at) (formula-inside (start .pre .1))
 
-state-formula-two-expressions-requires : (t : ℕ) → state-formula-lts.Need-two-expressions-requires (state-formula-claims t) (state-formula-at t) state-formula.Post
+state-formula-two-expressions-requires : (t : ℕ) →
+    state-formula-lts.Need-two-expressions-requires (state-formula-claims t) (state-formula-at t) state-formula.Post
 state-formula-two-expressions-requires t c κs =
     let start = c .before .before .before .before .before .before in
-    let node = c .before .before .node2 .given in
-    (to-operands (start .args .at) t (formula-inside (start .pre .1)) (start .pre .0), compare-ready (start .pre .1) (node .0 .0) (node .1))
+    let node = c .before .before .node2 .given in (
+      to-operands (start .args .at) t (formula-inside (start .pre .1)) (start .pre .0),
+      compare-ready (start .pre .1) (node .0 .0) (node .1),
+    )
 
-state-formula-relation-of-requires : (t : ℕ) → state-formula-lts.Need-relation-of-requires (state-formula-claims t) (state-formula-at t) state-formula.Post
+state-formula-relation-of-requires : (t : ℕ) → state-formula-lts.Need-relation-of-requires (state-formula-claims t)
+    (state-formula-at t) state-formula.Post
 state-formula-relation-of-requires t c κs = search needs
 
-state-formula-compare-requires : (t : ℕ) → state-formula-lts.Need-compare-requires (state-formula-claims t) (state-formula-at t) state-formula.Post
+state-formula-compare-requires : (t : ℕ) → state-formula-lts.Need-compare-requires (state-formula-claims t)
+    (state-formula-at t) state-formula.Post
 state-formula-compare-requires t c κs =
     let start = c .before .before .before .before .before .before .before .before .before .before .before in
     let node = c .before .before .before .before .before .before .before .node2 .given in
     let two = c .before .before .before .before .two-expressions in
     let relation = c .before .relation-of in
-    comparing-ready (start .pre .1) (node .0 .0) (node .1) (two .ensures) (two .kept .1 .1 .1 .1 .1 .0) (relation .result) (relation .ensures)
+    comparing-ready (start .pre .1) (node .0 .0) (node .1) (two .ensures) (two .kept .1 .1 .1 .1 .1 .0)
+    (relation .result) (relation .ensures)
 
-state-formula-enum-told-4 : (t : ℕ) → state-formula-lts.Need-enum-told-4 (state-formula-claims t) (state-formula-at t) state-formula.Post
+state-formula-enum-told-4 : (t : ℕ) → state-formula-lts.Need-enum-told-4 (state-formula-claims t) (state-formula-at t)
+    state-formula.Post
 state-formula-enum-told-4 t c = search needs
 
-state-formula-enum-told-5 : (t : ℕ) → state-formula-lts.Need-enum-told-5 (state-formula-claims t) (state-formula-at t) state-formula.Post
+state-formula-enum-told-5 : (t : ℕ) → state-formula-lts.Need-enum-told-5 (state-formula-claims t) (state-formula-at t)
+    state-formula.Post
 state-formula-enum-told-5 t c = search needs
 
-state-formula-enum-told-6 : (t : ℕ) → state-formula-lts.Need-enum-told-6 (state-formula-claims t) (state-formula-at t) state-formula.Post
+state-formula-enum-told-6 : (t : ℕ) → state-formula-lts.Need-enum-told-6 (state-formula-claims t) (state-formula-at t)
+    state-formula.Post
 state-formula-enum-told-6 t c = search needs
 
-state-formula-enum-told-7 : (t : ℕ) → state-formula-lts.Need-enum-told-7 (state-formula-claims t) (state-formula-at t) state-formula.Post
+state-formula-enum-told-7 : (t : ℕ) → state-formula-lts.Need-enum-told-7 (state-formula-claims t) (state-formula-at t)
+    state-formula.Post
 state-formula-enum-told-7 t c = search needs
 
-state-formula-enum-told-8 : (t : ℕ) → state-formula-lts.Need-enum-told-8 (state-formula-claims t) (state-formula-at t) state-formula.Post
+state-formula-enum-told-8 : (t : ℕ) → state-formula-lts.Need-enum-told-8 (state-formula-claims t) (state-formula-at t)
+    state-formula.Post
 state-formula-enum-told-8 t c = search needs
 
-state-formula-enum-told-9 : (t : ℕ) → state-formula-lts.Need-enum-told-9 (state-formula-claims t) (state-formula-at t) state-formula.Post
+state-formula-enum-told-9 : (t : ℕ) → state-formula-lts.Need-enum-told-9 (state-formula-claims t) (state-formula-at t)
+    state-formula.Post
 state-formula-enum-told-9 t c = search needs
 
-state-formula-enum-told-10 : (t : ℕ) → state-formula-lts.Need-enum-told-10 (state-formula-claims t) (state-formula-at t) state-formula.Post
+state-formula-enum-told-10 : (t : ℕ) → state-formula-lts.Need-enum-told-10 (state-formula-claims t) (state-formula-at t)
+    state-formula.Post
 state-formula-enum-told-10 t c = search needs
 
-state-formula-same-length : (t : ℕ) → state-formula-lts.Need-same-length (state-formula-claims t) (state-formula-at t) state-formula.Post
+state-formula-same-length : (t : ℕ) → state-formula-lts.Need-same-length (state-formula-claims t) (state-formula-at t)
+    state-formula.Post
 state-formula-same-length t c = search needs
 
-state-formula-returns : (t : ℕ) → state-formula-lts.Need-returns (state-formula-claims t) (state-formula-at t) state-formula.Post
+state-formula-returns : (t : ℕ) → state-formula-lts.Need-returns (state-formula-claims t) (state-formula-at t)
+    state-formula.Post
 state-formula-returns t c =
     true-done (c .before .before .before .before .enum-told .given .1) (c .before .before .always .ensures)
 
-state-formula-same-length-2 : (t : ℕ) → state-formula-lts.Need-same-length-2 (state-formula-claims t) (state-formula-at t) state-formula.Post
+state-formula-same-length-2 : (t : ℕ) → state-formula-lts.Need-same-length-2 (state-formula-claims t)
+    (state-formula-at t) state-formula.Post
 state-formula-same-length-2 t c = search needs
 
-state-formula-returns-2 : (t : ℕ) → state-formula-lts.Need-returns-2 (state-formula-claims t) (state-formula-at t) state-formula.Post
+state-formula-returns-2 : (t : ℕ) → state-formula-lts.Need-returns-2 (state-formula-claims t) (state-formula-at t)
+    state-formula.Post
 state-formula-returns-2 t c =
     let node = c .before .before .before .before .before .node .given in
     label-done (node .0 .0) (node .0 .1 .0) (node .1) (c .before .before .label .ensures)
 
-state-formula-same-length-3 : (t : ℕ) → state-formula-lts.Need-same-length-3 (state-formula-claims t) (state-formula-at t) state-formula.Post
+state-formula-same-length-3 : (t : ℕ) → state-formula-lts.Need-same-length-3 (state-formula-claims t)
+    (state-formula-at t) state-formula.Post
 state-formula-same-length-3 t c = search needs
 
-state-formula-returns-3 : (t : ℕ) → state-formula-lts.Need-returns-3 (state-formula-claims t) (state-formula-at t) state-formula.Post
+state-formula-returns-3 : (t : ℕ) → state-formula-lts.Need-returns-3 (state-formula-claims t) (state-formula-at t)
+    state-formula.Post
 state-formula-returns-3 t c =
-    not-done (c .before .before .before .before .before .before .before .before .enum-told2 .given .1) (c .before .before .before .before .before .before .state-formula .ensures) (c .before .before .negated .ensures)
+    not-done (c .before .before .before .before .before .before .before .before .enum-told2 .given .1)
+    (c .before .before .before .before .before .before .state-formula .ensures)
+    (c .before .before .negated .ensures)
 
-state-formula-same-length-4 : (t : ℕ) → state-formula-lts.Need-same-length-4 (state-formula-claims t) (state-formula-at t) state-formula.Post
+state-formula-same-length-4 : (t : ℕ) → state-formula-lts.Need-same-length-4 (state-formula-claims t)
+    (state-formula-at t) state-formula.Post
 state-formula-same-length-4 t c = search needs
 
-state-formula-returns-4 : (t : ℕ) → state-formula-lts.Need-returns-4 (state-formula-claims t) (state-formula-at t) state-formula.Post
+state-formula-returns-4 : (t : ℕ) → state-formula-lts.Need-returns-4 (state-formula-claims t) (state-formula-at t)
+    state-formula.Post
 state-formula-returns-4 t c =
-    and-done (c .before .before .before .before .before .before .before .before .enum-told3 .given .1) (c .before .before .before .before .before .before .two-formulas .ensures) (c .before .before .both .ensures)
+    and-done (c .before .before .before .before .before .before .before .before .enum-told3 .given .1)
+    (c .before .before .before .before .before .before .two-formulas .ensures) (c .before .before .both .ensures)
 
-state-formula-same-length-5 : (t : ℕ) → state-formula-lts.Need-same-length-5 (state-formula-claims t) (state-formula-at t) state-formula.Post
+state-formula-same-length-5 : (t : ℕ) → state-formula-lts.Need-same-length-5 (state-formula-claims t)
+    (state-formula-at t) state-formula.Post
 state-formula-same-length-5 t c = search needs
 
-state-formula-returns-5 : (t : ℕ) → state-formula-lts.Need-returns-5 (state-formula-claims t) (state-formula-at t) state-formula.Post
+state-formula-returns-5 : (t : ℕ) → state-formula-lts.Need-returns-5 (state-formula-claims t) (state-formula-at t)
+    state-formula.Post
 state-formula-returns-5 t c =
     let node = c .before .before .before .before .before .before .before .before .before .before .node2 .given in
     let two = c .before .before .before .before .before .before .before .two-expressions in
     let relation = c .before .before .before .before .relation-of in
-    compare-done (node .0 .0) (node .1) (two .ensures) (relation .result) (relation .ensures) (c .before .before .compare .ensures)
+    compare-done (node .0 .0) (node .1) (two .ensures) (relation .result) (relation .ensures)
+    (c .before .before .compare .ensures)
 
-state-formula-returns-6 : (t : ℕ) → state-formula-lts.Need-returns-6 (state-formula-claims t) (state-formula-at t) state-formula.Post
+state-formula-returns-6 : (t : ℕ) → state-formula-lts.Need-returns-6 (state-formula-claims t) (state-formula-at t)
+    state-formula.Post
 state-formula-returns-6 t c = no-formula _ (c .enum-told4 .given .1) (λ f q it. it)
 
-state-formula-returns-7 : (t : ℕ) → state-formula-lts.Need-returns-7 (state-formula-claims t) (state-formula-at t) state-formula.Post
+state-formula-returns-7 : (t : ℕ) → state-formula-lts.Need-returns-7 (state-formula-claims t) (state-formula-at t)
+    state-formula.Post
 state-formula-returns-7 t c = no-formula _ (c .enum-told5 .given .1) (λ f q it. it)
 
-state-formula-returns-8 : (t : ℕ) → state-formula-lts.Need-returns-8 (state-formula-claims t) (state-formula-at t) state-formula.Post
+state-formula-returns-8 : (t : ℕ) → state-formula-lts.Need-returns-8 (state-formula-claims t) (state-formula-at t)
+    state-formula.Post
 state-formula-returns-8 t c = no-formula _ (c .enum-told6 .given .1) (λ f q it. it)
 
-state-formula-returns-9 : (t : ℕ) → state-formula-lts.Need-returns-9 (state-formula-claims t) (state-formula-at t) state-formula.Post
+state-formula-returns-9 : (t : ℕ) → state-formula-lts.Need-returns-9 (state-formula-claims t) (state-formula-at t)
+    state-formula.Post
 state-formula-returns-9 t c = no-formula _ (c .enum-told7 .given .1) (λ f q it. it)
 
-state-formula-returns-10 : (t : ℕ) → state-formula-lts.Need-returns-10 (state-formula-claims t) (state-formula-at t) state-formula.Post
+state-formula-returns-10 : (t : ℕ) → state-formula-lts.Need-returns-10 (state-formula-claims t) (state-formula-at t)
+    state-formula.Post
 state-formula-returns-10 t c = no-formula _ (c .enum-told8 .given .1) (λ f q it. it)
 
-state-formula-returns-11 : (t : ℕ) → state-formula-lts.Need-returns-11 (state-formula-claims t) (state-formula-at t) state-formula.Post
+state-formula-returns-11 : (t : ℕ) → state-formula-lts.Need-returns-11 (state-formula-claims t) (state-formula-at t)
+    state-formula.Post
 state-formula-returns-11 t c = no-formula _ (c .enum-told9 .given .1) (λ f q it. it)
 
-state-formula-returns-12 : (t : ℕ) → state-formula-lts.Need-returns-12 (state-formula-claims t) (state-formula-at t) state-formula.Post
+state-formula-returns-12 : (t : ℕ) → state-formula-lts.Need-returns-12 (state-formula-claims t) (state-formula-at t)
+    state-formula.Post
 state-formula-returns-12 t c = no-formula _ (c .enum-told10 .given .1) (λ f q it. it)
 
-two-expressions-survey-requires : (t : ℕ) → two-expressions-lts.Need-survey-requires (two-expressions-claims t) (two-expressions-at t) two-expressions.Post
+two-expressions-survey-requires : (t : ℕ) → two-expressions-lts.Need-survey-requires (two-expressions-claims t)
+    (two-expressions-at t) two-expressions.Post
 two-expressions-survey-requires t c κs = place-most (c .before .args .at) (expressions-inside (c .before .pre .1))
 
-two-expressions-survey-requires-2 : (t : ℕ) → two-expressions-lts.Need-survey-requires-2 (two-expressions-claims t) (two-expressions-at t) two-expressions.Post
+two-expressions-survey-requires-2 : (t : ℕ) → two-expressions-lts.Need-survey-requires-2 (two-expressions-claims t)
+    (two-expressions-at t) two-expressions.Post
 two-expressions-survey-requires-2 t c κs = search needs
 
-two-expressions-expression-requires : (t : ℕ) → two-expressions-lts.Need-expression-requires (two-expressions-claims t) (two-expressions-at t) two-expressions.Post
+two-expressions-expression-requires : (t : ℕ) → two-expressions-lts.Need-expression-requires (two-expressions-claims t)
+    (two-expressions-at t) two-expressions.Post
 two-expressions-expression-requires t c κs =
-    let start = c .before .before .before .before .before .before .before in
-    let first = c .before .before .before .before .before .survey .ensures in
-    let second = c .before .before .before .before .survey2 .ensures in
-    (to-each (start .args .at) (start .args .at) t (start .pre .0) (le-refl (start .args .at)), first-expression-whole (start .pre .1) first second)
+    let start = c .before .before .before .before .before .before .before in (
+      to-each (start .args .at) (start .args .at) t (start .pre .0) (le-refl (start .args .at)),
+      first-expression-whole (start .pre .1),
+    )
 
-two-expressions-mul-expression : (t : ℕ) → two-expressions-lts.Need-mul-expression (two-expressions-claims t) (two-expressions-at t) two-expressions.Post
+two-expressions-mul-expression : (t : ℕ) → two-expressions-lts.Need-mul-expression (two-expressions-claims t)
+    (two-expressions-at t) two-expressions.Post
 two-expressions-mul-expression t c = search needs
 
-two-expressions-sub-expression : (t : ℕ) → two-expressions-lts.Need-sub-expression (two-expressions-claims t) (two-expressions-at t) two-expressions.Post
+two-expressions-sub-expression : (t : ℕ) → two-expressions-lts.Need-sub-expression (two-expressions-claims t)
+    (two-expressions-at t) two-expressions.Post
 two-expressions-sub-expression t c =
-    front-kept (c .before .before .before .before .before .before .before .before .before .before .args .g .tuples) (expressions-room (c .before .before .before .before .before .before .before .before .before .before .pre .1)) (c .before .before .expression .kept .1 .1 .1 .1 .1 .0)
+    front-kept (c .before .before .before .before .before .before .before .before .before .before .args .g .tuples)
+    (expressions-room (c .before .before .before .before .before .before .before .before .before .before .pre .1))
+    (c .before .before .expression .kept .1 .1 .1 .1 .1 .0)
 
-two-expressions-part-expression-start : (t : ℕ) → two-expressions-lts.Need-part-expression-start (two-expressions-claims t) (two-expressions-at t) two-expressions.Post
+two-expressions-part-expression-start : (t : ℕ) →
+    two-expressions-lts.Need-part-expression-start (two-expressions-claims t) (two-expressions-at t)
+    two-expressions.Post
 two-expressions-part-expression-start t c =
-    front-kept (c .before .before .before .before .before .before .before .before .before .before .args .g .tuples) (expressions-room (c .before .before .before .before .before .before .before .before .before .before .pre .1)) (c .before .before .expression .kept .1 .1 .1 .1 .1 .0)
+    front-kept (c .before .before .before .before .before .before .before .before .before .before .args .g .tuples)
+    (expressions-room (c .before .before .before .before .before .before .before .before .before .before .pre .1))
+    (c .before .before .expression .kept .1 .1 .1 .1 .1 .0)
 
-two-expressions-part-expression-end : (t : ℕ) → two-expressions-lts.Need-part-expression-end (two-expressions-claims t) (two-expressions-at t) two-expressions.Post
+two-expressions-part-expression-end : (t : ℕ) → two-expressions-lts.Need-part-expression-end (two-expressions-claims t)
+    (two-expressions-at t) two-expressions.Post
 two-expressions-part-expression-end t c = search needs
 
-two-expressions-expression-requires-2 : (t : ℕ) → two-expressions-lts.Need-expression-requires-2 (two-expressions-claims t) (two-expressions-at t) two-expressions.Post
+two-expressions-expression-requires-2 : (t : ℕ) →
+    two-expressions-lts.Need-expression-requires-2 (two-expressions-claims t) (two-expressions-at t)
+    two-expressions.Post
 two-expressions-expression-requires-2 t c κs =
     let start = c .before .before .before .before .before .before .before .before .before .before .before in
     let first = c .before .before .before .before .before .before .before .before .before .survey .ensures in
     let second = c .before .before .before .before .before .before .before .before .survey2 .ensures in
-    let call = c .before .before .before .expression in
-    (to-each (start .args .at) _ t (start .pre .0) (first .forward), second-expression-past (start .pre .1) first second (c .before .before .before .before .before .if1 .taken) (call .last .1 .1 .1 .1 .1 .0) (call .kept .1 .1 .1 .1 .1 .0))
+    let call = c .before .before .before .expression in (
+      to-each (start .args .at) _ t (start .pre .0) (first .forward),
+      second-expression-past (start .pre .1) first second (call .last .1 .1 .1 .1 .1 .0)
+          (call .kept .1 .1 .1 .1 .1 .0) (c .before .before .before .before .before .if1 .taken),
+    )
 
-two-expressions-same-length : (t : ℕ) → two-expressions-lts.Need-same-length (two-expressions-claims t) (two-expressions-at t) two-expressions.Post
+two-expressions-same-length : (t : ℕ) → two-expressions-lts.Need-same-length (two-expressions-claims t)
+    (two-expressions-at t) two-expressions.Post
 two-expressions-same-length t c = search needs
 
-two-expressions-returns : (t : ℕ) → two-expressions-lts.Need-returns (two-expressions-claims t) (two-expressions-at t) two-expressions.Post
+two-expressions-returns : (t : ℕ) → two-expressions-lts.Need-returns (two-expressions-claims t) (two-expressions-at t)
+    two-expressions.Post
 two-expressions-returns t c =
     let start = c .before .before .before .before .before .before .before .before .before .before .before .before .before .before in
     let call = c .before .before .before .before .before .before .expression in
     let other = c .before .before .expression2 in
     let T = start .args .g .tuples in
-    let back = put-back T (call .last .1 .1 .1 .1 .1 .0) (other .last .1 .1 .1 .1 .1 .0) (front-kept T (expressions-room (start .pre .1)) (call .kept .1 .1 .1 .1 .1 .0)) (other .kept .1 .1 .1 .1 .1 .0) in
+    let back = put-back T (call .last .1 .1 .1 .1 .1 .0) (other .last .1 .1 .1 .1 .1 .0)
+    (front-kept T (expressions-room (start .pre .1)) (call .kept .1 .1 .1 .1 .1 .0))
+    (other .kept .1 .1 .1 .1 .1 .0) in
     expressions-in-order (c .before .before .before .before .before .before .before .before .before .before .before .before .survey .ensures) back (call .ensures) (other .ensures)
 
-two-expressions-expression-requires-3 : (t : ℕ) → two-expressions-lts.Need-expression-requires-3 (two-expressions-claims t) (two-expressions-at t) two-expressions.Post
+two-expressions-expression-requires-3 : (t : ℕ) →
+    two-expressions-lts.Need-expression-requires-3 (two-expressions-claims t) (two-expressions-at t)
+    two-expressions.Post
 two-expressions-expression-requires-3 t c κs =
     let start = c .before .before .before .before .before .before .before in
     let first = c .before .before .before .before .before .survey .ensures in
-    let second = c .before .before .before .before .survey2 .ensures in
-    (to-each (start .args .at) _ t (start .pre .0) (first .forward), second-expression-whole (start .pre .1) first second)
+    (to-each (start .args .at) _ t (start .pre .0) (first .forward), second-expression-whole (start .pre .1) first)
 
-two-expressions-mul-expression-2 : (t : ℕ) → two-expressions-lts.Need-mul-expression-2 (two-expressions-claims t) (two-expressions-at t) two-expressions.Post
+two-expressions-mul-expression-2 : (t : ℕ) → two-expressions-lts.Need-mul-expression-2 (two-expressions-claims t)
+    (two-expressions-at t) two-expressions.Post
 two-expressions-mul-expression-2 t c = search needs
 
-two-expressions-sub-expression-2 : (t : ℕ) → two-expressions-lts.Need-sub-expression-2 (two-expressions-claims t) (two-expressions-at t) two-expressions.Post
+two-expressions-sub-expression-2 : (t : ℕ) → two-expressions-lts.Need-sub-expression-2 (two-expressions-claims t)
+    (two-expressions-at t) two-expressions.Post
 two-expressions-sub-expression-2 t c =
-    front-kept (c .before .before .before .before .before .before .before .before .before .before .args .g .tuples) (expressions-room (c .before .before .before .before .before .before .before .before .before .before .pre .1)) (c .before .before .expression3 .kept .1 .1 .1 .1 .1 .0)
+    front-kept (c .before .before .before .before .before .before .before .before .before .before .args .g .tuples)
+    (expressions-room (c .before .before .before .before .before .before .before .before .before .before .pre .1))
+    (c .before .before .expression3 .kept .1 .1 .1 .1 .1 .0)
 
 two-expressions-part-expression-start-2 :
     (t : ℕ) → two-expressions-lts.Need-part-expression-start-2 (
@@ -758,100 +968,138 @@ two-expressions-part-expression-start-2 :
       swap-reads.Learnt,
     ) (two-expressions-at t) two-expressions.Post
 two-expressions-part-expression-start-2 t c =
-    front-kept (c .before .before .before .before .before .before .before .before .before .before .args .g .tuples) (expressions-room (c .before .before .before .before .before .before .before .before .before .before .pre .1)) (c .before .before .expression3 .kept .1 .1 .1 .1 .1 .0)
+    front-kept (c .before .before .before .before .before .before .before .before .before .before .args .g .tuples)
+    (expressions-room (c .before .before .before .before .before .before .before .before .before .before .pre .1))
+    (c .before .before .expression3 .kept .1 .1 .1 .1 .1 .0)
 
-two-expressions-part-expression-end-2 : (t : ℕ) → two-expressions-lts.Need-part-expression-end-2 (two-expressions-claims t) (two-expressions-at t) two-expressions.Post
+two-expressions-part-expression-end-2 : (t : ℕ) →
+    two-expressions-lts.Need-part-expression-end-2 (two-expressions-claims t) (two-expressions-at t)
+    two-expressions.Post
 two-expressions-part-expression-end-2 t c = search needs
 
-two-expressions-expression-requires-4 : (t : ℕ) → two-expressions-lts.Need-expression-requires-4 (two-expressions-claims t) (two-expressions-at t) two-expressions.Post
+two-expressions-expression-requires-4 : (t : ℕ) →
+    two-expressions-lts.Need-expression-requires-4 (two-expressions-claims t) (two-expressions-at t)
+    two-expressions.Post
 two-expressions-expression-requires-4 t c κs =
     let start = c .before .before .before .before .before .before .before .before .before .before .before in
     let first = c .before .before .before .before .before .before .before .before .before .survey .ensures in
     let second = c .before .before .before .before .before .before .before .before .survey2 .ensures in
-    let call = c .before .before .before .expression3 in
-    (to-each (start .args .at) (start .args .at) t (start .pre .0) (le-refl (start .args .at)), first-expression-past (start .pre .1) first second (c .before .before .before .before .before .if1 .left) (call .last .1 .1 .1 .1 .1 .0) (call .kept .1 .1 .1 .1 .1 .0))
+    let call = c .before .before .before .expression3 in (
+      to-each (start .args .at) (start .args .at) t (start .pre .0) (le-refl (start .args .at)),
+      first-expression-past (start .pre .1) first second (call .last .1 .1 .1 .1 .1 .0) (call .kept .1 .1 .1 .1 .1 .0)
+          (c .before .before .before .before .before .if1 .left),
+    )
 
-two-expressions-swap-requires : (t : ℕ) → two-expressions-lts.Need-swap-requires (two-expressions-claims t) (two-expressions-at t) two-expressions.Post
+two-expressions-swap-requires : (t : ℕ) → two-expressions-lts.Need-swap-requires (two-expressions-claims t)
+    (two-expressions-at t) two-expressions.Post
 two-expressions-swap-requires t c κs =
     let start = c .before .before .before .before .before .before .before .before .before .before .before .before .before .before .before in
     let call = c .before .before .before .before .before .before .before .expression3 in
     let other = c .before .before .before .expression4 in
     let T = start .args .g .tuples in
-    let back = put-back T (call .last .1 .1 .1 .1 .1 .0) (other .last .1 .1 .1 .1 .1 .0) (front-kept T (expressions-room (start .pre .1)) (call .kept .1 .1 .1 .1 .1 .0)) (other .kept .1 .1 .1 .1 .1 .0) in
+    let back = put-back T (call .last .1 .1 .1 .1 .1 .0) (other .last .1 .1 .1 .1 .1 .0)
+    (front-kept T (expressions-room (start .pre .1)) (call .kept .1 .1 .1 .1 .1 .0))
+    (other .kept .1 .1 .1 .1 .1 .0) in
     room-kept (room-kept (expressions-room (start .pre .1)) (call .kept .1 .1 .1 .1 .1 .0)) (back .long)
 
-two-expressions-same-length-2 : (t : ℕ) → two-expressions-lts.Need-same-length-2 (two-expressions-claims t) (two-expressions-at t) two-expressions.Post
+two-expressions-same-length-2 : (t : ℕ) → two-expressions-lts.Need-same-length-2 (two-expressions-claims t)
+    (two-expressions-at t) two-expressions.Post
 two-expressions-same-length-2 t c = search needs
 
-two-expressions-returns-2 : (t : ℕ) → two-expressions-lts.Need-returns-2 (two-expressions-claims t) (two-expressions-at t) two-expressions.Post
+two-expressions-returns-2 : (t : ℕ) → two-expressions-lts.Need-returns-2 (two-expressions-claims t)
+    (two-expressions-at t) two-expressions.Post
 two-expressions-returns-2 t c =
     let start = c .before .before .before .before .before .before .before .before .before .before .before .before .before .before .before .before .before .before in
     let call = c .before .before .before .before .before .before .before .before .before .before .expression3 in
     let other = c .before .before .before .before .before .before .expression4 in
     let T = start .args .g .tuples in
-    let back = put-back T (call .last .1 .1 .1 .1 .1 .0) (other .last .1 .1 .1 .1 .1 .0) (front-kept T (expressions-room (start .pre .1)) (call .kept .1 .1 .1 .1 .1 .0)) (other .kept .1 .1 .1 .1 .1 .0) in
+    let back = put-back T (call .last .1 .1 .1 .1 .1 .0) (other .last .1 .1 .1 .1 .1 .0)
+    (front-kept T (expressions-room (start .pre .1)) (call .kept .1 .1 .1 .1 .1 .0))
+    (other .kept .1 .1 .1 .1 .1 .0) in
     expressions-crossed (c .before .before .before .before .before .before .before .before .before .before .before .before .before .before .before .before .survey .ensures) back (call .ensures) (other .ensures) (c .before .before .swap .ensures)
 
-two-formulas-survey-requires : (t : ℕ) → two-formulas-lts.Need-survey-requires (two-formulas-claims t) (two-formulas-at t) two-formulas.Post
+two-formulas-survey-requires : (t : ℕ) → two-formulas-lts.Need-survey-requires (two-formulas-claims t)
+    (two-formulas-at t) two-formulas.Post
 two-formulas-survey-requires t c κs = place-most (c .before .args .at) (formulas-inside (c .before .pre .1))
 
-two-formulas-survey-requires-2 : (t : ℕ) → two-formulas-lts.Need-survey-requires-2 (two-formulas-claims t) (two-formulas-at t) two-formulas.Post
+two-formulas-survey-requires-2 : (t : ℕ) → two-formulas-lts.Need-survey-requires-2 (two-formulas-claims t)
+    (two-formulas-at t) two-formulas.Post
 two-formulas-survey-requires-2 t c κs = search needs
 
-two-formulas-state-formula-requires : (t : ℕ) → two-formulas-lts.Need-state-formula-requires (two-formulas-claims t) (two-formulas-at t) two-formulas.Post
+two-formulas-state-formula-requires : (t : ℕ) → two-formulas-lts.Need-state-formula-requires (two-formulas-claims t)
+    (two-formulas-at t) two-formulas.Post
 two-formulas-state-formula-requires t c κs =
-    let start = c .before .before .before .before .before .before .before in
-    let first = c .before .before .before .before .before .survey .ensures in
-    let second = c .before .before .before .before .survey2 .ensures in
-    (to-each (start .args .at) (start .args .at) t (start .pre .0) (le-refl (start .args .at)), first-formula-whole (start .pre .1) first second)
+    let start = c .before .before .before .before .before .before .before in (
+      to-each (start .args .at) (start .args .at) t (start .pre .0) (le-refl (start .args .at)),
+      first-formula-whole (start .pre .1),
+    )
 
-two-formulas-mul-state-formula : (t : ℕ) → two-formulas-lts.Need-mul-state-formula (two-formulas-claims t) (two-formulas-at t) two-formulas.Post
+two-formulas-mul-state-formula : (t : ℕ) → two-formulas-lts.Need-mul-state-formula (two-formulas-claims t)
+    (two-formulas-at t) two-formulas.Post
 two-formulas-mul-state-formula t c = search needs
 
-two-formulas-sub-state-formula : (t : ℕ) → two-formulas-lts.Need-sub-state-formula (two-formulas-claims t) (two-formulas-at t) two-formulas.Post
+two-formulas-sub-state-formula : (t : ℕ) → two-formulas-lts.Need-sub-state-formula (two-formulas-claims t)
+    (two-formulas-at t) two-formulas.Post
 two-formulas-sub-state-formula t c =
-    front-kept (c .before .before .before .before .before .before .before .before .before .before .args .g .tuples) (formulas-room (c .before .before .before .before .before .before .before .before .before .before .pre .1)) (c .before .before .state-formula .kept .1 .1 .1 .1 .1 .0)
+    front-kept (c .before .before .before .before .before .before .before .before .before .before .args .g .tuples)
+    (formulas-room (c .before .before .before .before .before .before .before .before .before .before .pre .1))
+    (c .before .before .state-formula .kept .1 .1 .1 .1 .1 .0)
 
-two-formulas-part-state-formula-start : (t : ℕ) → two-formulas-lts.Need-part-state-formula-start (two-formulas-claims t) (two-formulas-at t) two-formulas.Post
+two-formulas-part-state-formula-start : (t : ℕ) →
+    two-formulas-lts.Need-part-state-formula-start (two-formulas-claims t) (two-formulas-at t) two-formulas.Post
 two-formulas-part-state-formula-start t c =
-    front-kept (c .before .before .before .before .before .before .before .before .before .before .args .g .tuples) (formulas-room (c .before .before .before .before .before .before .before .before .before .before .pre .1)) (c .before .before .state-formula .kept .1 .1 .1 .1 .1 .0)
+    front-kept (c .before .before .before .before .before .before .before .before .before .before .args .g .tuples)
+    (formulas-room (c .before .before .before .before .before .before .before .before .before .before .pre .1))
+    (c .before .before .state-formula .kept .1 .1 .1 .1 .1 .0)
 
-two-formulas-part-state-formula-end : (t : ℕ) → two-formulas-lts.Need-part-state-formula-end (two-formulas-claims t) (two-formulas-at t) two-formulas.Post
+two-formulas-part-state-formula-end : (t : ℕ) → two-formulas-lts.Need-part-state-formula-end (two-formulas-claims t)
+    (two-formulas-at t) two-formulas.Post
 two-formulas-part-state-formula-end t c = search needs
 
-two-formulas-state-formula-requires-2 : (t : ℕ) → two-formulas-lts.Need-state-formula-requires-2 (two-formulas-claims t) (two-formulas-at t) two-formulas.Post
+two-formulas-state-formula-requires-2 : (t : ℕ) →
+    two-formulas-lts.Need-state-formula-requires-2 (two-formulas-claims t) (two-formulas-at t) two-formulas.Post
 two-formulas-state-formula-requires-2 t c κs =
     let start = c .before .before .before .before .before .before .before .before .before .before .before in
     let first = c .before .before .before .before .before .before .before .before .before .survey .ensures in
     let second = c .before .before .before .before .before .before .before .before .survey2 .ensures in
-    let call = c .before .before .before .state-formula in
-    (to-each (start .args .at) _ t (start .pre .0) (first .forward), second-formula-past (start .pre .1) first second (c .before .before .before .before .before .if1 .taken) (call .last .1 .1 .1 .1 .1 .0) (call .kept .1 .1 .1 .1 .1 .0))
+    let call = c .before .before .before .state-formula in (
+      to-each (start .args .at) _ t (start .pre .0) (first .forward),
+      second-formula-past (start .pre .1) first second (call .last .1 .1 .1 .1 .1 .0) (call .kept .1 .1 .1 .1 .1 .0)
+          (c .before .before .before .before .before .if1 .taken),
+    )
 
-two-formulas-same-length : (t : ℕ) → two-formulas-lts.Need-same-length (two-formulas-claims t) (two-formulas-at t) two-formulas.Post
+two-formulas-same-length : (t : ℕ) → two-formulas-lts.Need-same-length (two-formulas-claims t) (two-formulas-at t)
+    two-formulas.Post
 two-formulas-same-length t c = search needs
 
-two-formulas-returns : (t : ℕ) → two-formulas-lts.Need-returns (two-formulas-claims t) (two-formulas-at t) two-formulas.Post
+two-formulas-returns : (t : ℕ) → two-formulas-lts.Need-returns (two-formulas-claims t) (two-formulas-at t)
+    two-formulas.Post
 two-formulas-returns t c =
     let start = c .before .before .before .before .before .before .before .before .before .before .before .before .before .before in
     let call = c .before .before .before .before .before .before .state-formula in
     let other = c .before .before .state-formula2 in
     let T = start .args .g .tuples in
-    let back = put-back T (call .last .1 .1 .1 .1 .1 .0) (other .last .1 .1 .1 .1 .1 .0) (front-kept T (formulas-room (start .pre .1)) (call .kept .1 .1 .1 .1 .1 .0)) (other .kept .1 .1 .1 .1 .1 .0) in
+    let back = put-back T (call .last .1 .1 .1 .1 .1 .0) (other .last .1 .1 .1 .1 .1 .0)
+    (front-kept T (formulas-room (start .pre .1)) (call .kept .1 .1 .1 .1 .1 .0)) (other .kept .1 .1 .1 .1 .1 .0) in
     formulas-in-order (c .before .before .before .before .before .before .before .before .before .before .before .before .survey .ensures) back (call .ensures) (other .ensures)
 
-two-formulas-state-formula-requires-3 : (t : ℕ) → two-formulas-lts.Need-state-formula-requires-3 (two-formulas-claims t) (two-formulas-at t) two-formulas.Post
+two-formulas-state-formula-requires-3 : (t : ℕ) →
+    two-formulas-lts.Need-state-formula-requires-3 (two-formulas-claims t) (two-formulas-at t) two-formulas.Post
 two-formulas-state-formula-requires-3 t c κs =
     let start = c .before .before .before .before .before .before .before in
     let first = c .before .before .before .before .before .survey .ensures in
-    let second = c .before .before .before .before .survey2 .ensures in
-    (to-each (start .args .at) _ t (start .pre .0) (first .forward), second-formula-whole (start .pre .1) first second)
+    (to-each (start .args .at) _ t (start .pre .0) (first .forward), second-formula-whole (start .pre .1) first)
 
-two-formulas-mul-state-formula-2 : (t : ℕ) → two-formulas-lts.Need-mul-state-formula-2 (two-formulas-claims t) (two-formulas-at t) two-formulas.Post
+two-formulas-mul-state-formula-2 : (t : ℕ) → two-formulas-lts.Need-mul-state-formula-2 (two-formulas-claims t)
+    (two-formulas-at t) two-formulas.Post
 two-formulas-mul-state-formula-2 t c = search needs
 
-two-formulas-sub-state-formula-2 : (t : ℕ) → two-formulas-lts.Need-sub-state-formula-2 (two-formulas-claims t) (two-formulas-at t) two-formulas.Post
+two-formulas-sub-state-formula-2 : (t : ℕ) → two-formulas-lts.Need-sub-state-formula-2 (two-formulas-claims t)
+    (two-formulas-at t) two-formulas.Post
 two-formulas-sub-state-formula-2 t c =
-    front-kept (c .before .before .before .before .before .before .before .before .before .before .args .g .tuples) (formulas-room (c .before .before .before .before .before .before .before .before .before .before .pre .1)) (c .before .before .state-formula3 .kept .1 .1 .1 .1 .1 .0)
+    front-kept (c .before .before .before .before .before .before .before .before .before .before .args .g .tuples)
+    (formulas-room (c .before .before .before .before .before .before .before .before .before .before .pre .1))
+    (c .before .before .state-formula3 .kept .1 .1 .1 .1 .1 .0)
 
 two-formulas-part-state-formula-start-2 :
     (t : ℕ) → two-formulas-lts.Need-part-state-formula-start-2 (
@@ -863,38 +1111,50 @@ two-formulas-part-state-formula-start-2 :
       swap-reads.Learnt,
     ) (two-formulas-at t) two-formulas.Post
 two-formulas-part-state-formula-start-2 t c =
-    front-kept (c .before .before .before .before .before .before .before .before .before .before .args .g .tuples) (formulas-room (c .before .before .before .before .before .before .before .before .before .before .pre .1)) (c .before .before .state-formula3 .kept .1 .1 .1 .1 .1 .0)
+    front-kept (c .before .before .before .before .before .before .before .before .before .before .args .g .tuples)
+    (formulas-room (c .before .before .before .before .before .before .before .before .before .before .pre .1))
+    (c .before .before .state-formula3 .kept .1 .1 .1 .1 .1 .0)
 
-two-formulas-part-state-formula-end-2 : (t : ℕ) → two-formulas-lts.Need-part-state-formula-end-2 (two-formulas-claims t) (two-formulas-at t) two-formulas.Post
+two-formulas-part-state-formula-end-2 : (t : ℕ) →
+    two-formulas-lts.Need-part-state-formula-end-2 (two-formulas-claims t) (two-formulas-at t) two-formulas.Post
 two-formulas-part-state-formula-end-2 t c = search needs
 
-two-formulas-state-formula-requires-4 : (t : ℕ) → two-formulas-lts.Need-state-formula-requires-4 (two-formulas-claims t) (two-formulas-at t) two-formulas.Post
+two-formulas-state-formula-requires-4 : (t : ℕ) →
+    two-formulas-lts.Need-state-formula-requires-4 (two-formulas-claims t) (two-formulas-at t) two-formulas.Post
 two-formulas-state-formula-requires-4 t c κs =
     let start = c .before .before .before .before .before .before .before .before .before .before .before in
     let first = c .before .before .before .before .before .before .before .before .before .survey .ensures in
     let second = c .before .before .before .before .before .before .before .before .survey2 .ensures in
-    let call = c .before .before .before .state-formula3 in
-    (to-each (start .args .at) (start .args .at) t (start .pre .0) (le-refl (start .args .at)), first-formula-past (start .pre .1) first second (c .before .before .before .before .before .if1 .left) (call .last .1 .1 .1 .1 .1 .0) (call .kept .1 .1 .1 .1 .1 .0))
+    let call = c .before .before .before .state-formula3 in (
+      to-each (start .args .at) (start .args .at) t (start .pre .0) (le-refl (start .args .at)),
+      first-formula-past (start .pre .1) first second (call .last .1 .1 .1 .1 .1 .0) (call .kept .1 .1 .1 .1 .1 .0)
+          (c .before .before .before .before .before .if1 .left),
+    )
 
-two-formulas-swap-requires : (t : ℕ) → two-formulas-lts.Need-swap-requires (two-formulas-claims t) (two-formulas-at t) two-formulas.Post
+two-formulas-swap-requires : (t : ℕ) → two-formulas-lts.Need-swap-requires (two-formulas-claims t) (two-formulas-at t)
+    two-formulas.Post
 two-formulas-swap-requires t c κs =
     let start = c .before .before .before .before .before .before .before .before .before .before .before .before .before .before .before in
     let call = c .before .before .before .before .before .before .before .state-formula3 in
     let other = c .before .before .before .state-formula4 in
     let T = start .args .g .tuples in
-    let back = put-back T (call .last .1 .1 .1 .1 .1 .0) (other .last .1 .1 .1 .1 .1 .0) (front-kept T (formulas-room (start .pre .1)) (call .kept .1 .1 .1 .1 .1 .0)) (other .kept .1 .1 .1 .1 .1 .0) in
+    let back = put-back T (call .last .1 .1 .1 .1 .1 .0) (other .last .1 .1 .1 .1 .1 .0)
+    (front-kept T (formulas-room (start .pre .1)) (call .kept .1 .1 .1 .1 .1 .0)) (other .kept .1 .1 .1 .1 .1 .0) in
     room-kept (room-kept (formulas-room (start .pre .1)) (call .kept .1 .1 .1 .1 .1 .0)) (back .long)
 
-two-formulas-same-length-2 : (t : ℕ) → two-formulas-lts.Need-same-length-2 (two-formulas-claims t) (two-formulas-at t) two-formulas.Post
+two-formulas-same-length-2 : (t : ℕ) → two-formulas-lts.Need-same-length-2 (two-formulas-claims t) (two-formulas-at t)
+    two-formulas.Post
 two-formulas-same-length-2 t c = search needs
 
-two-formulas-returns-2 : (t : ℕ) → two-formulas-lts.Need-returns-2 (two-formulas-claims t) (two-formulas-at t) two-formulas.Post
+two-formulas-returns-2 : (t : ℕ) → two-formulas-lts.Need-returns-2 (two-formulas-claims t) (two-formulas-at t)
+    two-formulas.Post
 two-formulas-returns-2 t c =
     let start = c .before .before .before .before .before .before .before .before .before .before .before .before .before .before .before .before .before .before in
     let call = c .before .before .before .before .before .before .before .before .before .before .state-formula3 in
     let other = c .before .before .before .before .before .before .state-formula4 in
     let T = start .args .g .tuples in
-    let back = put-back T (call .last .1 .1 .1 .1 .1 .0) (other .last .1 .1 .1 .1 .1 .0) (front-kept T (formulas-room (start .pre .1)) (call .kept .1 .1 .1 .1 .1 .0)) (other .kept .1 .1 .1 .1 .1 .0) in
+    let back = put-back T (call .last .1 .1 .1 .1 .1 .0) (other .last .1 .1 .1 .1 .1 .0)
+    (front-kept T (formulas-room (start .pre .1)) (call .kept .1 .1 .1 .1 .1 .0)) (other .kept .1 .1 .1 .1 .1 .0) in
     formulas-crossed (c .before .before .before .before .before .before .before .before .before .before .before .before .before .before .before .before .survey .ensures) back (call .ensures) (other .ensures) (c .before .before .swap .ensures)
 
 pub +combined+expression+path+state-formula+two-expressions+two-formulas-spec :

@@ -53,10 +53,13 @@ returns c =
     let one : suc (v - 1) ≡ v = omega (arith, start .pre .some) in
     record {
       each = λ chain labels.
-          subst (λ (i : ℕ). Layer (g .states) (g .variables) (truth (hasLabel chain (start .args .l) i)) (c .before .before .labelled .last .1 .1 .1 .1 .1 .0)) one
-          (labelled-layer (start .pre .sizes .whole) chain (start .args .masks .now) (start .args .l) (v - 1) (c .before .before .before .before .scaled .result)
+          subst (λ (i : ℕ). Layer (g .states) (g .variables) (truth (hasLabel chain (start .args .l) i))
+          (c .before .before .labelled .last .1 .1 .1 .1 .1 .0)) one
+          (labelled-layer (start .pre .sizes .whole) chain (start .args .masks .now) (start .args .l) (v - 1)
+          (c .before .before .before .before .scaled .result)
           (start .pre .sizes .some) (omega (arith, start .pre .some, start .pre .bound))
-          (c .before .before .before .before .scaled .ensures ∙ one-mul _ ∙ ap (λ (i : ℕ). g .states ^ (g .variables - i)) (sym one))
+          (c .before .before .before .before .scaled .ensures ∙ one-mul _ ∙
+          ap (λ (i : ℕ). g .states ^ (g .variables - i)) (sym one))
           labels (c .before .before .labelled .ensures));
     }
 

@@ -1,7 +1,10 @@
 -- `operands` and `survey` meet their contracts, node by node. The measure is the number of places left, counted twice.
 use borrow.Author.Needs.{needs}
 use mathlib.Core.Path.{refl}
-use Rattle.evaluate.proofs.Surveying.{surveyed-past, surveyed-two, surveyed-true, surveyed-label, surveyed-not, surveyed-and, surveyed-compare, surveyed-probability, surveyed-constant, surveyed-sum, surveyed-difference, surveyed-product, surveyed-next, surveyed-until}
+use Rattle.evaluate.proofs.Surveying.{surveyed-past, surveyed-two, surveyed-true, surveyed-label, surveyed-not}
+use Rattle.evaluate.proofs.Surveying.{surveyed-and, surveyed-compare, surveyed-probability, surveyed-constant}
+use Rattle.evaluate.proofs.Surveying.{surveyed-sum, surveyed-difference, surveyed-product, surveyed-next}
+use Rattle.evaluate.proofs.Surveying.{surveyed-until}
 use Prim.Native.Nat.{ℕ, _+_, _-_, _*_, _<_}
 use borrow.Fn.Kinds.{In}
 use borrow.Fn.PlainCycle.{Measures, is, falls, and}
@@ -40,24 +43,37 @@ abbrev operands-claims : ℕ → operands-lts.Claims
 operands-claims t = (survey-below t, survey.Post, need-of-reads.Asked, need-of-reads.Learnt)
 
 abbrev survey-claims : ℕ → survey-lts.Claims
-survey-claims t = (leaf-reads.Asked, leaf-reads.Learnt, survey-below t, survey.Post, operands-below t, operands.Post, at-least-three-reads.Asked, at-least-three-reads.Learnt)
+survey-claims t = (
+  leaf-reads.Asked,
+  leaf-reads.Learnt,
+  survey-below t,
+  survey.Post,
+  operands-below t,
+  operands.Post,
+  at-least-three-reads.Asked,
+  at-least-three-reads.Learnt,
+)
 
 operands-survey-requires : (t : ℕ) → operands-lts.Need-survey-requires (operands-claims t) (operands-at t) operands.Post
 operands-survey-requires t c κs = search needs
 
-operands-survey-requires-2 : (t : ℕ) → operands-lts.Need-survey-requires-2 (operands-claims t) (operands-at t) operands.Post
+operands-survey-requires-2 : (t : ℕ) → operands-lts.Need-survey-requires-2 (operands-claims t) (operands-at t)
+    operands.Post
 operands-survey-requires-2 t c κs = search needs
 
-operands-need-of-requires : (t : ℕ) → operands-lts.Need-need-of-requires (operands-claims t) (operands-at t) operands.Post
+operands-need-of-requires : (t : ℕ) → operands-lts.Need-need-of-requires (operands-claims t) (operands-at t)
+    operands.Post
 operands-need-of-requires t c κs = search needs
 
 operands-returns : (t : ℕ) → operands-lts.Need-returns (operands-claims t) (operands-at t) operands.Post
 operands-returns t c =
     let a = c .before .before .before .args in
-    surveyed-two (a .nodes) (a .at) (c .before .before .survey .result) (c .before .survey2 .result) _ (c .before .before .survey .ensures) (c .before .survey2 .ensures) refl (c .need-of .ensures)
+    surveyed-two (a .nodes) (a .at) (c .before .before .survey .result) (c .before .survey2 .result) _
+    (c .before .before .survey .ensures) (c .before .survey2 .ensures) refl (c .need-of .ensures)
 
 survey-returns : (t : ℕ) → survey-lts.Need-returns (survey-claims t) (survey-at t) survey.Post
-survey-returns t c = surveyed-past (c .before .args .t1) (c .before .args .at) _ (c .if1 .taken) (c .before .pre .1) refl refl
+survey-returns t c = surveyed-past (c .before .args .t1) (c .before .args .at) _ (c .if1 .taken) (c .before .pre .1)
+    refl refl
 
 survey-mul-slot : (t : ℕ) → survey-lts.Need-mul-slot (survey-claims t) (survey-at t) survey.Post
 survey-mul-slot t c = search needs
@@ -164,69 +180,85 @@ survey-add-operands-6 t c = search needs
 survey-operands-requires-6 : (t : ℕ) → survey-lts.Need-operands-requires-6 (survey-claims t) (survey-at t) survey.Post
 survey-operands-requires-6 t c κs = search needs
 
-survey-at-least-three-requires : (t : ℕ) → survey-lts.Need-at-least-three-requires (survey-claims t) (survey-at t) survey.Post
+survey-at-least-three-requires : (t : ℕ) → survey-lts.Need-at-least-three-requires (survey-claims t) (survey-at t)
+    survey.Post
 survey-at-least-three-requires t c κs = search needs
 
 survey-returns-2 : (t : ℕ) → survey-lts.Need-returns-2 (survey-claims t) (survey-at t) survey.Post
 survey-returns-2 t c =
     let start = c .before .before .before .before .before in
-    surveyed-true (start .args .t1) (start .args .at) _ (c .before .before .before .before .if1 .left) (c .leaf .ensures .0) (c .leaf .ensures .1) (c .before .enum-told .given .1)
+    surveyed-true (start .args .t1) (start .args .at) _ (c .before .before .before .before .if1 .left)
+    (c .leaf .ensures .0) (c .leaf .ensures .1) (c .before .enum-told .given .1)
 
 survey-returns-3 : (t : ℕ) → survey-lts.Need-returns-3 (survey-claims t) (survey-at t) survey.Post
 survey-returns-3 t c =
     let start = c .before .before .before .before .before in
-    surveyed-label (start .args .t1) (start .args .at) _ (c .before .before .before .before .if1 .left) (c .leaf2 .ensures .0) (c .leaf2 .ensures .1) (c .before .enum-told2 .given .0 .0) (c .before .enum-told2 .given .0 .1 .0) (c .before .enum-told2 .given .1)
+    surveyed-label (start .args .t1) (start .args .at) _ (c .before .before .before .before .if1 .left)
+    (c .leaf2 .ensures .0) (c .leaf2 .ensures .1) (c .before .enum-told2 .given .0 .0)
+    (c .before .enum-told2 .given .0 .1 .0) (c .before .enum-told2 .given .1)
 
 survey-returns-4 : (t : ℕ) → survey-lts.Need-returns-4 (survey-claims t) (survey-at t) survey.Post
 survey-returns-4 t c =
     let start = c .before .before .before .before .before in
-    surveyed-not (start .args .t1) (start .args .at) _ (c .before .before .before .before .if1 .left) (c .survey .ensures) (c .before .enum-told3 .given .1)
+    surveyed-not (start .args .t1) (start .args .at) _ (c .before .before .before .before .if1 .left)
+    (c .survey .ensures) (c .before .enum-told3 .given .1)
 
 survey-returns-5 : (t : ℕ) → survey-lts.Need-returns-5 (survey-claims t) (survey-at t) survey.Post
 survey-returns-5 t c =
     let start = c .before .before .before .before .before in
-    surveyed-and (start .args .t1) (start .args .at) _ (c .before .before .before .before .if1 .left) (c .operands .ensures) (c .before .enum-told4 .given .1)
+    surveyed-and (start .args .t1) (start .args .at) _ (c .before .before .before .before .if1 .left)
+    (c .operands .ensures) (c .before .enum-told4 .given .1)
 
 survey-returns-6 : (t : ℕ) → survey-lts.Need-returns-6 (survey-claims t) (survey-at t) survey.Post
 survey-returns-6 t c =
     let start = c .before .before .before .before .before in
-    surveyed-compare (start .args .t1) (start .args .at) _ (c .before .before .before .before .if1 .left) (c .operands2 .ensures) (c .before .enum-told5 .given .0 .0) (c .before .enum-told5 .given .1)
+    surveyed-compare (start .args .t1) (start .args .at) _ (c .before .before .before .before .if1 .left)
+    (c .operands2 .ensures) (c .before .enum-told5 .given .0 .0) (c .before .enum-told5 .given .1)
 
 survey-returns-7 : (t : ℕ) → survey-lts.Need-returns-7 (survey-claims t) (survey-at t) survey.Post
 survey-returns-7 t c =
     let start = c .before .before .before .before .before in
-    surveyed-probability (start .args .t1) (start .args .at) _ (c .before .before .before .before .if1 .left) (c .survey2 .ensures) (c .before .enum-told6 .given .1)
+    surveyed-probability (start .args .t1) (start .args .at) _ (c .before .before .before .before .if1 .left)
+    (c .survey2 .ensures) (c .before .enum-told6 .given .1)
 
 survey-returns-8 : (t : ℕ) → survey-lts.Need-returns-8 (survey-claims t) (survey-at t) survey.Post
 survey-returns-8 t c =
     let start = c .before .before .before .before .before in
-    surveyed-constant (start .args .t1) (start .args .at) _ (c .before .before .before .before .if1 .left) (c .leaf3 .ensures .0) (c .leaf3 .ensures .1) (c .before .enum-told7 .given .0 .0) (c .before .enum-told7 .given .0 .1 .0) (c .before .enum-told7 .given .1)
+    surveyed-constant (start .args .t1) (start .args .at) _ (c .before .before .before .before .if1 .left)
+    (c .leaf3 .ensures .0) (c .leaf3 .ensures .1) (c .before .enum-told7 .given .0 .0)
+    (c .before .enum-told7 .given .0 .1 .0) (c .before .enum-told7 .given .1)
 
 survey-returns-9 : (t : ℕ) → survey-lts.Need-returns-9 (survey-claims t) (survey-at t) survey.Post
 survey-returns-9 t c =
     let start = c .before .before .before .before .before in
-    surveyed-sum (start .args .t1) (start .args .at) _ (c .before .before .before .before .if1 .left) (c .operands3 .ensures) (c .before .enum-told8 .given .1)
+    surveyed-sum (start .args .t1) (start .args .at) _ (c .before .before .before .before .if1 .left)
+    (c .operands3 .ensures) (c .before .enum-told8 .given .1)
 
 survey-returns-10 : (t : ℕ) → survey-lts.Need-returns-10 (survey-claims t) (survey-at t) survey.Post
 survey-returns-10 t c =
     let start = c .before .before .before .before .before in
-    surveyed-difference (start .args .t1) (start .args .at) _ (c .before .before .before .before .if1 .left) (c .operands4 .ensures) (c .before .enum-told9 .given .1)
+    surveyed-difference (start .args .t1) (start .args .at) _ (c .before .before .before .before .if1 .left)
+    (c .operands4 .ensures) (c .before .enum-told9 .given .1)
 
 survey-returns-11 : (t : ℕ) → survey-lts.Need-returns-11 (survey-claims t) (survey-at t) survey.Post
 survey-returns-11 t c =
     let start = c .before .before .before .before .before in
-    surveyed-product (start .args .t1) (start .args .at) _ (c .before .before .before .before .if1 .left) (c .operands5 .ensures) (c .before .enum-told10 .given .1)
+    surveyed-product (start .args .t1) (start .args .at) _ (c .before .before .before .before .if1 .left)
+    (c .operands5 .ensures) (c .before .enum-told10 .given .1)
 
 survey-returns-12 : (t : ℕ) → survey-lts.Need-returns-12 (survey-claims t) (survey-at t) survey.Post
 survey-returns-12 t c =
     let start = c .before .before .before .before .before in
-    surveyed-next (start .args .t1) (start .args .at) _ (c .before .before .before .before .if1 .left) (c .survey3 .ensures) (c .before .enum-told11 .given .1)
+    surveyed-next (start .args .t1) (start .args .at) _ (c .before .before .before .before .if1 .left)
+    (c .survey3 .ensures) (c .before .enum-told11 .given .1)
 
 survey-returns-13 : (t : ℕ) → survey-lts.Need-returns-13 (survey-claims t) (survey-at t) survey.Post
 survey-returns-13 t c =
     let start = c .before .before .before .before .before .before in
-    surveyed-until (start .args .t1) (start .args .at) (c .before .operands6 .result) _ (c .before .before .before .before .before .if1 .left) (c .before .operands6 .ensures)
-    (c .at-least-three .ensures .0) (c .at-least-three .ensures .1) (c .before .before .enum-told12 .given .0 .0) (c .before .before .enum-told12 .given .0 .1 .0) (c .before .before .enum-told12 .given .1)
+    surveyed-until (start .args .t1) (start .args .at) (c .before .operands6 .result) _
+    (c .before .before .before .before .before .if1 .left) (c .before .operands6 .ensures)
+    (c .at-least-three .ensures .0) (c .at-least-three .ensures .1) (c .before .before .enum-told12 .given .0 .0)
+    (c .before .before .enum-told12 .given .0 .1 .0) (c .before .before .enum-told12 .given .1)
 
 pub +operands+survey-spec : {M : Type 1} → statement M
 +operands+survey-spec = close μ-operands μ-survey (λ t. operands-lts.spec (
