@@ -8,6 +8,7 @@ pub mod NodeAt
 pub mod PrefixAt
 pub mod Once
 pub mod ReadAll
+pub mod Found
 pub mod Fitting
 pub mod Sizes
 pub mod Puts

@@ -7,7 +7,7 @@ use mathlib.Core.Path.{_≡_, refl, sym, ap, _∙_, subst}
 use native.Mathlib.Omega.{arith}
 use borrow.Author.Tests.{le-leb, lt-leb, ne-eqb}
 use lib.Dec.{leb, eqb}
-use lib.ListN.{length, drop, getD, length-set}
+use lib.ListN.{length, drop, getD}
 use Rattle.sentence.specs.Grammar.{numberText, nodeText, Writable, kindOf, wants, Nests, bodyText, outOfRange}
 use Rattle.sentence.specs.Grammar.Nests.{end, node}
 use Rattle.sentence.specs.Reading.{keep, keepBad, passedTo, stoppedAt, Inside, Stuck, Result, Reads, NodeResult, NodeReads, NumbersResult}
@@ -82,25 +82,25 @@ no-node k t at f = stuck-by k (drop at t) refute
         ∙ ap (λ (x : Kind). begins x (getD t at 0)) e ∙ f)
 
 -- past a node's text the state is inside again
-passed-inside : (t : List ℕ) (p : Progress) (n : Node) (at : ℕ) (bad : Bool) → Inside t p → p .at < at → at ≤ length t → Inside t (passedTo p n at bad)
-passed-inside t p n at bad i l h = record { within = h; counted = omega (arith, i .counted); places = length-set (p .kept .nodes) (p .kept .count) _ ∙ i .places }
+passed-inside : (t : List ℕ) (p : Progress) (at : ℕ) (bad : Bool) → Inside t p → p .at < at → at ≤ length t → Inside t (passedTo p at bad)
+passed-inside t p at bad i l h = record { within = h; counted = omega (arith, i .counted) }
 
 stopped-inside : (t : List ℕ) (p : Progress) (at : ℕ) → Inside t p → p .at ≤ at → at ≤ length t → Inside t (stoppedAt p at)
-stopped-inside t p at i l h = record { within = h; counted = omega (arith, i .counted); places = i .places }
+stopped-inside t p at i l h = record { within = h; counted = omega (arith, i .counted) }
 
 -- a node that was read
 node-read : (n : Node) (t : List ℕ) (letters : ℕ) (p : Progress) (at : ℕ) (bad : Bool) → Writable n → bad ≡ outOfRange letters n → Inside t p → p .at < at → at ≤ length t
-    → drop (p .at) t ≡ nodeText n ++ drop at t → NodeReads (kindOf n) (wants n) t letters p (passedTo p n at bad)
+    → drop (p .at) t ≡ nodeText n ++ drop at t → NodeReads (kindOf n) (wants n) t letters p (passedTo p at bad)
 node-read n t letters p at bad w b i l h text =
     record {
       forward = l;
-      inside = passed-inside t p n at bad i l h;
-      result = took n refl w refl refl text (ap (keepBad (p .kept) n) b);
+      inside = passed-inside t p at bad i l h;
+      result = took n refl w refl refl text (ap (keepBad (p .kept)) b);
     }
 
 -- a node of one byte
 pub operator-read : (n : Node) (b : ℕ) (t : List ℕ) (letters : ℕ) (p : Progress) → nodeText n ≡ b ∷ [] → Writable n → false ≡ outOfRange letters n → getD t (p .at) 0 ≡ b → 1 ≤ b
-    → Inside t p → NodeReads (kindOf n) (wants n) t letters p (passedTo p n (p .at + 1) false)
+    → Inside t p → NodeReads (kindOf n) (wants n) t letters p (passedTo p (p .at + 1) false)
 operator-read n b t letters p text w out e l i =
     let in-text : p .at < length t = inside t (p .at) (omega arith) in
     node-read n t letters p (p .at + 1) false w out i (omega arith) (omega arith) (rw (starts t (p .at) b e l, text) refl)
@@ -113,7 +113,7 @@ node-none k js t letters p i l refute =
 
 -- a label
 pub label-read : (t : List ℕ) (letters : ℕ) (p : Progress) (b d : ℕ) → getD t (p .at) 0 ≡ b → 97 ≤ b → b ≤ 112 → getD t (p .at + 1) 0 ≡ d → 49 ≤ d → d ≤ 52 → Inside t p
-    → (bad : Bool) → bad ≡ outOfRange letters (Label (b - 97) (d - 48)) → NodeReads State [] t letters p (passedTo p (Label (b - 97) (d - 48)) (p .at + 2) bad)
+    → (bad : Bool) → bad ≡ outOfRange letters (Label (b - 97) (d - 48)) → NodeReads State [] t letters p (passedTo p (p .at + 2) bad)
 label-read t letters p b d e lb hb f ld hd i bad out =
     let in-text : p .at + 1 < length t = inside t (p .at + 1) (omega arith) in
     let x : 97 + (b - 97) ≡ b = omega arith in
@@ -148,7 +148,7 @@ regroup x y c d s = simp append-assoc
 pub numbers-read : (n : Node) (t : List ℕ) (letters : ℕ) (p : Progress) (b middle close : ℕ) (r : NumbersRead)
     → nodeText n ≡ b ∷ (numberText (r .first) ++ middle ∷ (numberText (r .second) ++ close ∷ []))
     → (r .first < 100000 → r .second < 100000 → Writable n) → getD t (p .at) 0 ≡ b → 1 ≤ b → Inside t p
-    → NumbersResult t (p .at + 1) middle close r → r .ok ≡ true → (bad : Bool) → bad ≡ outOfRange letters n → NodeReads (kindOf n) (wants n) t letters p (passedTo p n (r .next) bad)
+    → NumbersResult t (p .at + 1) middle close r → r .ok ≡ true → (bad : Bool) → bad ≡ outOfRange letters n → NodeReads (kindOf n) (wants n) t letters p (passedTo p (r .next) bad)
 numbers-read n t letters p b middle close r text w e l i (numbers ok lf ls same fwd over) good bad out =
     node-read n t letters p (r .next) bad (w lf ls) out i (omega arith) over
     (starts t (p .at) b e l ∙ ap (λ (s : List ℕ). b ∷ s) (same ∙ sym (regroup (r .first) (r .second) middle close (drop (r .next) t))) ∙ ap (λ (s : List ℕ). s ++ drop (r .next) t) (sym text))
@@ -176,7 +176,7 @@ numbers-none make k js t letters p b middle close r text bounds back e l i (Numb
 
 -- an operator of one byte that was passed
 pub operator-passed : (n : Node) (b : ℕ) (t : List ℕ) (letters : ℕ) (p q : Progress) → nodeText n ≡ b ∷ [] → Writable n → false ≡ outOfRange letters n → 1 ≤ b
-    → (byte : ℕ) → byte ≡ getD t (p .at) 0 → byte ≡ b → Inside t p → q ≡ passedTo p n (p .at + 1) false → NodeReads (kindOf n) (wants n) t letters p q
+    → (byte : ℕ) → byte ≡ getD t (p .at) 0 → byte ≡ b → Inside t p → q ≡ passedTo p (p .at + 1) false → NodeReads (kindOf n) (wants n) t letters p q
 operator-passed n b t letters p q text w out l byte e f i same =
     subst (λ (x : Progress). NodeReads (kindOf n) (wants n) t letters p x) (sym same) (operator-read n b t letters p text w out (sym e ∙ f) l i)
 

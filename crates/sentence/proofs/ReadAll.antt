@@ -4,17 +4,16 @@ use mathlib.Core.Bool.{Bool, true, false, _||_, true≢false, or-assoc}
 use mathlib.Core.List.{List, [], _∷_, _++_, map, append-assoc, append-nil}
 use mathlib.Core.Path.{_≡_, refl, sym, ap, ap₂, _∙_, subst}
 use native.Mathlib.Nat.{le-antisymm}
-use native.Mathlib.Numerals.{add-one}
 use native.Mathlib.Omega.{arith}
 use borrow.Author.Tests.{ltb-true, ltb-false}
 use lib.Dec.{ltb}
-use lib.ListN.{length, drop, set, replicate, length-map, length-replicate, length-drop}
+use lib.ListN.{length, drop, replicate, length-replicate, length-drop}
 use lib.Seq.{sets, sets-eq, drop-length}
 use Rattle.sentence.specs.Grammar.{letterByte, bodyText, Spells, Nests, someOutOfRange, outOfRange}
 use Rattle.sentence.specs.Calls.{slot, recordOf, refusal, ReadRow, ReadAnswer}
 use Rattle.sentence.specs.Calls.ReadRow.{outside, long, range, many}
 use Rattle.sentence.specs.Calls.ReadAnswer.{refused, done}
-use Rattle.sentence.specs.Reading.{keep, keepAll, begunAt, finishedAs, Inside, Stuck, Result, Reads, PrefixResult}
+use Rattle.sentence.specs.Reading.{keep, keepAll, begunAt, finishedAs, Finished, Body, placesOf, Inside, Stuck, Result, Reads, PrefixResult}
 use Rattle.sentence.specs.Reading.PrefixResult.{prefix}
 use Rattle.sentence.specs.Reading.Result.{stopped, read, stuck}
 use Rattle.sentence.specs.declared.PrefixRead.{PrefixRead}
@@ -27,11 +26,11 @@ use Rattle.sentence.specs.declared.Outcome.the-variants.{Done}
 use Rattle.sentence.specs.declared.SentenceRead.{SentenceRead}
 use Rattle.sentence.proofs.Numbers.{Tested, tested}
 use Rattle.sentence.proofs.Numbers.Tested.{holds, fails}
-use Rattle.sentence.proofs.Unique.{Peeled, peel}
+use Rattle.sentence.proofs.Unique.{all-writable, Peeled, peel}
 use Rattle.sentence.proofs.PrefixAt.{one-prefix}
 use Rattle.sentence.proofs.Once.{no-nodes, spelled-text, spelled-once}
 
--- the nodes kept are the count, the fault and the places of the list
+-- what is kept are the count and the fault of the list
 pub kept-count : (letters : ℕ) (k : Kept) (ns : List Node) → keepAll letters k ns .count ≡ k .count + length ns
 kept-count letters k [] = omega arith
 kept-count letters k (n ∷ ns) = kept-count letters (keep letters k n) ns ∙ regroup (k .count) (length ns)
@@ -46,10 +45,6 @@ kept-fault letters k [] = last (k .fault)
     last true = refl
     last false = refl
 kept-fault letters k (n ∷ ns) = kept-fault letters (keep letters k n) ns ∙ or-assoc (k .fault) (outOfRange letters n) (someOutOfRange letters ns)
-
-pub kept-nodes : (letters : ℕ) (k : Kept) (ns : List Node) → keepAll letters k ns .nodes ≡ sets (k .nodes) (k .count) (map slot ns)
-kept-nodes letters k [] = refl
-kept-nodes letters k (n ∷ ns) = kept-nodes letters (keep letters k n) ns ∙ ap (λ (i : ℕ). sets (set (k .nodes) (k .count) (slot n)) i (map slot ns)) (add-one (k .count))
 
 -- a list stored at the front of equal places
 drop-replicate : {A : Type 0} (n m : ℕ) (x : A) → drop n (replicate m x) ≡ replicate (m - n) x
@@ -140,13 +135,14 @@ outside-more t ps ns r same nests more qs ms s =
     omega (arith, ap length (p .text ∙ ap (λ (l : List Node). bodyText l ++ []) (no-nodes (p .nests))))
 
 -- the whole text is a sentence
-pub record Read (t : List ℕ) (letters : ℕ) (flags : List Bool) (k : Kept) : Type 0 where
+pub record Read (t : List ℕ) (at letters : ℕ) (flags : List Bool) (k : Kept) : Type 0 where
   pub ps : List Bool
   pub ns : List Node
   pub spells : Spells ps ns t
   pub lettered : letters ≡ length ps
   pub flagged : flags ≡ sets (replicate 4 false) 0 ps
   pub kept : k ≡ keepAll (length ps) (begunAt 0 .kept) ns
+  pub body : Body t at ns
 
 -- the text after its prefix is no state formula
 pub outside-body : (t : List ℕ) (flags : List Bool) (p : PrefixRead) (r : Progress) → PrefixResult t 0 flags p → p .ok ≡ true → Reads (State ∷ []) t (p .letters) (begunAt (p .next)) r → r .ok ≡ false
@@ -174,14 +170,17 @@ outside-rest t flags p r (prefix ps ok l h same n e x) good body fine over = by 
 
 -- the whole text was read
 pub whole : (t : List ℕ) (p : PrefixRead) (r : Progress) → PrefixResult t 0 (replicate 4 false) p → p .ok ≡ true → Reads (State ∷ []) t (p .letters) (begunAt (p .next)) r → r .ok ≡ true
-    → r .at ≡ length t → Read t (p .letters) (p .exists) (r .kept)
+    → r .at ≡ length t → Read t (p .next) (p .letters) (p .exists) (r .kept)
 whole t p r (PrefixResult.none ok not) good body fine over = absurd (true≢false (sym good ∙ ok))
 whole t p r (prefix ps ok l h same n e x) good body fine over = by (body .result)
   where
     count : p .letters ≡ length ps
     count = omega arith
 
-    by : Result (State ∷ []) t (p .letters) (begunAt (p .next)) r → Read t (p .letters) (p .exists) (r .kept)
+    to-end : (ns : List Node) → drop (p .next) t ≡ bodyText ns ++ drop (r .at) t → drop (p .next) t ≡ bodyText ns
+    to-end ns text = text ∙ ap (λ (s : List ℕ). bodyText ns ++ s) (ap (λ (i : ℕ). drop i t) over ∙ drop-length t) ∙ append-nil (bodyText ns)
+
+    by : Result (State ∷ []) t (p .letters) (begunAt (p .next)) r → Read t (p .next) (p .letters) (p .exists) (r .kept)
     by (stopped a b) = absurd (true≢false a)
     by (stuck a b none-fits) = absurd (true≢false (sym fine ∙ b))
     by (read ns a b nests text kept) =
@@ -194,13 +193,13 @@ whole t p r (prefix ps ok l h same n e x) good body fine over = by (body .result
                 few = omega arith;
                 nests = nests;
                 text =
-                    same
-                    ∙ ap (λ (s : List ℕ). map letterByte ps ++ 46 ∷ s) (text ∙ ap (λ (s : List ℕ). bodyText ns ++ s) (ap (λ (i : ℕ). drop i t) over ∙ drop-length t) ∙ append-nil (bodyText ns))
+                    same ∙ ap (λ (s : List ℕ). map letterByte ps ++ 46 ∷ s) (to-end ns text)
                     ∙ sym (append-assoc (map letterByte ps) (46 ∷ []) (bodyText ns));
               };
           lettered = count;
           flagged = x;
           kept = kept ∙ ap (λ (i : ℕ). keepAll i (begunAt 0 .kept) ns) count;
+          body = record { writable = all-writable nests; text = to-end ns text };
         }
 
 -- what is kept of a list of nodes, from nothing on
@@ -211,28 +210,25 @@ module _ (letters : ℕ) (ns : List Node) where
   all-count : keepAll letters (begunAt 0 .kept) ns .count ≡ length ns
   all-count = omega (arith, kept-count letters (begunAt 0 .kept) ns)
 
-  all-nodes : length ns ≤ 64 → keepAll letters (begunAt 0 .kept) ns .nodes ≡ map slot ns ++ replicate (64 - length ns) (slot True)
-  all-nodes h =
-      kept-nodes letters (begunAt 0 .kept) ns ∙ stored 64 (slot True) (map slot ns) (rw (length-map ns slot) h)
-      ∙ ap (λ (i : ℕ). map slot ns ++ replicate (64 - i) (slot True)) (length-map ns slot)
-
 -- the answer for a text in the grammar
 finish-kept : (t : List ℕ) (ps : List Bool) (ns : List Node) → Spells ps ns t → length t ≤ 400
-    → ReadAnswer t (finishedAs (length ps) (sets (replicate 4 false) 0 ps) (keepAll (length ps) (begunAt 0 .kept) ns))
+    → ReadAnswer t (finishedAs (length ps) (sets (replicate 4 false) 0 ps) (keepAll (length ps) (begunAt 0 .kept) ns) (placesOf ns))
 unfolding recordOf
 finish-kept t ps ns s short = by (tested (someOutOfRange (length ps) ns)) (tested (ltb 64 (length ns)))
   where
-    by : Tested (someOutOfRange (length ps) ns) → Tested (ltb 64 (length ns)) → ReadAnswer t (finishedAs (length ps) (sets (replicate 4 false) 0 ps) (keepAll (length ps) (begunAt 0 .kept) ns))
+    by : Tested (someOutOfRange (length ps) ns) → Tested (ltb 64 (length ns)) → ReadAnswer t (finishedAs (length ps) (sets (replicate 4 false) 0 ps) (keepAll (length ps) (begunAt 0 .kept) ns) (placesOf ns))
     by (holds e) m = rw (all-fault (length ps) ns, e) (answer-range s short e)
     by (fails e) (holds m) = rw (all-fault (length ps) ns, e, all-count (length ps) ns, m) (answer-many s short e (ltb-true 64 (length ns) m))
     by (fails e) (fails m) =
         let h : length ns ≤ 64 = ltb-false 64 (length ns) m in
-        rw (all-fault (length ps) ns, e, all-count (length ps) ns, m, all-nodes (length ps) ns h, stored 4 false ps (s .few)) (answer-done s short e h)
+        rw (all-fault (length ps) ns, e, all-count (length ps) ns, m, stored 4 false ps (s .few)) (answer-done s short e h)
 
-pub finish : (t : List ℕ) (letters : ℕ) (flags : List Bool) (k : Kept) → Read t letters flags k → length t ≤ 400 → ReadAnswer t (finishedAs letters flags k)
-finish t letters flags k r short = rw (r .lettered, r .flagged, r .kept) (finish-kept t (r .ps) (r .ns) (r .spells) short)
+pub finish : (t : List ℕ) (at letters : ℕ) (flags : List Bool) (k : Kept) (a : SentenceRead) → Read t at letters flags k → length t ≤ 400 → Finished t at letters flags k a → ReadAnswer t a
+finish t at letters flags k a r short finished =
+    let count : length (r .ns) ≡ k .count = sym (ap (λ (x : Kept). x .count) (r .kept) ∙ all-count (length (r .ps)) (r .ns)) in
+    rw (finished (r .ns) count (r .body), r .lettered, r .flagged, r .kept) (finish-kept t (r .ps) (r .ns) (r .spells) short)
 
 -- the state in which the body is read lies inside the text
 pub begun-inside : (t : List ℕ) (flags : List Bool) (p : PrefixRead) → PrefixResult t 0 flags p → p .ok ≡ true → Inside t (begunAt (p .next))
 begun-inside t flags p (PrefixResult.none ok not) good = absurd (true≢false (sym good ∙ ok))
-begun-inside t flags p (prefix ps ok l h same n e x) good = record { within = n; counted = omega arith; places = refl }
+begun-inside t flags p (prefix ps ok l h same n e x) good = record { within = n; counted = omega arith }

@@ -11,6 +11,7 @@ use lib.Dec.{leb, eqb}
 use Rattle.sentence.specs.Grammar.{numberText, nodeText, Writable, kindOf, wants, Nests, bodyText}
 use Rattle.sentence.specs.Grammar.Nests.{end, node}
 use Rattle.sentence.specs.Reading.{NoDigit}
+use Rattle.sentence.specs.Writing.{AllWritable}
 use Rattle.sentence.specs.declared.Kind.{Kind}
 use Rattle.sentence.specs.declared.Relation.{Relation}
 use Rattle.sentence.specs.declared.Relation.the-variants.{Less, AtMost, Equal, AtLeast, Greater}
@@ -95,6 +96,11 @@ body-append (m ∷ ms) ns = rw (body-append ms ns) (sym (append-assoc (nodeText 
 pub join : {js : List Kind} {ms : List Node} (ks : List Kind) {ns : List Node} → Nests js ms → Nests ks ns → Nests (js ++ ks) (ms ++ ns)
 join ks end b = b
 join ks (node w e a) b = node w e (rw append-assoc at (join ks a b))
+
+-- a nesting list has a text for each node
+pub all-writable : {ks : List Kind} {ns : List Node} → Nests ks ns → AllWritable ns
+all-writable end = tt
+all-writable (node w e n) = (w, all-writable n)
 
 -- what is left of a list of the kinds js and ks, after a list of the kinds js at the same text's front
 pub record Peeled (ks : List Kind) (ms ns : List Node) (r s : List ℕ) : Type 0 where

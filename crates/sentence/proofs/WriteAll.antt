@@ -86,11 +86,6 @@ nested s r room-for f good over = by (f .result)
         let gone : drop (r .at) (nodesOf s) ≡ [] = ap (λ (i : ℕ). drop i (nodesOf s)) (over ∙ sym (listed-length (s .nodes) (s .count) room-for)) ∙ drop-length (nodesOf s) in
         subst (λ (x : List Node). Nests (State ∷ []) x) (sym (split ∙ ap (λ (x : List Node). ns ++ x) gone ∙ append-nil ns)) n
 
--- a nesting list has a text for each node
-pub all-writable : {ks : List Kind} {ns : List Node} → Nests ks ns → AllWritable ns
-all-writable end = tt
-all-writable (node w e n) = (w, all-writable n)
-
 -- how long a sentence's text is
 pub text-length : (ps : List Bool) (ns : List Node) → length (sentenceText ps ns) ≡ length ps + 1 + length (bodyText ns)
 text-length ps ns = simp (length-append, length-map) (omega arith)

@@ -1,33 +1,36 @@
 -- What the parts of the reader promise one another, said over the grammar. None of it has to be believed: the contract of
 -- `read_sentence` stands in Calls.
-use Prim.Native.Nat.{ℕ, _+_, _≤_, _<_}
+use Prim.Native.Nat.{ℕ, _+_, _-_, _≤_, _<_}
 use mathlib.Core.Bool.{Bool, true, false, _||_, cond}
 use mathlib.Core.List.{List, [], _∷_, _++_, map}
 use mathlib.Core.Logic.{_⊎_}
 use mathlib.Core.Path.{_≡_}
 use lib.Dec.{ltb}
-use lib.ListN.{length, drop, set, replicate}
+use lib.ListN.{length, drop, replicate}
 use lib.Seq.{sets}
 use Rattle.sentence.specs.Grammar.{numberText, Nests, nodeText, Writable, kindOf, wants, bodyText, letterByte, outOfRange}
 use Rattle.sentence.specs.Calls.{slot, refusal}
+use Rattle.sentence.specs.Writing.{AllWritable}
 use Rattle.sentence.specs.declared.Kind.{Kind}
 use Rattle.sentence.specs.declared.Node.{Node}
 use Rattle.sentence.specs.declared.Node.the-variants.{True}
+use Rattle.sentence.specs.declared.Slot.{Slot}
 use Rattle.sentence.specs.declared.Kept.{Kept}
 use Rattle.sentence.specs.declared.Progress.{Progress}
 use Rattle.sentence.specs.declared.Outcome.the-variants.{Done}
 use Rattle.sentence.specs.declared.SentenceRead.{SentenceRead}
 use Rattle.sentence.specs.declared.NumberRead.{NumberRead}
 use Rattle.sentence.specs.declared.NumbersRead.{NumbersRead}
+use Rattle.sentence.specs.declared.NodeRead.{NodeRead}
 use Rattle.sentence.specs.declared.PrefixRead.{PrefixRead}
 
--- one node more, of which `bad` says that it is out of its range: past the 64th it is counted, and no place takes it
-abbrev pub keepBad : Kept → Node → Bool → Kept
-keepBad k n bad = record { count = k .count + 1; fault = k .fault || bad; nodes = set (k .nodes) (k .count) (slot n) }
+-- one node more, of which `bad` says that it is out of its range
+abbrev pub keepBad : Kept → Bool → Kept
+keepBad k bad = record { count = k .count + 1; fault = k .fault || bad }
 
 -- one node more, in a sentence of so many letters
 abbrev pub keep : ℕ → Kept → Node → Kept
-keep letters k n = keepBad k n (outOfRange letters n)
+keep letters k n = keepBad k (outOfRange letters n)
 
 -- the same for each node of a list
 abbrev pub keepAll : ℕ → Kept → List Node → Kept
@@ -36,11 +39,11 @@ keepAll letters k (n ∷ ns) = keepAll letters (keep letters k n) ns
 
 -- the state in which the body is read
 abbrev pub begunAt : ℕ → Progress
-begunAt at = record { ok = true; at = at; kept = record { count = 0; fault = false; nodes = replicate 64 (slot True) } }
+begunAt at = record { ok = true; at = at; kept = record { count = 0; fault = false } }
 
 -- the state past a node's own text
-abbrev pub passedTo : Progress → Node → ℕ → Bool → Progress
-passedTo p n at bad = record { ok = true; at = at; kept = keepBad (p .kept) n bad }
+abbrev pub passedTo : Progress → ℕ → Bool → Progress
+passedTo p at bad = record { ok = true; at = at; kept = keepBad (p .kept) bad }
 
 -- the state where the text is not in the grammar
 abbrev pub stoppedAt : Progress → ℕ → Progress
@@ -50,7 +53,6 @@ stoppedAt p at = record { ok = false; at = at; kept = p .kept }
 pub record Inside (t : List ℕ) (p : Progress) : Type 0 where
   pub within : p .at ≤ length t
   pub counted : p .kept .count ≤ p .at
-  pub places : length (p .kept .nodes) ≡ 64
 
 -- no list that starts with things of the kinds js stands at the front of the text s
 abbrev pub Stuck : List Kind → List ℕ → Type 0
@@ -100,9 +102,34 @@ pub data PrefixResult (t : List ℕ) (at : ℕ) (flags : List Bool) (r : PrefixR
   prefix : (qs : List Bool) → r .ok ≡ true → 1 ≤ at + length qs → at + length qs ≤ 4 → drop at t ≡ map letterByte qs ++ 46 ∷ drop (r .next) t → r .next ≤ length t → r .letters ≡ at + length qs → r .exists ≡ sets flags at qs → PrefixResult t at flags r
   none : r .ok ≡ false → ((qs : List Bool) (rest : List ℕ) → 1 ≤ at + length qs → at + length qs ≤ 4 → drop at t ≡ map letterByte qs ++ 46 ∷ rest → ⊥) → PrefixResult t at flags r
 
--- the answer for a text in the grammar, from what was kept of it: 7 before 8
-abbrev pub finishedAs : ℕ → List Bool → Kept → SentenceRead
-finishedAs letters flags k =
+-- a node that was read up to the place `next`
+abbrev pub nodeTo : Node → ℕ → NodeRead
+nodeTo n next = record { node = n; next = next }
+
+-- where a node's own text stands at the place `at`, the node is read and the place past its text
+abbrev pub NodeHere : List ℕ → ℕ → NodeRead → Type 0
+NodeHere t at r = (n : Node) (rest : List ℕ) → Writable n → drop at t ≡ nodeText n ++ rest → (r .node ≡ n) × (drop (r .next) t ≡ rest)
+
+-- the text from the place `at` on is that of the nodes ns
+pub record Body (t : List ℕ) (at : ℕ) (ns : List Node) : Type 0 where
+  pub writable : AllWritable ns
+  pub text : drop at t ≡ bodyText ns
+
+-- the record's places of a list of nodes: places past the list are empty
+abbrev pub placesOf : List Node → List Slot
+placesOf ns = map slot ns ++ replicate (64 - length ns) (slot True)
+
+-- where the text from the place `at` on is that of so many nodes, these are their places
+abbrev pub NodesHere : List ℕ → ℕ → ℕ → List Slot → Type 0
+NodesHere t at count places = (ns : List Node) → length ns ≡ count → Body t at ns → places ≡ placesOf ns
+
+-- the answer for a text in the grammar, from what was kept of it and the places of its nodes: 7 before 8
+abbrev pub finishedAs : ℕ → List Bool → Kept → List Slot → SentenceRead
+finishedAs letters flags k places =
     cond (k .fault) (refusal 7)
     (cond (ltb 64 (k .count)) (refusal 8)
-    (record { outcome = Done; sentence = record { letters = letters; exists = flags; count = k .count; nodes = k .nodes } }))
+    (record { outcome = Done; sentence = record { letters = letters; exists = flags; count = k .count; nodes = places } }))
+
+-- the same, where the text from the place `at` on is that of the nodes that were kept
+abbrev pub Finished : List ℕ → ℕ → ℕ → List Bool → Kept → SentenceRead → Type 0
+Finished t at letters flags k r = (ns : List Node) → length ns ≡ k .count → Body t at ns → r ≡ finishedAs letters flags k (placesOf ns)

@@ -7,7 +7,7 @@ ghost use mathlib.Core.Path.{_≡_};
 ghost use lib.ListN.{length, take, drop, getD, replicate, set};
 ghost use Rattle.sentence.specs.Grammar.{numberText, nodeText, bodyText, relationByte, letterByte, Writable, kindOf, outOfRange};
 ghost use Rattle.sentence.specs.Calls.{ReadAnswer, WriteAnswer, refusal, slot};
-ghost use Rattle.sentence.specs.Reading.{begunAt, finishedAs, keepBad, passedTo, stoppedAt, Inside, Reads, NodeReads, NoDigit, Closing, NumberResult, NumbersResult, PrefixResult};
+ghost use Rattle.sentence.specs.Reading.{begunAt, Finished, keepBad, passedTo, stoppedAt, nodeTo, NodeHere, NodesHere, Inside, Reads, NodeReads, NoDigit, Closing, NumberResult, NumbersResult, PrefixResult};
 ghost use Rattle.sentence.specs.Writing.{listed, wantsOf, sameKind, writable, Fits, Surveyed, Decision, Put, numbersText, AllWritable};
 
 // The five comparisons.
@@ -67,11 +67,10 @@ pub struct SentenceRead {
     pub sentence: Sentence,
 }
 
-// The nodes read so far: how many there are, whether one is out of its range, and the first 64 of them.
+// Of the nodes read so far: how many there are, and whether one is out of its range.
 pub struct Kept {
     pub count: usize,
     pub fault: bool,
-    pub nodes: [Slot; 64],
 }
 
 // The reader's state: whether the text is in the grammar so far, the next byte's place, and the nodes.
@@ -93,6 +92,12 @@ pub struct NumbersRead {
     pub ok: bool,
     pub first: u32,
     pub second: u32,
+    pub next: usize,
+}
+
+// A node that was read, and the place past its own text.
+pub struct NodeRead {
+    pub node: Node,
     pub next: usize,
 }
 
@@ -156,27 +161,15 @@ fn byte_at(text: &[u8], at: usize) -> u8
     if at < text.len() { text[at] } else { 0 }
 }
 
-// One node more: it is counted, its range is seen, and one of the first 64 is stored.
-fn keep(k: Kept, node: Node, bad: bool) -> Kept
-    requires { ⌜ (k .count + 1 < 2 ^ 64) × (length (k .nodes) ≡ 64) ⌝ }
-    ensures { λ r. ⌜ r ≡ keepBad k node bad ⌝ }
+// One node more: it is counted, and its range is seen.
+fn keep(k: Kept, bad: bool) -> Kept
+    requires { ⌜ k .count + 1 < 2 ^ 64 ⌝ }
+    ensures { λ r. ⌜ r ≡ keepBad k bad ⌝ }
 {
-    let at = k.count;
-    let mut nodes = k.nodes;
     let fault = k.fault | bad;
-    if at < 64 {
-        let slot = Slot { node };
-        nodes[at] = slot;
-        return Kept {
-            count: at + 1,
-            fault,
-            nodes,
-        };
-    }
     Kept {
-        count: at + 1,
+        count: k.count + 1,
         fault,
-        nodes,
     }
 }
 
@@ -291,12 +284,12 @@ fn stopped(p: Progress, at: usize) -> Progress
 }
 
 // The state past a node's own text, which ends before `at`; `bad` says that the node is out of its range.
-fn passed(p: Progress, node: Node, at: usize, bad: bool) -> Progress
-    requires { ⌜ (p .kept .count + 1 < 2 ^ 64) × (length (p .kept .nodes) ≡ 64) ⌝ }
-    ensures { λ r. ⌜ r ≡ passedTo p node at bad ⌝ }
+fn passed(p: Progress, at: usize, bad: bool) -> Progress
+    requires { ⌜ p .kept .count + 1 < 2 ^ 64 ⌝ }
+    ensures { λ r. ⌜ r ≡ passedTo p at bad ⌝ }
 {
     let before = p.kept;
-    let kept = keep(before, node, bad);
+    let kept = keep(before, bad);
     Progress { ok: true, at, kept }
 }
 
@@ -313,7 +306,7 @@ fn label(text: &[u8], letters: usize, p: Progress) -> Progress
             let label = letter - b'a';
             let variable = digit - b'0';
             let node = Node::Label { label, variable };
-            passed(p, node, at + 2, is_fault(letters, node))
+            passed(p, at + 2, is_fault(letters, node))
         }
         _ => stopped(p, at + 1),
     }
@@ -333,7 +326,7 @@ fn constant(text: &[u8], letters: usize, p: Progress) -> Progress
         return stopped(p, at + 1);
     }
     let node = Node::Constant { top, bottom };
-    passed(p, node, read.next, is_fault(letters, node))
+    passed(p, read.next, is_fault(letters, node))
 }
 
 // An until and its window: the next byte is its `U`.
@@ -350,22 +343,22 @@ fn window(text: &[u8], letters: usize, p: Progress) -> Progress
         return stopped(p, at + 1);
     }
     let node = Node::Until { from, to };
-    passed(p, node, read.next, is_fault(letters, node))
+    passed(p, read.next, is_fault(letters, node))
 }
 
-// The state past an operator of one byte.
+// The state past an operator of one byte. The node says which it is: none of them is ever out of its range.
 fn operator(p: Progress, node: Node) -> Progress
-    requires { ⌜ (p .at + 1 < 2 ^ 64) × (p .kept .count + 1 < 2 ^ 64) × (length (p .kept .nodes) ≡ 64) ⌝ }
-    ensures { λ r. ⌜ r ≡ passedTo p node (p .at + 1) false ⌝ }
+    requires { ⌜ (p .at + 1 < 2 ^ 64) × (p .kept .count + 1 < 2 ^ 64) ⌝ }
+    ensures { λ r. ⌜ r ≡ passedTo p (p .at + 1) false ⌝ }
 {
     let at = p.at;
-    passed(p, node, at + 1, false)
+    passed(p, at + 1, false)
 }
 
 // The state past a comparison.
 fn compare(p: Progress, relation: Relation) -> Progress
-    requires { ⌜ (p .at + 1 < 2 ^ 64) × (p .kept .count + 1 < 2 ^ 64) × (length (p .kept .nodes) ≡ 64) ⌝ }
-    ensures { λ r. ⌜ r ≡ passedTo p (Node.Compare relation) (p .at + 1) false ⌝ }
+    requires { ⌜ (p .at + 1 < 2 ^ 64) × (p .kept .count + 1 < 2 ^ 64) ⌝ }
+    ensures { λ r. ⌜ r ≡ passedTo p (p .at + 1) false ⌝ }
 {
     operator(p, Node::Compare(relation))
 }
@@ -498,18 +491,115 @@ fn no_slots() -> [Slot; 64]
     [slot; 64]
 }
 
+// What a byte stands for as a digit, and 0 for a byte below the digits.
+fn digit_or_zero(b: u8) -> u8
+    ensures { λ r. ⌜ r ≡ b - 48 ⌝ }
+{
+    if b < b'0' { 0 } else { b - b'0' }
+}
+
+// A node whose text ends before `next`.
+fn single(node: Node, next: usize) -> NodeRead
+    ensures { λ r. ⌜ r ≡ nodeTo node next ⌝ }
+{
+    NodeRead { node, next }
+}
+
+// A comparison.
+fn comparison(relation: Relation, next: usize) -> NodeRead
+    ensures { λ r. ⌜ r ≡ nodeTo (Node.Compare relation) next ⌝ }
+{
+    single(Node::Compare(relation), next)
+}
+
+// The label of a letter and a digit.
+fn label_of(letter: u8, digit: u8, next: usize) -> NodeRead
+    requires { ⌜ 97 ≤ letter ⌝ }
+    ensures { λ r. ⌜ r ≡ nodeTo (Node.Label (letter - 97) (digit - 48)) next ⌝ }
+{
+    let label = letter - b'a';
+    let variable = digit_or_zero(digit);
+    single(Node::Label { label, variable }, next)
+}
+
+// The constant of two numbers.
+fn constant_of(read: NumbersRead) -> NodeRead
+    ensures { λ r. ⌜ r ≡ nodeTo (Node.Constant (read .first) (read .second)) (read .next) ⌝ }
+{
+    let top = read.first;
+    let bottom = read.second;
+    single(Node::Constant { top, bottom }, read.next)
+}
+
+// The until whose window is of two numbers.
+fn until_of(read: NumbersRead) -> NodeRead
+    ensures { λ r. ⌜ r ≡ nodeTo (Node.Until (read .first) (read .second)) (read .next) ⌝ }
+{
+    let from = read.first;
+    let to = read.second;
+    single(Node::Until { from, to }, read.next)
+}
+
+// The node whose own text stands at a place. Where none does, what is answered means nothing.
+fn node_at(text: &[u8], at: usize) -> NodeRead
+    ensures { λ r. ⌜ NodeHere (now (text .entry)) at r ⌝ }
+{
+    if text.len() <= at {
+        return single(Node::True, at);
+    }
+    let b = byte_at(text, at);
+    let next = at + 1;
+    if b'a' <= b {
+        return label_of(b, byte_at(text, next), next + 1);
+    }
+    match b {
+        b'T' => single(Node::True, next),
+        b'!' => single(Node::Not, next),
+        b'&' => single(Node::And, next),
+        b'<' => comparison(Relation::Less, next),
+        b'L' => comparison(Relation::AtMost, next),
+        b'=' => comparison(Relation::Equal, next),
+        b'G' => comparison(Relation::AtLeast, next),
+        b'>' => comparison(Relation::Greater, next),
+        b'P' => single(Node::Probability, next),
+        b'+' => single(Node::Sum, next),
+        b'-' => single(Node::Difference, next),
+        b'*' => single(Node::Product, next),
+        b'X' => single(Node::Next, next),
+        b'#' => constant_of(two_numbers(text, next, b'/', b';')),
+        _ => until_of(two_numbers(text, next, b',', b':')),
+    }
+}
+
+// The record's places of the `count` nodes whose texts stand from a place on to the text's end.
+fn nodes_from(text: &[u8], at: usize, count: usize) -> [Slot; 64]
+    requires { ⌜ count ≤ 64 ⌝ }
+    ensures { λ r. ⌜ NodesHere (now (text .entry)) at count r ⌝ }
+{
+    let mut nodes = no_slots();
+    let mut next = at;
+    let mut i = 0;
+    while i < count {
+        let read = node_at(text, next);
+        let node = read.node;
+        let slot = Slot { node };
+        nodes[i] = slot;
+        next = read.next;
+        i += 1;
+    }
+    nodes
+}
+
 // The state in which the body is read, from the place past the dot.
 fn begun(at: usize) -> Progress
     ensures { λ r. ⌜ r ≡ begunAt at ⌝ }
 {
-    let nodes = no_slots();
     Progress {
         ok: true,
         at,
         kept: Kept {
             count: 0,
             fault: false,
-            nodes,
         },
     }
 }
@@ -544,7 +634,8 @@ pub fn read_sentence(text: &[u8]) -> SentenceRead
     }
     let letters = prefix.letters;
     let exists = prefix.exists;
-    let end = state_formula(text, letters, begun(prefix.next));
+    let body = prefix.next;
+    let end = state_formula(text, letters, begun(body));
     let end_ok = end.ok;
     if !end_ok {
         return refused(6);
@@ -553,22 +644,23 @@ pub fn read_sentence(text: &[u8]) -> SentenceRead
         return refused(6);
     }
     let kept = end.kept;
-    finished(letters, exists, kept)
+    finished(text, body, letters, exists, kept)
 }
 
-// The answer for a text in the grammar: 7 before 8.
-fn finished(letters: usize, exists: [bool; 4], kept: Kept) -> SentenceRead
-    ensures { λ r. ⌜ r ≡ finishedAs letters exists kept ⌝ }
+// The answer for a text in the grammar, whose body starts at `body`: 7 before 8. Where it is neither, the nodes are read
+// once more, each to its place.
+fn finished(text: &[u8], body: usize, letters: usize, exists: [bool; 4], kept: Kept) -> SentenceRead
+    ensures { λ r. ⌜ Finished (now (text .entry)) body letters exists kept r ⌝ }
 {
     let fault = kept.fault;
     let read = kept.count;
-    let nodes = kept.nodes;
     if fault {
         return refused(7);
     }
     if 64 < read {
         return refused(8);
     }
+    let nodes = nodes_from(text, body, read);
     SentenceRead {
         outcome: Outcome::Done,
         sentence: Sentence {

@@ -67,10 +67,10 @@ returns-5 c =
     let t = c .before .before .before .before .before .before .before .before .before .before .before .before .args .text .now in
     let p = c .before .before .before .before .before .before .before .before .before .letters-from in
     let r = c .before .before .before .before .before .state-formula in
-    rw (c .finished .ensures)
-    (finish t (p .result .letters) (p .result .exists) (r .result .kept)
+    finish t (p .result .next) (p .result .letters) (p .result .exists) (r .result .kept) (c .finished .result)
     (whole t (p .result) (r .result) (p .ensures) (not-false _ (c .before .before .before .before .before .before .before .before .if2 .left)) (rw (c .before .before .before .before .before .before .begun .ensures) at (r .ensures)) (not-false _ (c .before .before .before .before .if3 .left)) (c .before .before .if4 .left))
-    (c .before .before .before .before .before .before .before .before .before .before .if1 .left))
+    (c .before .before .before .before .before .before .before .before .before .before .if1 .left)
+    (c .finished .ensures)
 
 pub read-sentence-spec : {M : Type 1} → statement M
 read-sentence-spec =

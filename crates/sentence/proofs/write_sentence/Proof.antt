@@ -9,7 +9,8 @@ use lib.Seq.{length-take-le}
 use Rattle.sentence.specs.Grammar.{letterByte, bodyText}
 use Rattle.sentence.specs.Calls.{prefixOf, nodesOf}
 use Rattle.sentence.proofs.Puts.{put-then, put-length}
-use Rattle.sentence.proofs.WriteAll.{Cleared, cleared, text-length, all-writable, answer-refused, answer-wrote}
+use Rattle.sentence.proofs.Unique.{all-writable}
+use Rattle.sentence.proofs.WriteAll.{Cleared, cleared, text-length, answer-refused, answer-wrote}
 use borrow.Author.Needs.{needs}
 use Rattle.sentence.proofs.write_sentence.Statement.{statement}
 use Rattle.sentence.proofs.write_sentence.Tie as tie
