@@ -1,17 +1,14 @@
 -- What reading a node where one stands finds, and the places of a list of nodes filled one after another. Assumes nothing.
 use Prim.Native.Nat.{ℕ, zero, suc, _+_, _-_, _≤_, _<_}
-use mathlib.Core.Bool.{Bool, true, false}
 use mathlib.Core.List.{List, [], _∷_, _++_, map, tail, append-assoc}
 use mathlib.Core.Path.{_≡_, refl, sym, ap, _∙_, subst}
 use native.Mathlib.Numerals.{add-one}
 use native.Mathlib.Omega.{arith}
-use borrow.Author.Tests.{le-leb, lt-leb}
-use lib.Dec.{leb, eqb}
+use borrow.Author.Tests.{le-leb}
 use lib.ListN.{length, drop, getD, set, replicate, length-map, length-replicate, length-set, drop-of-length-le}
 use lib.Seq.{sets}
 use Rattle.sentence.specs.Grammar.{numberText, nodeText, Writable, bodyText}
 use Rattle.sentence.specs.Calls.{slot}
-use Rattle.sentence.specs.Writing.{AllWritable}
 use Rattle.sentence.specs.Reading.{nodeTo, NodeHere, NodesHere, Body, placesOf, NumbersResult}
 use Rattle.sentence.specs.Reading.NumbersResult.{numbers}
 use Rattle.sentence.specs.declared.Node.{Node}
@@ -19,7 +16,7 @@ use Rattle.sentence.specs.declared.Node.the-variants.{True, Label}
 use Rattle.sentence.specs.declared.Slot.{Slot}
 use Rattle.sentence.specs.declared.NodeRead.{NodeRead}
 use Rattle.sentence.specs.declared.NumbersRead.{NumbersRead}
-use Rattle.sentence.proofs.Places.{Place, place, here, first, first-here}
+use Rattle.sentence.proofs.Places.{here, first, first-here}
 use Rattle.sentence.proofs.Unique.{decode, decoded, one-node, twoNumbers}
 use Rattle.sentence.proofs.ReadAll.{stored}
 

@@ -2,7 +2,7 @@
 use Prim.Native.Nat.{ℕ, zero, suc, _+_, _-_, _≤_, _<_}
 use mathlib.Core.Bool.{Bool, true, false, _||_, true≢false, or-assoc}
 use mathlib.Core.List.{List, [], _∷_, _++_, map, append-assoc, append-nil}
-use mathlib.Core.Path.{_≡_, refl, sym, ap, ap₂, _∙_, subst}
+use mathlib.Core.Path.{_≡_, refl, sym, ap, ap₂, _∙_}
 use native.Mathlib.Nat.{le-antisymm}
 use native.Mathlib.Omega.{arith}
 use borrow.Author.Tests.{ltb-true, ltb-false}
@@ -10,7 +10,7 @@ use lib.Dec.{ltb}
 use lib.ListN.{length, drop, replicate, length-replicate, length-drop}
 use lib.Seq.{sets, sets-eq, drop-length}
 use Rattle.sentence.specs.Grammar.{letterByte, bodyText, Spells, Nests, someOutOfRange, outOfRange}
-use Rattle.sentence.specs.Calls.{slot, recordOf, refusal, ReadRow, ReadAnswer}
+use Rattle.sentence.specs.Calls.{recordOf, refusal, ReadRow, ReadAnswer}
 use Rattle.sentence.specs.Calls.ReadRow.{outside, long, range, many}
 use Rattle.sentence.specs.Calls.ReadAnswer.{refused, done}
 use Rattle.sentence.specs.Reading.{keep, keepAll, begunAt, finishedAs, Finished, Body, placesOf, Inside, Stuck, Result, Reads, PrefixResult}
@@ -20,7 +20,6 @@ use Rattle.sentence.specs.declared.PrefixRead.{PrefixRead}
 use Rattle.sentence.specs.declared.Progress.{Progress}
 use Rattle.sentence.specs.declared.Kind.the-variants.{State}
 use Rattle.sentence.specs.declared.Node.{Node}
-use Rattle.sentence.specs.declared.Node.the-variants.{True}
 use Rattle.sentence.specs.declared.Kept.{Kept}
 use Rattle.sentence.specs.declared.Outcome.the-variants.{Done}
 use Rattle.sentence.specs.declared.SentenceRead.{SentenceRead}

@@ -7,14 +7,13 @@ use native.Mathlib.Nat.{le-antisymm}
 use native.Mathlib.Omega.{arith}
 use lib.ListN.{length, take, drop, length-append, length-map, length-drop}
 use lib.Seq.{sets, sets-eq, length-take-le, drop-length}
-use Rattle.sentence.specs.Grammar.{Writable, letterByte, bodyText, sentenceText, Spells, Nests, someOutOfRange}
-use Rattle.sentence.specs.Grammar.Nests.{end, node}
+use Rattle.sentence.specs.Grammar.{letterByte, bodyText, sentenceText, Spells, Nests, someOutOfRange}
+use Rattle.sentence.specs.Grammar.Nests.{end}
 use Rattle.sentence.specs.Calls.{prefixOf, nodesOf, WriteRow, WriteAnswer}
 use Rattle.sentence.specs.Calls.WriteRow.{counted, lettered, unspelled, range, short}
-use Rattle.sentence.specs.Writing.{listed, Fit, Fits, Surveyed, Decision, AllWritable, Put}
+use Rattle.sentence.specs.Writing.{listed, Fit, Fits, Surveyed, Decision, Put}
 use Rattle.sentence.specs.Writing.Fit.{stopped, fit, unfit}
 use Rattle.sentence.specs.Writing.Decision.{refused, wrote}
-use Rattle.sentence.specs.declared.Kind.{Kind}
 use Rattle.sentence.specs.declared.Kind.the-variants.{State}
 use Rattle.sentence.specs.declared.Node.{Node}
 use Rattle.sentence.specs.declared.Place.{Place}
