@@ -19,7 +19,8 @@ use Rattle.sentence.specs.declared.Node.the-variants.{True, Label, Not, And, Co
 use Rattle.sentence.specs.declared.Sentence.{Sentence}
 use Rattle.sentence.specs.declared.SentenceRead.{SentenceRead}
 use Rattle.sentence.proofs.ReadAll.{one-answer}
-use Rattle.sentence.proofs.WriteAll.{all-writable, one-writing}
+use Rattle.sentence.proofs.Unique.{all-writable}
+use Rattle.sentence.proofs.WriteAll.{one-writing}
 use Rattle.exports.specs.Records.{ReadsModel, WritesCoded}
 use Rattle.exports.specs.Sentences.{sentenceHead, letterCode, letterCodes, codesOf, codeOfNode, ReadsSentence, unspelled, nodeOf, nodeOfCode, placesOf, lettersOf, codeOfWritten, WritesSentence}
 
