@@ -5,9 +5,9 @@ use twolsken_host::ffi::{read_sentence, Proved};
 
 #[test]
 fn the_reader_agrees_with_second() {
-    let tally = compare_sentence_reader(&Proved, 220_000, 21);
+    let tally = compare_sentence_reader(&Proved, 300_000, 21);
     println!("{tally}");
-    assert!(tally.cases() >= 220_000);
+    assert!(tally.cases() >= 300_000);
 }
 
 #[test]

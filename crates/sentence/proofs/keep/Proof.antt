@@ -1,0 +1,15 @@
+-- `keep` meets its contract: written out, so that an edit of the code is refused here and not at a caller.
+-- Assumes nothing.
+use mathlib.Core.Path.{refl}
+use borrow.Author.Needs.{needs}
+use Rattle.sentence.proofs.keep.Statement.{statement}
+use Rattle.sentence.proofs.keep.Tie as tie
+
+add-t4 : tie.Need-add-t4
+add-t4 c = search needs
+
+returns : tie.Need-returns
+returns c = refl
+
+pub keep-spec : {M : Type 1} → statement M
+keep-spec = tie.close (tie.spec add-t4 returns)
