@@ -14,11 +14,11 @@ use Rattle.layers.specs.Layers.{Layer, truth}
 use Rattle.layers.proofs.Places.{pow-some}
 use Rattle.meaning.specs.Lists.{below, every, thereIs, nothing, further}
 use Rattle.meaning.specs.Chain.{Chain, Tuple, Inside}
-use Rattle.meaning.specs.Tree.{Letter, forAll, exists}
+use Rattle.meaning.specs.Tree.{Letter, forAll, exists, letterOf}
 use Rattle.meaning.specs.Meaning.{ranges, ranged}
 use Rattle.meaning.proofs.Tests.{every-means, every-same, thereIs-same, thereIs-found, thereIs-from, below-member, below-has}
 use Rattle.meaning.proofs.Numbers.{numberOf, number-below, tuple-number}
-use Rattle.descent.specs.Descent.{letterOf, metAt, descended, lettersFrom, DescentReady}
+use Rattle.descent.specs.Descent.{metAt, descended, lettersFrom, DescentReady}
 
 -- a state that decides: met for `E`, not met for `A`
 pub decided : (e : Bool) (test : ℕ → Bool) (N s : ℕ) → s < N → test s ≡ e → ranges (letterOf e) test (below N) ≡ e

@@ -1,18 +1,13 @@
 -- The quantifier descent over a layer of truths: what it asks, and what it answers.
 use Prim.Native.Nat.{ℕ, _+_, _-_, _*_, _^_, _≤_, _<_}
-use mathlib.Core.Bool.{Bool, true, false, not}
+use mathlib.Core.Bool.{Bool, not}
 use mathlib.Core.List.{List, [], _∷_, map}
 use mathlib.Core.Path.{_≡_}
 use lib.Dec.{eqb}
 use lib.ListN.{length, getD, take, drop}
 use Rattle.meaning.specs.Lists.{below}
-use Rattle.meaning.specs.Tree.{Letter, forAll, exists}
+use Rattle.meaning.specs.Tree.{Letter, letterOf}
 use Rattle.meaning.specs.Meaning.{ranges}
-
--- a letter of the prefix: `true` for `E`
-abbrev pub letterOf : Bool → Letter
-letterOf true = exists
-letterOf false = forAll
 
 -- the truth at a place of the layer
 abbrev pub metAt : List ℕ → ℕ → Bool

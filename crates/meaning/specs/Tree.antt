@@ -1,5 +1,6 @@
 -- Sentences as trees: document 01, 'The sentence text'. State formulas, expressions and paths contain one another.
 use Prim.Native.Nat.{ℕ}
+use mathlib.Core.Bool.{Bool, true, false}
 use mathlib.Core.List.{List, [], _∷_, _++_}
 
 -- the five comparisons
@@ -31,6 +32,11 @@ mutual
 -- a letter of the prefix: `A`, for all; `E`, exists
 pub data Letter : Type 0 where
   forAll exists : Letter
+
+-- the letter that a yes or no stands for: `E` exactly if yes
+abbrev pub letterOf : Bool → Letter
+letterOf true = exists
+letterOf false = forAll
 
 -- the path formulas in written order: a path stands before those within it
 unfoldable mutual

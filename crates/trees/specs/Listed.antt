@@ -1,5 +1,4 @@
 -- The nodes of a tree in written order: operators first, as document 01 writes them.
-use mathlib.Core.Bool.{Bool, true, false}
 use mathlib.Core.List.{List, [], _∷_, _++_}
 use Rattle.sentence.specs.declared.Relation.the-variants.{Less, AtMost, Equal, AtLeast, Greater}
 use Rattle.sentence.specs.declared.Relation as Spelled
@@ -8,7 +7,7 @@ use Rattle.sentence.specs.declared.Node.the-variants.{True, Label, Not, And, Co
 use Rattle.meaning.specs.Tree.{Relation, less, atMost, equal, atLeast, greater}
 use Rattle.meaning.specs.Tree.{Formula, always, labelled, negation, both, compare}
 use Rattle.meaning.specs.Tree.{Expression, probability, constant, sum, difference, product}
-use Rattle.meaning.specs.Tree.{PathFormula, next, until, Letter, forAll, exists}
+use Rattle.meaning.specs.Tree.{PathFormula, next, until}
 
 -- the relation of a comparison's node
 abbrev pub relationOf : Relation → Spelled.Relation
@@ -17,11 +16,6 @@ relationOf atMost = AtMost
 relationOf equal = Equal
 relationOf atLeast = AtLeast
 relationOf greater = Greater
-
--- a letter of the prefix: `true` for `E`
-abbrev pub letterOf : Bool → Letter
-letterOf true = exists
-letterOf false = forAll
 
 unfoldable mutual
   pub formulaNodes : Formula → List Node

@@ -12,7 +12,8 @@ use borrow.Author.Count.{below-more}
 use lib.ListN.{length, getD}
 use Rattle.meaning.specs.Lists.{below}
 use Rattle.meaning.specs.Meaning.{ranges}
-use Rattle.descent.specs.Descent.{letterOf, descended, lettersFrom}
+use Rattle.meaning.specs.Tree.{letterOf}
+use Rattle.descent.specs.Descent.{descended, lettersFrom}
 use Rattle.descent.proofs.Laws.{decided, undecided, letters-more, letters-none, descended-none, descended-more, room-more, place-inside, place-more}
 use borrow.Fn.Kinds.{In}
 use borrow.Fn.PlainCycle.{Measures, is, falls, and}
