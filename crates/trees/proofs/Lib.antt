@@ -6,3 +6,4 @@ pub mod Numbered
 pub mod Once
 pub mod Ranges
 pub mod Stretch
+pub mod Within
