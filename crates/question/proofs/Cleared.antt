@@ -1,0 +1,35 @@
+-- The work area after an answer.
+use Prim.Native.Nat.{ℕ, _+_, _-_, _≤_, _<_}
+use mathlib.Core.List.{List, _++_}
+use mathlib.Core.Path.{_≡_, refl, sym, ap, ap₂, subst, _∙_}
+use native.Mathlib.Omega.{arith}
+use lib.ListN.{length, getD, take, drop, replicate, take-append-drop, length-replicate, getD-replicate, length-append, length-drop}
+use lib.Seq.{ext-getD, getD-take, length-take-le, drop-append-seam}
+use Rattle.layers.specs.Layers.{Written}
+use Rattle.question.specs.Rows.{cleared}
+
+-- the area that was lent of it is as long as before, and so is the whole
+pub back-long : {n : ℕ} (w area : List ℕ) → n ≤ length w → length area ≡ n → length (area ++ drop n w) ≡ length w
+back-long {n} w area room long = length-append area (drop n w) ∙ let d = length-drop n w in omega (arith, d, long, room)
+
+-- the first n numbers were used, as `area`, and then set to zero
+pub cleared-so : {n : ℕ} {after : List ℕ} (w area : List ℕ) → n ≤ length w → length area ≡ n → Written n (λ k. 0) (area ++ drop n w) after →
+    after ≡ cleared n w
+unfolding cleared
+cleared-so {n} {after} w area room long zeros =
+    sym (take-append-drop n after) ∙ ap₂ (λ (x y : List ℕ). x ++ y) front back
+  where
+    enough : n ≤ length after
+    enough = let e = zeros .kept .long in let f = back-long w area room long in omega (arith, e, f, room)
+
+    front : take n after ≡ replicate n 0
+    front = ext-getD 0 (take n after) (replicate n 0) (length-take-le n after enough ∙ sym (length-replicate n 0)) each
+      where
+        each : (i : ℕ) → i < length (take n after) → getD (take n after) i 0 ≡ getD (replicate n 0) i 0
+        each i h =
+            let l = length-take-le n after enough in
+            let u : i < n = omega (arith, h, l) in
+            getD-take n after i 0 u ∙ zeros .each i u ∙ sym (getD-replicate n i 0 0 u)
+
+    back : drop n after ≡ drop n w
+    back = zeros .kept .rest ∙ ap (λ (k : ℕ). drop k (area ++ drop n w)) (sym long) ∙ drop-append-seam area (drop n w)

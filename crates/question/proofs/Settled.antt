@@ -1,0 +1,136 @@
+-- A question to which no row applies: the model and the sentence that were read are ready for evaluation.
+use Prim.Native.Nat.{ℕ, zero, suc, _*_, _^_, _≤_, _<_}
+use mathlib.Core.Bool.{Bool, true, false, true≢false}
+use mathlib.Core.List.{List}
+use mathlib.Core.Path.{_≡_, refl, sym, ap, ap₂, subst, _∙_}
+use native.Mathlib.Decide.{decLt}
+use native.Mathlib.Nat.{mul-le-mul-right}
+use native.Mathlib.Omega.{arith}
+use lib.ListN.{length}
+use Rattle.refusal.specs.Answers.{unlessRefused}
+use Rattle.model.specs.declared.Model.{Model}
+use Rattle.model.specs.declared.ModelRead as Loaded
+use Rattle.model.specs.Layout.{fieldsOf}
+use Rattle.model.specs.Rows.{fileNumber, Reads}
+use Rattle.sentence.specs.declared.Sentence.{Sentence}
+use Rattle.sentence.specs.declared.SentenceRead as Parsed
+use Rattle.sentence.specs.Grammar.{someOutOfRange}
+use Rattle.sentence.specs.Calls.{ReadAnswer, refused as not-read, done, range, recordOf, numberOf}
+use Rattle.meaning.specs.Chain.{Sound}
+use Rattle.meaning.specs.Size.{exceeds}
+use Rattle.layers.specs.Columns.{weightIn}
+use Rattle.layers.specs.Steps.{Sizes}
+use Rattle.evaluate.specs.declared.Setting.{Setting}
+use Rattle.evaluate.specs.Evaluation.{Fixed}
+use Rattle.trees.specs.Listed.{formulaNodes}
+use Rattle.trees.specs.Ranged.{Ranged}
+use Rattle.trees.proofs.Ranges.{nests-in-range, formula-ranged}
+use Rattle.chain.specs.Of.{chainOf}
+use Rattle.chain.proofs.Accepted as accepted
+use Rattle.question.specs.Rows.{QuestionRow, area, model, sentence, size, tuples}
+use Rattle.question.specs.Working.{ModelRead, SentenceRead, Ready, SettingOf}
+use Rattle.question.proofs.Numbers.{least-model, text-number}
+use Rattle.question.proofs.Early.{file-read, text-read}
+use Rattle.question.proofs.Pair.{states-few, letters-few}
+use Rattle.question.proofs.Stages.{size-same, tuples-same}
+
+module _ {file text : List ℕ} {room : ℕ} (none : (n : ℕ) → QuestionRow file text room n → ⊥) where
+  -- the work area is long enough
+  pub space : 8192 ≤ room
+  space = by (decLt room 8192)
+    where
+      by : Dec (room < 8192) → 8192 ≤ room
+      by (yes h) = absurd (none 1 (area h))
+      by (no h) = omega arith
+
+  file-free : fileNumber file ≡ 0
+  file-free = by (fileNumber file) refl
+    where
+      by : (n : ℕ) → fileNumber file ≡ n → n ≡ 0
+      by zero e = refl
+      by (suc n) e = absurd (none (suc n) (least-model space e .0))
+
+  text-free : {s : Parsed.SentenceRead} → ReadAnswer text s → numberOf (s .outcome) ≡ 0
+  text-free (not-read {n} row least) = absurd (none n (sentence row))
+  text-free (done s clean) = refl
+
+  -- the readers' answers, where no row applies
+  pub model-of : {m : Loaded.ModelRead} → Reads file m → ModelRead file (m .model)
+  model-of reads = file-read reads file-free
+
+  pub sentence-of : {s : Parsed.SentenceRead} → ReadAnswer text s → SentenceRead text (s .sentence)
+  sentence-of said = text-read said (text-free said)
+
+  pub ready-of : {m : Loaded.ModelRead} {s : Parsed.SentenceRead} → Reads file m → ReadAnswer text s → Ready (m .model) (s .sentence)
+  ready-of {m} {s} reads said = record {
+    read = record { file = file; text = text; model = a; sentence = b };
+    small = size-same a b ∙ fits (exceeds (b .body) (fieldsOf file .d) (length (b .prefix))) refl;
+    few = few (decLt 1024 (m .model .n ^ s .sentence .letters));
+  }
+    where
+      a : ModelRead file (m .model)
+      a = model-of reads
+
+      b : SentenceRead text (s .sentence)
+      b = sentence-of said
+
+      fits : (t : Bool) → exceeds (b .body) (fieldsOf file .d) (length (b .prefix)) ≡ t → t ≡ false
+      fits true e = absurd (none 10 (size (b .body) (b .spelled) e))
+      fits false e = refl
+
+      few : Dec (1024 < m .model .n ^ s .sentence .letters) → m .model .n ^ s .sentence .letters ≤ 1024
+      few (yes h) = absurd (none 11 (tuples (b .body) (b .spelled) (let t = tuples-same a b in omega (arith, t))))
+      few (no h) = omega arith
+
+-- the body's numbers are in their ranges
+pub body-ranged : {text : List ℕ} {s : Sentence} (b : SentenceRead text s) → Ranged (s .letters) (b .body)
+unfolding recordOf
+body-ranged {s = s} b =
+    subst (λ (x : Sentence). Ranged (x .letters) (b .body)) (sym (b .fields))
+    (formula-ranged (b .body) (length (b .prefix))
+    (nests-in-range (length (b .prefix)) (b .spelled .nests) (by (someOutOfRange (length (b .prefix)) (formulaNodes (b .body))) refl)))
+  where
+    by : (t : Bool) → someOutOfRange (length (b .prefix)) (formulaNodes (b .body)) ≡ t → t ≡ false
+    by true e = absurd (b .clean 7 (range (b .spelled) e))
+    by false e = refl
+
+-- the model's masks and rows hold its chain, in the setting of the pair
+module _ {m : Model} {s : Sentence} {g : Setting} (r : Ready m s) (so : SettingOf m s g) where
+  pub sizes : Sizes (g .states) (g .variables) (g .tuples)
+  sizes =
+      let a = r .read .model in
+      let some = subst (λ (x : Model). 1 ≤ x .n) (sym (a .fields)) (accepted.states-some (r .read .file) (a .accepted)) in
+      let low = states-few a in
+      let e = so .states in
+      let t = so .tuples in
+      let few = r .few in
+      record {
+        some = omega (arith, some, e);
+        states = omega (arith, low, e);
+        whole = t ∙ ap₂ (λ (n k : ℕ). n ^ k) (sym e) (sym (so .variables));
+        few = omega (arith, t, few);
+      }
+
+  pub fixed : {rows : List (List ℕ)} → rows ≡ m .weights .rows → Fixed (chainOf m) (m .masks) rows g
+  fixed {rows} same =
+      let a = r .read .model in
+      let some = subst (λ (x : Model). 1 ≤ x .d) (sym (a .fields)) (accepted.total-some (r .read .file) (a .accepted)) in
+      let e = so .d in
+      record {
+        held = record {
+          states = sym (so .states);
+          weights = λ i j h k. ap (λ (x : List (List ℕ)). weightIn x i j) same;
+          sound = subst (λ (x : Model). Sound (chainOf x)) (sym (a .fields)) (accepted.sound (r .read .file) (a .accepted));
+        };
+        labels = λ l i h. refl;
+        sums = sym e;
+        weighed = omega (arith, some, e);
+        sizes = sizes;
+      }
+
+  pub variables-few : g .variables ≤ 4
+  variables-few = let low = letters-few (r .read .sentence) in let e = so .variables in omega (arith, low, e)
+
+  -- seven layers lie in the eight
+  pub layers-fit : {k room : ℕ} → k ≤ 7 → 8 * g .tuples ≤ room → k * g .tuples ≤ room
+  layers-fit {k} low h = let e = mul-le-mul-right (g .tuples) low in omega (arith, e, h)

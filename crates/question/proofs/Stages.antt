@@ -1,0 +1,118 @@
+-- Of a file and a text that are accepted only rows 9, 10 and 11 are left; what each asks of the model and the sentence that
+-- were read.
+use Prim.Native.Nat.{ℕ, zero, suc, _^_, _≤_, _<_}
+use mathlib.Core.Bool.{Bool, true, false, _&&_, true≢false}
+use mathlib.Core.List.{List, [], _∷_, _++_, map}
+use mathlib.Core.Path.{_≡_, refl, sym, ap, ap₂, subst, _∙_}
+use native.Mathlib.Omega.{arith}
+use lib.ListN.{length, take}
+use Rattle.refusal.specs.Rows.{Applies, Given, refused as given, accepted as free}
+use Rattle.model.specs.declared.Model.{Model}
+use Rattle.model.specs.Layout.{fieldsOf}
+use Rattle.model.specs.Rows.{fileRows, fileNumber}
+use Rattle.model.proofs.Theorems.{read-smallest}
+use Rattle.sentence.specs.declared.Node.{Node}
+use Rattle.sentence.specs.declared.Slot.{Slot}
+use Rattle.sentence.specs.declared.Sentence.{Sentence}
+use Rattle.sentence.specs.Grammar.{Spells}
+use Rattle.sentence.specs.Calls.{ReadRow, recordOf, nodesOf, slot}
+use Rattle.sentence.proofs.Once.{spelled-once}
+use Rattle.sentence.proofs.RoundTrips.{same-sentence}
+use Rattle.meaning.specs.Lists.{every}
+use Rattle.meaning.specs.Chain.{tupleCount}
+use Rattle.meaning.specs.Tree.{Formula}
+use Rattle.meaning.specs.Size.{exceeds}
+use Rattle.trees.specs.Listed.{formulaNodes}
+use Rattle.trees.proofs.Once.{formula-once}
+use Rattle.chain.specs.Of.{chainOf}
+use Rattle.question.specs.Rows.{labelRight, QuestionRow, area, model, sentence, labels, size, tuples, Decided, refused, accepted}
+use Rattle.question.specs.Working.{ModelRead, SentenceRead}
+use Rattle.question.proofs.Numbers.{file-number}
+use Rattle.question.proofs.Pair.{letters-length}
+
+-- no row of an accepted file applies
+pub none-of-file : (file : List ℕ) → fileNumber file ≡ 0 → {n : ℕ} → Applies n (fileRows file) → ⊥
+none-of-file file e {n} a = by (subst (Given (fileRows file)) e (read-smallest file))
+  where
+    by : Given (fileRows file) 0 → ⊥
+    by (given b least) = let m = file-number file b in absurd (omega arith)
+    by (free none) = none n a
+
+-- a test of the nodes, by the places that hold them
+every-places : (test : Node → Bool) (l : List Slot) → every (λ (x : Slot). test (x .node)) l ≡ every test (map (λ (x : Slot). x .node) l)
+unfolding every
+every-places test [] = refl
+every-places test (x ∷ xs) = ap (λ (b : Bool). test (x .node) && b) (every-places test xs)
+
+module _ {file text : List ℕ} {m : Model} {s : Sentence} (a : ModelRead file m) (b : SentenceRead text s) where
+  pub labels-same : every (λ (x : Slot). labelRight (m .a) (x .node)) (take (s .count) (s .nodes)) ≡ every (labelRight (fieldsOf file .a)) (formulaNodes (b .body))
+  labels-same =
+      every-places (labelRight (m .a)) (take (s .count) (s .nodes)) ∙
+      ap (λ (x : Sentence). every (labelRight (m .a)) (nodesOf x)) (b .fields) ∙
+      ap (every (labelRight (m .a))) (same-sentence (b .prefix) (formulaNodes (b .body)) .1) ∙
+      ap (λ (x : Model). every (labelRight (x .a)) (formulaNodes (b .body))) (a .fields)
+
+  pub size-same : exceeds (b .body) (m .d) (s .letters) ≡ exceeds (b .body) (fieldsOf file .d) (length (b .prefix))
+  size-same = ap₂ (exceeds (b .body)) (ap (λ (x : Model). x .d) (a .fields)) (letters-length b)
+
+  pub tuples-same : m .n ^ s .letters ≡ tupleCount (chainOf (fieldsOf file)) (length (b .prefix))
+  unfolding tupleCount
+  tuples-same = ap₂ (λ (n k : ℕ). n ^ k) (ap (λ (x : Model). x .n) (a .fields)) (letters-length b)
+
+  -- the text's sentence is the one that was read
+  pub one : {ps : List Bool} (f : Formula) → Spells ps (formulaNodes f) text → (ps ≡ b .prefix) × (f ≡ b .body)
+  one f sp =
+      let e = spelled-once sp (b .spelled) in
+      (e .0, formula-once f (b .body) [] [] (ap (λ (l : List Node). l ++ []) (e .1)) .0)
+
+  -- the rows that are left, of the model and the sentence that were read
+  pub data Late : ℕ → Type 0 where
+    nine : every (labelRight (fieldsOf file .a)) (formulaNodes (b .body)) ≡ false → Late 9
+    ten : exceeds (b .body) (fieldsOf file .d) (length (b .prefix)) ≡ true → Late 10
+    eleven : 1024 < tupleCount (chainOf (fieldsOf file)) (length (b .prefix)) → Late 11
+
+  late : {room k : ℕ} → 8192 ≤ room → QuestionRow file text room k → Late k
+  late space (area h) = absurd (omega arith)
+  late space (model r) = absurd (none-of-file file (a .accepted) r)
+  late {k = k} space (sentence r) = absurd (b .clean k r)
+  late space (labels f sp e) =
+      nine (ap (λ (g : Formula). every (labelRight (fieldsOf file .a)) (formulaNodes g)) (sym (one f sp .1)) ∙ e)
+  late space (size f sp e) =
+      ten (ap₂ (λ (g : Formula) (ps : List Bool). exceeds g (fieldsOf file .d) (length ps)) (sym (one f sp .1)) (sym (one f sp .0)) ∙ e)
+  late space (tuples {ps} f sp e) =
+      eleven (subst (λ (qs : List Bool). 1024 < tupleCount (chainOf (fieldsOf file)) (length qs)) (one f sp .0) e)
+
+  module _ {room : ℕ} (space : 8192 ≤ room) where
+    pub gives-9 : every (labelRight (fieldsOf file .a)) (formulaNodes (b .body)) ≡ false → Decided (QuestionRow file text room) 9
+    gives-9 e = refused (labels (b .body) (b .spelled) e) (λ k r. from (late space r))
+      where
+        from : {k : ℕ} → Late k → 9 ≤ k
+        from (nine h) = omega arith
+        from (ten h) = omega arith
+        from (eleven h) = omega arith
+
+    module _ (right : every (labelRight (fieldsOf file .a)) (formulaNodes (b .body)) ≡ true) where
+      pub gives-10 : exceeds (b .body) (fieldsOf file .d) (length (b .prefix)) ≡ true → Decided (QuestionRow file text room) 10
+      gives-10 e = refused (size (b .body) (b .spelled) e) (λ k r. from (late space r))
+        where
+          from : {k : ℕ} → Late k → 10 ≤ k
+          from (nine h) = absurd (true≢false (sym right ∙ h))
+          from (ten h) = omega arith
+          from (eleven h) = omega arith
+
+      module _ (small : exceeds (b .body) (fieldsOf file .d) (length (b .prefix)) ≡ false) where
+        pub gives-11 : 1024 < tupleCount (chainOf (fieldsOf file)) (length (b .prefix)) → Decided (QuestionRow file text room) 11
+        gives-11 e = refused (tuples (b .body) (b .spelled) e) (λ k r. from (late space r))
+          where
+            from : {k : ℕ} → Late k → 11 ≤ k
+            from (nine h) = absurd (true≢false (sym right ∙ h))
+            from (ten h) = absurd (true≢false (sym h ∙ small))
+            from (eleven h) = omega arith
+
+        pub gives-none : tupleCount (chainOf (fieldsOf file)) (length (b .prefix)) ≤ 1024 → Decided (QuestionRow file text room) 0
+        gives-none few = accepted (λ k r. from (late space r))
+          where
+            from : {k : ℕ} → Late k → ⊥
+            from (nine h) = absurd (true≢false (sym right ∙ h))
+            from (ten h) = absurd (true≢false (sym h ∙ small))
+            from (eleven h) = absurd (omega arith)

@@ -1,0 +1,68 @@
+-- What the parts of the two calls promise one another. None of it has to be believed.
+use Prim.Native.Nat.{ℕ, _^_, _≤_}
+use mathlib.Core.Bool.{Bool, false}
+use mathlib.Core.List.{List}
+use mathlib.Core.Path.{_≡_}
+use lib.ListN.{length, drop}
+use Rattle.refusal.specs.declared.Outcome as Plain
+use Rattle.model.specs.declared.Model.{Model}
+use Rattle.model.specs.declared.ModelRead as Loaded
+use Rattle.model.specs.Layout.{fieldsOf}
+use Rattle.model.specs.Rows.{fileNumber, Reads}
+use Rattle.sentence.specs.declared.Sentence.{Sentence}
+use Rattle.sentence.specs.declared.SentenceRead as Parsed
+use Rattle.sentence.specs.Grammar.{Spells}
+use Rattle.sentence.specs.Calls.{ReadRow, ReadAnswer, recordOf}
+use Rattle.meaning.specs.Tree.{Formula}
+use Rattle.meaning.specs.Size.{exceeds}
+use Rattle.evaluate.specs.declared.Setting.{Setting}
+use Rattle.trees.specs.Listed.{formulaNodes}
+use Rattle.question.specs.Rows.{QuestionRow, Decided}
+
+-- the file is accepted and m is its model
+pub record ModelRead (file : List ℕ) (m : Model) : Type 0 where
+  pub accepted : fileNumber file ≡ 0
+  pub fields : m ≡ fieldsOf file
+
+-- the text is accepted and s is its sentence
+pub record SentenceRead (text : List ℕ) (s : Sentence) : Type 0 where
+  pub prefix : List Bool
+  pub body : Formula
+  pub spelled : Spells prefix (formulaNodes body) text
+  pub clean : (m : ℕ) → ReadRow text m → ⊥
+  pub fields : s ≡ recordOf prefix (formulaNodes body)
+
+-- m and s are a file's model and a text's sentence
+pub record Read (m : Model) (s : Sentence) : Type 0 where
+  pub file : List ℕ
+  pub text : List ℕ
+  pub model : ModelRead file m
+  pub sentence : SentenceRead text s
+
+-- the number that the rows give, of whatever file and text m and s are read from
+pub record Late (m : Model) (s : Sentence) (number : ℕ) : Type 0 where
+  pub each : (file text : List ℕ) (room : ℕ) → 8192 ≤ room → ModelRead file m → SentenceRead text s → Decided (QuestionRow file text room) number
+
+-- what the two readers answered, to some file and some text
+pub record Answered (m : Loaded.ModelRead) (s : Parsed.SentenceRead) : Type 0 where
+  pub file : List ℕ
+  pub text : List ℕ
+  pub model : Reads file m
+  pub sentence : ReadAnswer text s
+
+-- the number that the rows give, of whatever file and text the readers were asked
+pub record First (room : ℕ) (m : Loaded.ModelRead) (s : Parsed.SentenceRead) (number : ℕ) : Type 0 where
+  pub each : (file text : List ℕ) → Reads file m → ReadAnswer text s → Decided (QuestionRow file text room) number
+
+-- no row applies to the pair
+pub record Ready (m : Model) (s : Sentence) : Type 0 where
+  pub read : Read m s
+  pub small : exceeds (read .sentence .body) (m .d) (s .letters) ≡ false
+  pub few : m .n ^ s .letters ≤ 1024
+
+-- the setting of the pair: N, n, T and D
+pub record SettingOf (m : Model) (s : Sentence) (g : Setting) : Type 0 where
+  pub states : g .states ≡ m .n
+  pub variables : g .variables ≡ s .letters
+  pub tuples : g .tuples ≡ m .n ^ s .letters
+  pub d : g .d ≡ m .d

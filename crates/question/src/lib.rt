@@ -1,0 +1,147 @@
+// A question: a model file, a sentence text and a work area. The rows 1 to 11 of document 01, which verdict and numerator
+// share, and what both make of a pair to which none applies.
+ghost use mathlib.Core.Path.{_≡_};
+ghost use Prim.Native.Nat.{_^_, _≤_};
+ghost use lib.ListN.{take};
+ghost use Rattle.refusal.specs.Answers.{numberOf as numberOfModel};
+ghost use Rattle.sentence.specs.Calls.{numberOf as numberOfSentence};
+ghost use Rattle.meaning.specs.Lists.{every};
+ghost use Rattle.question.specs.Rows.{labelRight};
+ghost use Rattle.question.specs.Working.{Read, Late, Answered, First, Ready, SettingOf};
+use evaluate::Setting;
+use model::Model;
+use model::ModelRead;
+use refusal::Outcome;
+use sentence::Node;
+use sentence::Sentence;
+use sentence::SentenceRead;
+use sentence::Slot;
+use sizes::exceeds;
+
+// Whether a node's label letter, if it has one, is below A.
+fn label_right(node: Node, a: u8) -> bool
+    ensures { λ r. ⌜ r ≡ labelRight a node ⌝ }
+{
+    match node {
+        Node::True => true,
+        Node::Label { label, variable: _ } => label < a,
+        Node::Not => true,
+        Node::And => true,
+        Node::Compare(_) => true,
+        Node::Probability => true,
+        Node::Constant { top: _, bottom: _ } => true,
+        Node::Sum => true,
+        Node::Difference => true,
+        Node::Product => true,
+        Node::Next => true,
+        Node::Until { from: _, to: _ } => true,
+    }
+}
+
+// Whether every label letter of the first nodes is below A.
+fn labels_right(nodes: [Slot; 64], count: usize, a: u8) -> bool
+    requires { ⌜ count ≤ 64 ⌝ }
+    ensures { λ r. ⌜ r ≡ every (λ s. labelRight a (s .node)) (take count nodes) ⌝ }
+{
+    let mut i: usize = 0;
+    while i < count {
+        let slot = nodes[i];
+        let node = slot.node;
+        if !label_right(node, a) {
+            return false;
+        }
+        i += 1;
+    }
+    true
+}
+
+// T, the number of tuples: N to the power n.
+fn tuple_count(states: usize, letters: usize) -> usize
+    requires { ⌜ (states ≤ 32) × (letters ≤ 4) ⌝ }
+    ensures { λ r. ⌜ r ≡ states ^ letters ⌝ }
+{
+    let mut product: usize = 1;
+    let mut i: usize = 0;
+    while i < letters {
+        product = product * states;
+        i += 1;
+    }
+    product
+}
+
+// The number that the rows give of a model and a sentence that were read: 9, 10 or 11, or 0.
+fn late_number(m: Model, s: Sentence) -> u8
+    requires { ⌜ Read m s ⌝ }
+    ensures { λ r. ⌜ Late m s r ⌝ }
+{
+    let nodes = s.nodes;
+    if !labels_right(nodes, s.count, m.a) {
+        return 9;
+    }
+    if exceeds(s, m.d as u64, s.letters) {
+        return 10;
+    }
+    if 1024 < tuple_count(m.n as usize, s.letters) {
+        return 11;
+    }
+    0
+}
+
+// The number of what read model answered, 0 where it is no refusal.
+fn model_number(outcome: Outcome) -> u8
+    ensures { λ r. ⌜ r ≡ numberOfModel outcome ⌝ }
+{
+    match outcome {
+        Outcome::Done => 0,
+        Outcome::Refused(number) => number,
+    }
+}
+
+// The number of what read sentence answered, 0 where it is no refusal.
+fn sentence_number(outcome: sentence::Outcome) -> u8
+    ensures { λ r. ⌜ r ≡ numberOfSentence outcome ⌝ }
+{
+    match outcome {
+        sentence::Outcome::Done => 0,
+        sentence::Outcome::Refused(number) => number,
+    }
+}
+
+// The number that the rows 1 to 11 give of what the readers answered, for a work area of so many numbers: the smallest that
+// applies, or 0.
+pub fn first_number(room: usize, m: ModelRead, s: SentenceRead) -> u8
+    requires { ⌜ Answered m s ⌝ }
+    ensures { λ r. ⌜ First room m s r ⌝ }
+{
+    if room < 8192 {
+        return 1;
+    }
+    let loaded = m.outcome;
+    let of_model = model_number(loaded);
+    if 0 < of_model {
+        return of_model;
+    }
+    let said = s.outcome;
+    let of_sentence = sentence_number(said);
+    if 0 < of_sentence {
+        return of_sentence;
+    }
+    let model = m.model;
+    let sentence = s.sentence;
+    late_number(model, sentence)
+}
+
+// N, n, T and D of a pair to which no row applies.
+pub fn setting_of(m: Model, s: Sentence) -> Setting
+    requires { ⌜ Ready m s ⌝ }
+    ensures { λ r. ⌜ SettingOf m s r ⌝ }
+{
+    let states = m.n as usize;
+    let letters = s.letters;
+    Setting {
+        states: states,
+        variables: letters,
+        tuples: tuple_count(states, letters),
+        d: m.d as u64,
+    }
+}

@@ -1,0 +1,3 @@
+-- Laws of the verdict that belong to no one function.
+pub mod Judging
+pub mod Answering

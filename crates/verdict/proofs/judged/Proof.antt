@@ -1,0 +1,50 @@
+-- `verdict::judged` meets its contract: the layer of the body, then the descent over it.
+use borrow.Author.Needs.{needs}
+use mathlib.Core.Path.{_≡_, _∙_}
+use Rattle.verdict.proofs.Judging.{formula-ready, descent-ready, judged-so}
+use Rattle.verdict.proofs.judged.Statement.{statement}
+use Rattle.verdict.proofs.judged.Tie as tie
+
+setting-of-requires : tie.Need-setting-of-requires
+setting-of-requires c κs = search needs
+
+rows-of-requires : tie.Need-rows-of-requires
+rows-of-requires c κs = search needs
+
+state-formula-requires : tie.Need-state-formula-requires
+state-formula-requires c κs =
+    let settled = c .before .before .before .before .before .before .before in
+    let pre = settled .before .before .pre in
+    formula-ready (pre .0) (settled .setting-of .ensures) (c .before .before .before .rows-of .ensures) (pre .1)
+
+holds-from-requires : tie.Need-holds-from-requires
+holds-from-requires c κs =
+    let evaluated = c .before .before .before in
+    let settled = evaluated .before .before .before .before .before .before .before .before in
+    let pre = settled .before .before .pre in
+    descent-ready (pre .0) (settled .setting-of .ensures) (evaluated .before .before .before .before .rows-of .ensures)
+    (evaluated .state-formula .kept .1 .1 .1 .1 .1 .0 ∙ pre .1)
+
+same-length : tie.Need-same-length
+same-length c = search needs
+
+returns : tie.Need-returns
+returns c = record {
+  each = λ text b.
+      let evaluated = c .before .before .before .before in
+      let settled = evaluated .before .before .before .before .before .before .before .before in
+      let pre = settled .before .before .pre in
+      judged-so (pre .0) (settled .setting-of .ensures) (evaluated .before .before .before .before .rows-of .ensures)
+      (evaluated .state-formula .ensures) (c .holds-from .ensures) b;
+}
+
+pub judged-spec : {M : Type 1} → statement M
+judged-spec =
+    tie.close
+    (tie.spec
+    setting-of-requires
+    rows-of-requires
+    state-formula-requires
+    holds-from-requires
+    same-length
+    returns)

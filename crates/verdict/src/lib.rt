@@ -1,0 +1,61 @@
+// Verdict: the rows of a question, then the body's truth at every tuple and the descent through the prefix.
+ghost use mathlib.Core.Path.{_≡_};
+ghost use lib.ListN.{length};
+ghost use Rattle.question.specs.Working.{Ready};
+ghost use Rattle.verdict.specs.Calls.{answerOf, VerdictAnswer};
+ghost use Rattle.verdict.specs.Working.{Judged};
+use descent::holds_from;
+use evaluate::nodes::state_formula;
+use layers::plain::zero;
+use model::Model;
+use model::matrix;
+use model::reader::read_model;
+use question::first_number;
+use question::setting_of;
+use sentence::Sentence;
+use sentence::read_sentence;
+
+// What verdict answers.
+pub enum Answer {
+    Holds,
+    Fails,
+    Refused(u8),
+}
+
+// Whether the sentence holds on the model: the body's truth at every tuple, in the first layers of the area, then the descent.
+fn judged(m: Model, s: Sentence, area: &mut [u64]) -> bool
+    requires { ⌜ Ready m s × (length (now area) ≡ 8192) ⌝ }
+    ensures { λ r. ⌜ Judged m s r ⌝ }
+{
+    let g = setting_of(m, s);
+    let nodes = s.nodes;
+    let exists = s.exists;
+    let masks = m.masks;
+    let rows = matrix::rows_of(m.weights);
+    state_formula(nodes, g, &masks, &rows, 0, area);
+    holds_from(exists, g.variables, g.states, 0, 0, area)
+}
+
+// The document's word for a sentence that holds, or does not.
+fn answer_of(holds: bool) -> Answer
+    ensures { λ r. ⌜ r ≡ answerOf holds ⌝ }
+{
+    if holds { Answer::Holds } else { Answer::Fails }
+}
+
+// Verdict: whether the sentence holds on the model, or the smallest number of a row that applies.
+pub fn verdict(file: &[u8], text: &[u8], work: &mut [u64]) -> Answer
+    ensures { λ r. ⌜ VerdictAnswer (now (file .entry)) (now (text .entry)) (now (work .entry)) r (now (work .exit)) ⌝ }
+{
+    let read = read_model(file);
+    let said = read_sentence(text);
+    let number = first_number(work.len(), read, said);
+    if 0 < number {
+        return Answer::Refused(number);
+    }
+    let model = read.model;
+    let sentence = said.sentence;
+    let holds = judged(model, sentence, &mut work[..8192]);
+    zero(8192, work);
+    answer_of(holds)
+}
