@@ -1,0 +1,90 @@
+-- What the call answers, from what its parts promise.
+use Prim.Native.Nat.{ℕ, _≤_, _<_}
+use mathlib.Core.Bool.{Bool, true, false, _&&_, true≢false}
+use mathlib.Core.List.{List}
+use mathlib.Core.Path.{_≡_, refl, sym, ap, ap₂, subst, _∙_}
+use native.Mathlib.Omega.{arith}
+use borrow.Author.Tests.{eqb-false, ltb-false}
+use lib.Dec.{eqb, ltb}
+use lib.ListN.{length}
+use Rattle.model.specs.declared.Model.{Model}
+use Rattle.model.specs.declared.ModelRead as Loaded
+use Rattle.model.specs.Layout.{fieldsOf}
+use Rattle.model.specs.Rows.{Reads}
+use Rattle.sentence.specs.declared.Node.{Node}
+use Rattle.sentence.specs.declared.Sentence.{Sentence}
+use Rattle.sentence.specs.Grammar.{Spells}
+use Rattle.meaning.specs.Tree.{Formula, PathFormula, pathsOf}
+use Rattle.meaning.specs.Meaning.{numerator, denominator}
+use Rattle.trees.specs.Listed.{formulaNodes}
+use Rattle.chain.specs.Of.{chainOf}
+use Rattle.paths.specs.Tuples.{membersBelow}
+use Rattle.question.specs.Rows.{QuestionRow, Decided, refused as given, accepted, cleared}
+use Rattle.question.specs.Working.{SentenceRead}
+use Rattle.question.proofs.Numbers.{row-few}
+use Rattle.question.proofs.Pair.{letters-length}
+use Rattle.question.proofs.Stages.{one}
+use Rattle.question.proofs.Settled.{model-of}
+use Rattle.numerator.specs.declared.Answer.{Answer}
+use Rattle.numerator.specs.declared.Answer.the-variants.{Counted, Refused}
+use Rattle.numerator.specs.declared.Ratio.{Ratio}
+use Rattle.numerator.specs.Calls.{numbered, NumeratorRow, question, long, member, missing, NumeratorAnswer, refused, answered}
+use Rattle.numerator.specs.Working.{asksRight, CountedSo}
+use Rattle.numerator.proofs.Asking.{RightParts}
+
+module _ {file text tuple : List ℕ} {number : ℕ} where
+  pub refused-so : {before : List ℕ} {n : ℕ} → Decided (QuestionRow file text (length before)) n → 0 < n →
+      NumeratorAnswer file text tuple number before (Refused n) before
+  refused-so {before} {n} (given row least) h = refused (question row) from
+    where
+      from : (k : ℕ) → NumeratorRow file text tuple number (length before) k → n ≤ k
+      from k (question r) = least k r
+      from k (long f s e) = let few = row-few row in omega arith
+      from k (member e) = let few = row-few row in omega arith
+      from k (missing f s e) = let few = row-few row in omega arith
+  refused-so (accepted none) h = absurd (omega arith)
+
+  module _ (before : List ℕ) {m : Loaded.ModelRead} {s : Sentence} (none : (k : ℕ) → QuestionRow file text (length before) k → ⊥)
+      (reads : Reads file m) (b : SentenceRead text s) where
+    -- row 15
+    pub refused-15 : asksRight (m .model) s (b .body) tuple number ≡ false →
+        NumeratorAnswer file text tuple number before (Refused 15) before
+    refused-15 e = refused (row (eqb (length tuple) (s .letters)) (membersBelow (m .model .n) tuple) refl refl e) from
+      where
+        row : (t u : Bool) → eqb (length tuple) (s .letters) ≡ t → membersBelow (m .model .n) tuple ≡ u →
+            ((t && u) && ltb number (length (pathsOf (b .body)))) ≡ false → NumeratorRow file text tuple number (length before) 15
+        row false u l w h = long (b .body) (b .spelled) (λ x. eqb-false _ _ l (x ∙ sym (letters-length b)))
+        row true false l w h = member (ap (λ (x : Model). membersBelow (x .n) tuple) (sym (model-of none reads .fields)) ∙ w)
+        row true true l w h = missing (b .body) (b .spelled) (ltb-false _ _ h)
+
+        from : (k : ℕ) → NumeratorRow file text tuple number (length before) k → 15 ≤ k
+        from k (question r) = absurd (none k r)
+        from k (long f s e) = omega arith
+        from k (member e) = omega arith
+        from k (missing f s e) = omega arith
+
+    module _ (parts : RightParts (m .model) s (b .body) tuple number) where
+      free : (k : ℕ) → NumeratorRow file text tuple number (length before) k → ⊥
+      free k (question r) = none k r
+      free k (long f sp e) = e (parts .long ∙ letters-length b ∙ ap length (sym (one (model-of none reads) b f sp .0)))
+      free k (member e) =
+          true≢false (sym (parts .members) ∙ ap (λ (x : Model). membersBelow (x .n) tuple) (model-of none reads .fields) ∙ e)
+      free k (missing f sp e) =
+          let low = parts .there in
+          let same : length (pathsOf f) ≡ length (pathsOf (b .body)) = ap (λ (x : Formula). length (pathsOf x)) (one (model-of none reads) b f sp .1) in
+          omega (arith, low, same, e)
+
+      pub answered-so : {after : List ℕ} {r : Ratio} → CountedSo (m .model) s tuple number r → after ≡ cleared 8192 before →
+          NumeratorAnswer file text tuple number before (Counted (r .top) (r .bottom)) after
+      answered-so {after} {r} counts clear =
+          let w = numbered (b .body) number in
+          let n = letters-length b in
+          let fields = model-of none reads .fields in
+          let top : r .top ≡ numerator w (chainOf (fieldsOf file)) (length (b .prefix)) tuple =
+          counts .each text b .0 ∙ ap₂ (λ (x : Model) (k : ℕ). numerator w (chainOf x) k tuple) fields n in
+          let bottom : r .bottom ≡ denominator w (fieldsOf file .d) (length (b .prefix)) =
+          counts .each text b .1 ∙ ap₂ (λ (x : Model) (k : ℕ). denominator w (x .d) k) fields n in
+          subst (λ (l : List ℕ). NumeratorAnswer file text tuple number before (Counted (r .top) (r .bottom)) l) (sym clear)
+          (subst (λ (x : ℕ). NumeratorAnswer file text tuple number before (Counted x (r .bottom)) (cleared 8192 before)) (sym top)
+          (subst (λ (y : ℕ). NumeratorAnswer file text tuple number before (Counted (numerator w (chainOf (fieldsOf file)) (length (b .prefix)) tuple) y) (cleared 8192 before)) (sym bottom)
+          (answered (b .body) (b .spelled) free)))

@@ -1,0 +1,75 @@
+-- `numerator::counted` meets its contract: the path formula's layer, read at the tuple's number.
+use Prim.Native.Nat.{ℕ, _<_}
+use mathlib.Core.Path.{_≡_, _∙_}
+use native.Mathlib.Omega.{arith}
+use borrow.Author.Needs.{needs, scaled-fits}
+use Rattle.question.proofs.Pair.{count-few}
+use Rattle.numerator.proofs.Counting.{tuple-ready, tuple-inside, path-ready, counted-so}
+use Rattle.numerator.proofs.counted.Statement.{statement}
+use Rattle.numerator.proofs.counted.Tie as tie
+
+setting-of-requires : tie.Need-setting-of-requires
+setting-of-requires c κs = search needs
+
+rows-of-requires : tie.Need-rows-of-requires
+rows-of-requires c κs = search needs
+
+path-place-requires : tie.Need-path-place-requires
+path-place-requires c κs = count-few (c .before .before .before .before .before .before .pre .0 .ready .read .sentence)
+
+path-requires : tie.Need-path-requires
+path-requires c κs =
+    let placed = c .before .before .before in
+    let settled = placed .before .before .before .before in
+    let pre = settled .before .before .before .pre in
+    path-ready (pre .0) (settled .setting-of .ensures) (placed .before .rows-of .ensures) (placed .path-place .ensures) (pre .1)
+
+tuple-place-requires : tie.Need-tuple-place-requires
+tuple-place-requires c κs =
+    let settled = c .before .before .before .before .before .before .before .before .before .before in
+    tuple-ready (settled .before .before .before .pre .0) (settled .setting-of .ensures)
+
+-- the tuple's number is small
+low : (c : tie.After-tuple-place) → c .tuple-place .result < 1024
+low c =
+    let settled = c .before .before .before .before .before .before .before .before .before .before .before in
+    tuple-inside (settled .before .before .before .pre .0) (settled .setting-of .ensures) (c .tuple-place .ensures)
+
+mul-t18 : tie.Need-mul-t18
+mul-t18 c = scaled-fits (c .tuple-place .result) 1024 8 (low c) (omega arith)
+
+slice-read-t20 : tie.Need-slice-read-t20
+slice-read-t20 c =
+    let evaluated = c .before .before .before .before in
+    let pre = evaluated .before .before .before .before .before .before .before .before .before .before .before .pre in
+    let long = evaluated .path .kept .1 .1 .1 .1 .1 .0 ∙ pre .1 in
+    let inside = low (c .before) in
+    omega (arith, long, inside)
+
+same-length : tie.Need-same-length
+same-length c = search needs
+
+returns : tie.Need-returns
+returns c = record {
+  each = λ text b.
+      let evaluated = c .before .before .before .before in
+      let placed = evaluated .before .before .before .before in
+      let settled = placed .before .before .before .before in
+      let pre = settled .before .before .before .pre in
+      counted-so (pre .0) (settled .setting-of .ensures) (placed .before .rows-of .ensures) (placed .path-place .ensures)
+      (evaluated .path .ensures) (c .before .tuple-place .ensures) b;
+}
+
+pub counted-spec : {M : Type 1} → statement M
+counted-spec =
+    tie.close
+    (tie.spec
+    setting-of-requires
+    rows-of-requires
+    path-place-requires
+    path-requires
+    tuple-place-requires
+    mul-t18
+    slice-read-t20
+    same-length
+    returns)

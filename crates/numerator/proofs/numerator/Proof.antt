@@ -1,0 +1,124 @@
+-- `numerator::numerator` meets its contract: the rows' number, or the two values with the work area cleared.
+use Prim.Native.Nat.{ℕ, _≤_}
+use mathlib.Core.List.{List}
+use mathlib.Core.Path.{_≡_, sym, _∙_}
+use native.Mathlib.Omega.{arith}
+use borrow.Author.Needs.{needs}
+use borrow.Author.Tests.{not-true, not-false}
+use lib.ListN.{length, take}
+use lib.Seq.{length-take-le}
+use Rattle.question.specs.Rows.{QuestionRow}
+use Rattle.question.proofs.Numbers.{none-of}
+use Rattle.question.proofs.Settled.{space, sentence-of, ready-of}
+use Rattle.question.proofs.Cleared.{back-long, cleared-so}
+use Rattle.numerator.proofs.Asking.{right-parts}
+use Rattle.numerator.proofs.Answering.{refused-so, refused-15, answered-so}
+use Rattle.numerator.proofs.numerator.Statement.{statement}
+use Rattle.numerator.proofs.numerator.Tie as tie
+
+read-model-requires : tie.Need-read-model-requires
+read-model-requires c κs = search needs
+
+read-sentence-requires : tie.Need-read-sentence-requires
+read-sentence-requires c κs = search needs
+
+first-number-requires : tie.Need-first-number-requires
+first-number-requires c κs = search needs
+
+returns : tie.Need-returns
+returns c =
+    let asked = c .before in
+    refused-so (asked .first-number .ensures .each _ _ (asked .before .before .read-model .ensures) (asked .before .read-sentence .ensures))
+    (c .if1 .taken)
+
+-- no row of the question applies
+none : (c : tie.Else1) →
+    let args = c .before .before .before .before .before .before .before .before .args in
+    (k : ℕ) → QuestionRow (args .file .now) (args .text .now) (length (args .work .now)) k → ⊥
+none c =
+    let asked = c .before in
+    none-of (asked .first-number .ensures .each _ _ (asked .before .before .read-model .ensures) (asked .before .read-sentence .ensures))
+    (c .if1 .left)
+
+asks-right-requires : tie.Need-asks-right-requires
+asks-right-requires c κs =
+    let free = c .before .before in
+    let asked = free .before in
+    ready-of (none free) (asked .before .before .read-model .ensures) (asked .before .read-sentence .ensures)
+
+returns-2 : tie.Need-returns-2
+returns-2 c =
+    let free = c .before .before .before .before in
+    let asked = free .before in
+    let b = sentence-of (none free) (asked .before .read-sentence .ensures) in
+    let work = asked .before .before .before .before .before .before .before .args .work .now in
+    refused-15 work (none free) (asked .before .before .read-model .ensures) b
+    (sym (c .before .asks-right .ensures .each _ b) ∙ not-true _ (c .if2 .taken))
+
+slice-relend-prefix-counted : tie.Need-slice-relend-prefix-counted
+slice-relend-prefix-counted c = space (none (c .before .before .before .before))
+
+-- the area that is lent is 8,192 numbers long
+lent : (c : tie.Else1) → length (take 8192 (c .before .before .before .before .before .before .before .before .args .work .now)) ≡ 8192
+lent c = length-take-le 8192 (c .before .before .before .before .before .before .before .before .args .work .now) (space (none c))
+
+slice-aggregate-counted : tie.Need-slice-aggregate-counted
+slice-aggregate-counted c = sym (lent (c .before .before .before .before .before))
+
+counted-requires : tie.Need-counted-requires
+counted-requires c κs =
+    let tested = c .before in
+    let free = tested .before .before .before .before in
+    let asked = free .before in
+    let ready = ready-of (none free) (asked .before .before .read-model .ensures) (asked .before .read-sentence .ensures) in (
+      record {
+        ready = ready;
+        right = sym (tested .before .asks-right .ensures .each _ (ready .read .sentence)) ∙ not-false _ (tested .if2 .left);
+      },
+      lent free,
+    )
+
+-- and so it is when it comes back
+back : (c : tie.After-counted) → length (c .counted .last .1 .1 .1 .1 .0) ≡ 8192
+back c = c .counted .kept .1 .1 .1 .1 .0 ∙ lent (c .before .before .before .before .before .before)
+
+zero-requires : tie.Need-zero-requires
+zero-requires c κs =
+    let counted = c .before .before .before in
+    let free = counted .before .before .before .before .before .before in
+    let work = free .before .before .before .before .before .before .before .before .args .work .now in
+    let long = back-long work (counted .counted .last .1 .1 .1 .1 .0) (space (none free)) (back counted) in
+    let room = space (none free) in
+    omega (arith, long, room)
+
+same-length : tie.Need-same-length
+same-length c = search needs
+
+returns-3 : tie.Need-returns-3
+returns-3 c =
+    let counted = c .before .before .before .before .before .before in
+    let tested = counted .before .before in
+    let free = tested .before .before .before .before in
+    let asked = free .before in
+    let work = asked .before .before .before .before .before .before .before .args .work .now in
+    let b = sentence-of (none free) (asked .before .read-sentence .ensures) in
+    answered-so work (none free) (asked .before .before .read-model .ensures) b
+    (right-parts _ _ _ _ _ (sym (tested .before .asks-right .ensures .each _ b) ∙ not-false _ (tested .if2 .left))) (counted .counted .ensures)
+    (cleared-so work (counted .counted .last .1 .1 .1 .1 .0) (space (none free)) (back counted) (c .before .before .zero .ensures))
+
+pub numerator-spec : {M : Type 1} → statement M
+numerator-spec =
+    tie.close
+    (tie.spec
+    read-model-requires
+    read-sentence-requires
+    first-number-requires
+    returns
+    asks-right-requires
+    returns-2
+    slice-relend-prefix-counted
+    slice-aggregate-counted
+    counted-requires
+    zero-requires
+    same-length
+    returns-3)
