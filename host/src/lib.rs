@@ -5,10 +5,12 @@
 //! * [`gen`] makes seeded inputs: files, texts, records, groupings, right and wrong.
 //! * [`compare`] runs a [`compare::Library`] against `second` on those inputs.
 //! * [`ffi`] is the proved library behind safe functions.
+//! * [`samples`] are the designs that ship with the repository.
 
 #![warn(missing_docs)]
 
 pub mod compare;
 pub mod ffi;
 pub mod gen;
+pub mod samples;
 pub mod second;

@@ -1,0 +1,44 @@
+-- `line::line` meets its contract, by the cases of the answer. Assumes nothing.
+use mathlib.Core.Path.{_≡_, refl, sym, ap, _∙_}
+use lib.Dec.{lit≤}
+use borrow.Author.Needs.{needs}
+use Rattle.twolsken.specs.Lines.{lineOf}
+use Rattle.twolsken.proofs.line.line.Statement.{statement}
+use Rattle.twolsken.proofs.line.line.Tie as tie
+
+enum-told : tie.Need-enum-told
+enum-told c = search needs
+
+enum-told-2 : tie.Need-enum-told-2
+enum-told-2 c = search needs
+
+enum-known-answer : tie.Need-enum-known-answer
+enum-known-answer c = search needs
+
+refused-line-requires : tie.Need-refused-line-requires
+refused-line-requires c κs = search needs
+
+returns : tie.Need-returns
+unfolding lineOf
+returns c = ((lit≤ tt, refl), sym (ap lineOf (c .before .before .enum-told .given .1)))
+
+returns-2 : tie.Need-returns-2
+unfolding lineOf
+returns-2 c = ((lit≤ tt, refl), sym (ap lineOf (c .before .before .enum-told2 .given .1)))
+
+returns-3 : tie.Need-returns-3
+unfolding lineOf
+returns-3 c =
+    (c .refused-line .ensures .0, c .refused-line .ensures .1 ∙ sym (ap lineOf (c .before .before .before .answer .given .1)))
+
+pub line-spec : {M : Type 1} → statement M
+line-spec =
+    tie.close
+    (tie.spec
+    enum-told
+    enum-told-2
+    enum-known-answer
+    refused-line-requires
+    returns
+    returns-2
+    returns-3)

@@ -1,0 +1,47 @@
+// The program: it reads the files `model.blk` and `sentence.txt` of the folder that it is run in, and prints the verdict as
+// one line: `holds`, `fails`, or `refused` with a blank and the number. A missing file is empty, and one final newline of
+// the sentence is dropped. A file that is there and cannot be read is no model and no sentence: then the reason goes to
+// standard error, and no verdict is printed.
+mod file;
+mod line;
+mod text;
+
+use file::Contents;
+use file::read_file;
+use libc::STDOUT_FILENO;
+use line::line;
+use text::without_newline;
+use verdict::Answer;
+
+// The verdict on the bytes of the two files, with a work area of the size that row 1 asks for.
+fn answer(model: &[u8], sentence: &[u8]) -> Answer {
+    let mut work = [0u64; 8192];
+    verdict::verdict(model, without_newline(sentence), &mut work)
+}
+
+// Prints the line of an answer.
+fn print(answer: Answer) {
+    let mut out = [0u8; 12];
+    let n = line(answer, &mut out);
+    if !io::write_all(STDOUT_FILENO, &out[..n]) {
+        os::fail(b"standard output");
+    }
+}
+
+// A file of any size is judged by its first bytes, as many as tell that it is too long (the laws are in proofs/Enough).
+// - A model file of over 3,072 bytes is refused 2, whatever stands in it and in the sentence: with this work area no
+//   smaller number applies. So 3,073 bytes of it are as good as all.
+// - A text of over 400 bytes is 6 unless a number below 6 applies, and those ask the model alone. A file of 402 bytes or
+//   more has such a text with or without its last byte. So 402 bytes of it are as good as all; 401 are not, since the last
+//   of them may be a newline that is not the file's last byte.
+fn main() {
+    let mut model = [0u8; 3073];
+    let Contents::Bytes(m) = read_file(b"model.blk", &mut model) else {
+        return;
+    };
+    let mut sentence = [0u8; 402];
+    let Contents::Bytes(s) = read_file(b"sentence.txt", &mut sentence) else {
+        return;
+    };
+    print(answer(&model[..m], &sentence[..s]));
+}

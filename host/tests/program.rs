@@ -1,0 +1,136 @@
+//! The program, as the gate has built it, beside the second program: one line for the two files of a folder.
+
+use std::fs::{create_dir, remove_dir_all, write, OpenOptions};
+use std::io::Write;
+use std::path::{Path, PathBuf};
+use std::process::{Command, Output};
+use std::thread::{sleep, spawn};
+use std::time::Duration;
+use twolsken_host::gen::model::{file_of, model_with};
+use twolsken_host::gen::Rng;
+use twolsken_host::samples::samples;
+use twolsken_host::second::meaning::{verdict, WORK};
+use twolsken_host::second::model::examples::m1;
+
+/// An empty folder of its own for a test.
+struct Folder(PathBuf);
+
+impl Folder {
+    fn new(name: &str) -> Folder {
+        let folder = std::env::temp_dir().join(format!("twolsken-{}-{name}", std::process::id()));
+        create_dir(&folder).expect("a folder");
+        Folder(folder)
+    }
+
+    fn put(&self, name: &str, bytes: Option<&[u8]>) {
+        if let Some(bytes) = bytes {
+            write(self.0.join(name), bytes).expect("a file");
+        }
+    }
+}
+
+impl Drop for Folder {
+    fn drop(&mut self) {
+        remove_dir_all(&self.0).expect("the folder goes");
+    }
+}
+
+/// A run of the program in a folder.
+fn run(folder: &Path) -> Output {
+    let program = PathBuf::from(env!("CARGO_MANIFEST_DIR")).join("../target/bin/twolsken");
+    Command::new(program).current_dir(folder).output().expect("the program, built by rt check twolsken")
+}
+
+/// The line that document 01 asks for, by the second program on the whole files.
+fn line(model: Option<&[u8]>, sentence: Option<&[u8]>) -> String {
+    let file = sentence.unwrap_or(b"");
+    let text = file.strip_suffix(b"\n").unwrap_or(file);
+    match verdict(model.unwrap_or(b""), text, &mut [0; WORK]) {
+        Ok(true) => "holds\n".to_string(),
+        Ok(false) => "fails\n".to_string(),
+        Err(number) => format!("refused {number}\n"),
+    }
+}
+
+/// Runs the program on two files, each of which may be missing.
+fn agrees(name: &str, model: Option<&[u8]>, sentence: Option<&[u8]>) {
+    let folder = Folder::new(name);
+    folder.put("model.blk", model);
+    folder.put("sentence.txt", sentence);
+    let output = run(&folder.0);
+    assert_eq!(String::from_utf8_lossy(&output.stdout), line(model, sentence), "{name}");
+    assert!(output.status.success() && output.stderr.is_empty(), "{name}");
+}
+
+#[test]
+fn the_samples() {
+    for sample in samples() {
+        let sentence = format!("{}\n", sample.sentence);
+        agrees(sample.folder, Some(&file_of(&sample.model)), Some(sentence.as_bytes()));
+    }
+}
+
+#[test]
+fn a_missing_file_is_empty() {
+    agrees("neither", None, None);
+    agrees("no-sentence", Some(&file_of(&m1())), None);
+    agrees("no-model", None, Some(b"A.T\n"));
+    agrees("both-empty", Some(b""), Some(b""));
+}
+
+#[test]
+fn models_of_every_length_near_the_limit_and_far_beyond() {
+    let largest = file_of(&model_with(&mut Rng::new(5), 32, 2, 100));
+    assert_eq!(largest.len(), 3_072);
+    let mut longer = largest.clone();
+    longer.resize(4 << 20, 0);
+    for length in [1, 511, 512, 513, 3_071, 3_072, 3_073, 3_074, 3_584, 4_096, 4 << 20] {
+        agrees(&format!("model-{length}"), Some(&longer[..length]), Some(b"A.T\n"));
+        agrees(&format!("model-{length}-bad-text"), Some(&longer[..length]), Some(b"?"));
+    }
+}
+
+#[test]
+fn texts_of_every_length_near_the_limit_and_far_beyond() {
+    let model = file_of(&m1());
+    for length in [3, 64, 398, 399, 400, 401, 402, 403, 1 << 20] {
+        let text = format!("A.{}T", "!".repeat(length - 3));
+        for (which, end) in ["", "\n", "\n\n", "\nT", "\n\n\n"].iter().enumerate() {
+            let file = format!("{text}{end}");
+            agrees(&format!("text-{length}-{which}"), Some(&model), Some(file.as_bytes()));
+        }
+    }
+    agrees("newlines", Some(&model), Some(b"\n\n"));
+    agrees("newline", Some(&model), Some(b"\n"));
+    agrees("long-and-model-bad", Some(&model[..1_000]), Some(&[b'!'; 5_000]));
+}
+
+/// What a pipe hands over comes in several reads.
+#[test]
+fn a_file_that_comes_in_parts_is_read_to_its_end() {
+    let folder = Folder::new("parts");
+    folder.put("model.blk", Some(&file_of(&m1())));
+    let pipe = folder.0.join("sentence.txt");
+    assert!(Command::new("mkfifo").arg(&pipe).status().expect("mkfifo").success());
+    let writer = spawn(move || {
+        let mut file = OpenOptions::new().write(true).open(pipe).expect("the pipe");
+        for part in ["AE.", "=PX", "a1PX", "a2", "\n"] {
+            file.write_all(part.as_bytes()).expect("a part");
+            sleep(Duration::from_millis(20));
+        }
+    });
+    assert_eq!(run(&folder.0).stdout, b"holds\n");
+    writer.join().expect("the writer");
+}
+
+/// No verdict on what could not be read: the reason goes to standard error.
+#[test]
+fn a_file_that_cannot_be_read_gets_no_verdict() {
+    for name in ["model.blk", "sentence.txt"] {
+        let folder = Folder::new(name);
+        create_dir(folder.0.join(name)).expect("a folder in a file's place");
+        let output = run(&folder.0);
+        assert!(output.stdout.is_empty());
+        assert_eq!(String::from_utf8_lossy(&output.stderr), format!("{name}: Is a directory\n"));
+    }
+}
