@@ -10,13 +10,17 @@ use Rattle.sentence.specs.declared.Slot.{Slot}
 use Rattle.sentence.specs.declared.Node.{Node}
 use Rattle.sentence.specs.declared.Node.the-variants.{True, Label, Not, And, Compare, Probability, Constant, Sum}
 use Rattle.sentence.specs.declared.Node.the-variants.{Difference, Product, Next, Until}
+use Rattle.sentence.specs.declared.Kind.{Kind}
+use Rattle.sentence.specs.declared.Wants.{Wants}
+use Rattle.sentence.specs.declared.Wants.the-variants.{Nothing, One, Two}
+use Rattle.sentence.specs.Writing.{wantsOf}
 use Rattle.meaning.specs.Tree.{Formula, Expression, PathFormula}
 use Rattle.trees.specs.Need.{paired, need, needIn, needFrom}
 use Rattle.trees.specs.Standing.{nodeAt, FormulaAt, ExpressionAt, PathAt}
 use Rattle.trees.proofs.Cases.{FormulaCase, ExpressionCase, PathCase, formula-case, expression-case, path-case}
 use Rattle.trees.proofs.Cases.{formula-place, expression-place, path-place}
 use Rattle.evaluate.specs.declared.survey.Extent.{Extent}
-use Rattle.evaluate.specs.Surveys.{Surveyed, SurveyedTwo}
+use Rattle.evaluate.specs.Surveys.{Surveyed, SurveyedTwo, layersOfTwo}
 
 -- two operands need at most one more than the larger
 paired-few : (a b : ℕ) → paired a b ≤ max a b + 1
@@ -64,17 +68,17 @@ module _ (slots : List Slot) (at : ℕ) (r : Extent) where
       leaf : Bounded at r
       leaf = record { forward = omega arith; within = omega arith; few = omega arith }
 
-      pub surveyed-true : nodeAt slots at ≡ True → Surveyed slots at r
+      surveyed-true : nodeAt slots at ≡ True → Surveyed slots at r
       unfolding need
       surveyed-true n = by-node True n leaf (λ f q w. (e ∙ sym (w .1), k ∙ ap need (sym (w .0)))) (λ a q w. absurd w)
           (λ a q w. absurd w)
 
-      pub surveyed-label : (l i : ℕ) → nodeAt slots at ≡ Label l i → Surveyed slots at r
+      surveyed-label : (l i : ℕ) → nodeAt slots at ≡ Label l i → Surveyed slots at r
       unfolding need
       surveyed-label l i n = by-node (Label l i) n leaf (λ f q w. (e ∙ sym (w .1), k ∙ ap need (sym (w .0))))
           (λ a q w. absurd w) (λ a q w. absurd w)
 
-      pub surveyed-constant : (a b : ℕ) → nodeAt slots at ≡ Constant a b → Surveyed slots at r
+      surveyed-constant : (a b : ℕ) → nodeAt slots at ≡ Constant a b → Surveyed slots at r
       unfolding needIn
       surveyed-constant a b n = by-node (Constant a b) n leaf (λ f q w. absurd w)
           (λ a q w. (e ∙ sym (w .1), k ∙ ap needIn (sym (w .0)))) (λ a q w. absurd w)
@@ -83,7 +87,7 @@ module _ (slots : List Slot) (at : ℕ) (r : Extent) where
       one : Bounded at r
       one = record { forward = omega arith; within = s .within; few = omega arith }
 
-      pub surveyed-not : nodeAt slots at ≡ Not → Surveyed slots at r
+      surveyed-not : nodeAt slots at ≡ Not → Surveyed slots at r
       unfolding need
       surveyed-not n = by-node Not n one
           (λ f q w.
@@ -91,7 +95,7 @@ module _ (slots : List Slot) (at : ℕ) (r : Extent) where
           (h .0, h .1 ∙ ap need (sym (w .1))))
           (λ a q w. absurd w) (λ a q w. absurd w)
 
-      pub surveyed-probability : nodeAt slots at ≡ Probability → Surveyed slots at r
+      surveyed-probability : nodeAt slots at ≡ Probability → Surveyed slots at r
       unfolding needIn
       surveyed-probability n = by-node Probability n one (λ f q w. absurd w)
           (λ f q w.
@@ -99,7 +103,7 @@ module _ (slots : List Slot) (at : ℕ) (r : Extent) where
           (h .0, h .1 ∙ ap needIn (sym (w .1))))
           (λ a q w. absurd w)
 
-      pub surveyed-next : nodeAt slots at ≡ Next → Surveyed slots at r
+      surveyed-next : nodeAt slots at ≡ Next → Surveyed slots at r
       unfolding needFrom
       surveyed-next n = by-node Next n one (λ f q w. absurd w) (λ a q w. absurd w)
           (λ f q w.
@@ -110,7 +114,7 @@ module _ (slots : List Slot) (at : ℕ) (r : Extent) where
       two : Bounded at r
       two = record { forward = omega arith; within = s .within; few = omega arith }
 
-      pub surveyed-and : nodeAt slots at ≡ And → Surveyed slots at r
+      surveyed-and : nodeAt slots at ≡ And → Surveyed slots at r
       unfolding need
       surveyed-and n = by-node And n two
           (λ f q w.
@@ -118,7 +122,7 @@ module _ (slots : List Slot) (at : ℕ) (r : Extent) where
           (h .0, h .1 ∙ ap need (sym (w .3))))
           (λ a q w. absurd w) (λ a q w. absurd w)
 
-      pub surveyed-compare : (rel : Spelled.Relation) → nodeAt slots at ≡ Compare rel → Surveyed slots at r
+      surveyed-compare : (rel : Spelled.Relation) → nodeAt slots at ≡ Compare rel → Surveyed slots at r
       unfolding need
       surveyed-compare rel n = by-node (Compare rel) n two
           (λ f q w.
@@ -126,7 +130,7 @@ module _ (slots : List Slot) (at : ℕ) (r : Extent) where
           (h .0, h .1 ∙ ap need (sym (w .4))))
           (λ a q w. absurd w) (λ a q w. absurd w)
 
-      pub surveyed-sum : nodeAt slots at ≡ Sum → Surveyed slots at r
+      surveyed-sum : nodeAt slots at ≡ Sum → Surveyed slots at r
       unfolding needIn
       surveyed-sum n = by-node Sum n two (λ a q w. absurd w)
           (λ f q w.
@@ -134,7 +138,7 @@ module _ (slots : List Slot) (at : ℕ) (r : Extent) where
           (h .0, h .1 ∙ ap needIn (sym (w .3))))
           (λ a q w. absurd w)
 
-      pub surveyed-difference : nodeAt slots at ≡ Difference → Surveyed slots at r
+      surveyed-difference : nodeAt slots at ≡ Difference → Surveyed slots at r
       unfolding needIn
       surveyed-difference n = by-node Difference n two (λ a q w. absurd w)
           (λ f q w.
@@ -142,7 +146,7 @@ module _ (slots : List Slot) (at : ℕ) (r : Extent) where
           (h .0, h .1 ∙ ap needIn (sym (w .3))))
           (λ a q w. absurd w)
 
-      pub surveyed-product : nodeAt slots at ≡ Product → Surveyed slots at r
+      surveyed-product : nodeAt slots at ≡ Product → Surveyed slots at r
       unfolding needIn
       surveyed-product n = by-node Product n two (λ a q w. absurd w)
           (λ f q w.
@@ -151,7 +155,7 @@ module _ (slots : List Slot) (at : ℕ) (r : Extent) where
           (λ a q w. absurd w)
 
 -- an until computes in a third layer
-pub surveyed-until : (slots : List Slot) (at : ℕ) (t r : Extent) → at < 64 → SurveyedTwo slots (at + 1) t →
+surveyed-until : (slots : List Slot) (at : ℕ) (t r : Extent) → at < 64 → SurveyedTwo slots (at + 1) t →
     r .next ≡ t .next → r .layers ≡ max 3 (t .layers) → (k1 k2 : ℕ) → nodeAt slots at ≡ Until k1 k2 →
     Surveyed slots at r
 unfolding needFrom
@@ -161,6 +165,76 @@ surveyed-until slots at t r room s e k k1 k2 n = by-node slots at r (Until k1 k2
     (λ f q w.
     let h = s .formulas (w .0) (w .1) (w .2) q (w .4) (w .5) in
     (e ∙ h .0, k ∙ ap (max 3) (h .1) ∙ ap needFrom (sym (w .3))))
+
+-- ---- by what the node wants
+-- how many things are wanted
+abbrev wanted : Wants → ℕ
+wanted Nothing = 0
+wanted (One k) = 1
+wanted (Two k) = 2
+
+module _ (slots : List Slot) (at : ℕ) (r : Extent) (room : at < 64) where
+  pub surveyed-none : r .next ≡ at + 1 → r .layers ≡ 1 → wantsOf (nodeAt slots at) ≡ Nothing → Surveyed slots at r
+  surveyed-none e k w = by (nodeAt slots at) refl (ap wanted w)
+    where
+      by : (n : Node) → nodeAt slots at ≡ n → wanted (wantsOf n) ≡ 0 → Surveyed slots at r
+      by True n h = surveyed-true slots at r room e k n
+      by (Label l i) n h = surveyed-label slots at r room e k l i n
+      by Not n h = absurd (omega arith)
+      by And n h = absurd (omega arith)
+      by (Compare x) n h = absurd (omega arith)
+      by Probability n h = absurd (omega arith)
+      by (Constant a b) n h = surveyed-constant slots at r room e k a b n
+      by Sum n h = absurd (omega arith)
+      by Difference n h = absurd (omega arith)
+      by Product n h = absurd (omega arith)
+      by Next n h = absurd (omega arith)
+      by (Until k1 k2) n h = absurd (omega arith)
+
+  pub surveyed-one : {k : Kind} → Surveyed slots (at + 1) r → wantsOf (nodeAt slots at) ≡ One k → Surveyed slots at r
+  surveyed-one s w = by (nodeAt slots at) refl (ap wanted w)
+    where
+      by : (n : Node) → nodeAt slots at ≡ n → wanted (wantsOf n) ≡ 1 → Surveyed slots at r
+      by True n h = absurd (omega arith)
+      by (Label l i) n h = absurd (omega arith)
+      by Not n h = surveyed-not slots at r room s n
+      by And n h = absurd (omega arith)
+      by (Compare x) n h = absurd (omega arith)
+      by Probability n h = surveyed-probability slots at r room s n
+      by (Constant a b) n h = absurd (omega arith)
+      by Sum n h = absurd (omega arith)
+      by Difference n h = absurd (omega arith)
+      by Product n h = absurd (omega arith)
+      by Next n h = surveyed-next slots at r room s n
+      by (Until k1 k2) n h = absurd (omega arith)
+
+  pub surveyed-both : {k : Kind} {t : Extent} → SurveyedTwo slots (at + 1) t → r .next ≡ t .next →
+      r .layers ≡ layersOfTwo (nodeAt slots at) (t .layers) → wantsOf (nodeAt slots at) ≡ Two k → Surveyed slots at r
+  surveyed-both {t = t} s e l w = by (nodeAt slots at) refl (ap wanted w) l
+    where
+      -- what is found of the two is found of the node
+      same : r .layers ≡ t .layers → SurveyedTwo slots (at + 1) r
+      same l = record {
+        forward = let h = s .forward in omega (arith, h, e);
+        within = let h = s .within in omega (arith, h, e);
+        few = let h = s .few in omega (arith, h, e, l);
+        formulas = λ f g m q v w. let h = s .formulas f g m q v w in (e ∙ h .0, l ∙ h .1);
+        expressions = λ a b m q v w. let h = s .expressions a b m q v w in (e ∙ h .0, l ∙ h .1);
+      }
+
+      by : (n : Node) → nodeAt slots at ≡ n → wanted (wantsOf n) ≡ 2 → r .layers ≡ layersOfTwo n (t .layers) → Surveyed slots at r
+      by True n h l = absurd (omega arith)
+      by (Label x i) n h l = absurd (omega arith)
+      by Not n h l = absurd (omega arith)
+      by And n h l = surveyed-and slots at r room (same l) n
+      by (Compare x) n h l = surveyed-compare slots at r room (same l) x n
+      by Probability n h l = absurd (omega arith)
+      by (Constant a b) n h l = absurd (omega arith)
+      by Sum n h l = surveyed-sum slots at r room (same l) n
+      by Difference n h l = surveyed-difference slots at r room (same l) n
+      by Product n h l = surveyed-product slots at r room (same l) n
+      by Next n h l = absurd (omega arith)
+      by (Until k1 k2) n h l = surveyed-until slots at t r room s e l k1 k2 n
 
 -- two trees, one after another
 pub surveyed-two : (slots : List Slot) (at : ℕ) (a b r : Extent) → Surveyed slots at a → Surveyed slots (a .next) b →

@@ -1,8 +1,10 @@
 -- What surveying the nodes of a tree finds: its end, and how many layers its evaluation needs.
-use Prim.Native.Nat.{ℕ, _+_, _-_, _≤_, _<_}
+use Prim.Native.Nat.{ℕ, _+_, _-_, _≤_, _<_, max}
 use mathlib.Core.List.{List}
 use mathlib.Core.Path.{_≡_}
 use Rattle.sentence.specs.declared.Slot.{Slot}
+use Rattle.sentence.specs.declared.Node.{Node}
+use Rattle.sentence.specs.declared.Node.the-variants.{True, Label, Not, And, Compare, Probability, Constant, Sum, Difference, Product, Next, Until}
 use Rattle.meaning.specs.Tree.{Formula, Expression, PathFormula}
 use Rattle.trees.specs.Need.{paired, need, needIn, needFrom}
 use Rattle.trees.specs.Standing.{FormulaAt, ExpressionAt, PathAt}
@@ -26,3 +28,18 @@ pub record SurveyedTwo (slots : List Slot) (at : ℕ) (r : Extent) : Type 0 wher
       (r .next ≡ q) × (r .layers ≡ paired (need f) (need g))
   pub expressions : (a b : Expression) (m q : ℕ) → ExpressionAt slots at a m → ExpressionAt slots m b q →
       (r .next ≡ q) × (r .layers ≡ paired (needIn a) (needIn b))
+
+-- the layers that a node with two operands needs, where these need so many: an until computes in a third
+abbrev pub layersOfTwo : Node → ℕ → ℕ
+layersOfTwo True k = k
+layersOfTwo (Label l i) k = k
+layersOfTwo Not k = k
+layersOfTwo And k = k
+layersOfTwo (Compare r) k = k
+layersOfTwo Probability k = k
+layersOfTwo (Constant a b) k = k
+layersOfTwo Sum k = k
+layersOfTwo Difference k = k
+layersOfTwo Product k = k
+layersOfTwo Next k = k
+layersOfTwo (Until k1 k2) k = max 3 k

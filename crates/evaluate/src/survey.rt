@@ -3,9 +3,11 @@
 ghost use mathlib.Core.Path.{_≡_};
 ghost use Prim.Native.Nat.{_+_, _≤_, _<_, max};
 ghost use Rattle.trees.specs.Need.{paired};
-ghost use Rattle.evaluate.specs.Surveys.{Surveyed, SurveyedTwo};
+ghost use Rattle.evaluate.specs.Surveys.{Surveyed, SurveyedTwo, layersOfTwo};
 use sentence::Node;
 use sentence::Slot;
+use sentence::Wants;
+use sentence::wants_of;
 
 // Where a node's own nodes end, and the layers that its evaluation needs.
 pub struct Extent {
@@ -64,22 +66,34 @@ pub fn survey(nodes: [Slot; 64], at: usize) -> Extent
     }
     let slot = nodes[at];
     let node = slot.node;
+    let wants = wants_of(node);
+    match wants {
+        Wants::Nothing => leaf(at),
+        Wants::One(_) => survey(nodes, at + 1),
+        Wants::Two(_) => of_two(node, operands(nodes, at + 1)),
+    }
+}
+
+// A node with two operands: an until needs three layers at least.
+fn of_two(node: Node, two: Extent) -> Extent
+    ensures { λ r. ⌜ (r .next ≡ two .next) × (r .layers ≡ layersOfTwo node (two .layers)) ⌝ }
+{
     match node {
-        Node::True => leaf(at),
+        Node::True => two,
         Node::Label {
             label: _,
             variable: _,
-        } => leaf(at),
-        Node::Not => survey(nodes, at + 1),
-        Node::And => operands(nodes, at + 1),
-        Node::Compare(_) => operands(nodes, at + 1),
-        Node::Probability => survey(nodes, at + 1),
-        Node::Constant { top: _, bottom: _ } => leaf(at),
-        Node::Sum => operands(nodes, at + 1),
-        Node::Difference => operands(nodes, at + 1),
-        Node::Product => operands(nodes, at + 1),
-        Node::Next => survey(nodes, at + 1),
-        Node::Until { from: _, to: _ } => at_least_three(operands(nodes, at + 1)),
+        } => two,
+        Node::Not => two,
+        Node::And => two,
+        Node::Compare(_) => two,
+        Node::Probability => two,
+        Node::Constant { top: _, bottom: _ } => two,
+        Node::Sum => two,
+        Node::Difference => two,
+        Node::Product => two,
+        Node::Next => two,
+        Node::Until { from: _, to: _ } => at_least_three(two),
     }
 }
 

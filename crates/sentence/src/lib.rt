@@ -696,7 +696,7 @@ fn kind_of(node: Node) -> Kind
 }
 
 // What a node wants after it.
-fn wants_of(node: Node) -> Wants
+pub fn wants_of(node: Node) -> Wants
     ensures { λ r. ⌜ r ≡ wantsOf node ⌝ }
 {
     match node {

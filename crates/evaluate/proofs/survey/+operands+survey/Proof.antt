@@ -1,10 +1,7 @@
--- `operands` and `survey` meet their contracts, node by node. The measure is the number of places left, counted twice.
+-- `operands` and `survey` meet their contracts, by what the node wants. The measure is the number of places left, counted twice.
 use borrow.Author.Needs.{needs}
-use mathlib.Core.Path.{refl}
-use Rattle.evaluate.proofs.Surveying.{surveyed-past, surveyed-two, surveyed-true, surveyed-label, surveyed-not}
-use Rattle.evaluate.proofs.Surveying.{surveyed-and, surveyed-compare, surveyed-probability, surveyed-constant}
-use Rattle.evaluate.proofs.Surveying.{surveyed-sum, surveyed-difference, surveyed-product, surveyed-next}
-use Rattle.evaluate.proofs.Surveying.{surveyed-until}
+use mathlib.Core.Path.{_≡_, refl, sym, ap, _∙_}
+use Rattle.evaluate.proofs.Surveying.{surveyed-past, surveyed-two, surveyed-none, surveyed-one, surveyed-both}
 use Prim.Native.Nat.{ℕ, _+_, _-_, _*_, _<_}
 use borrow.Fn.Kinds.{In}
 use borrow.Fn.PlainCycle.{Measures, is, falls, and}
@@ -14,9 +11,10 @@ use Rattle.evaluate.proofs.survey.+operands+survey.Lts-operands as oper
 use Rattle.evaluate.proofs.survey.survey.Reads as survey
 use Rattle.evaluate.proofs.survey.survey.Kinds as survey-kinds
 use Rattle.evaluate.proofs.survey.+operands+survey.Lts-survey as survey-lts
-use Rattle.evaluate.proofs.survey.at_least_three.Reads as at-least-three-reads
+use Rattle.evaluate.proofs.survey.of_two.Reads as of-two-reads
 use Rattle.evaluate.proofs.survey.leaf.Reads as leaf-reads
 use Rattle.evaluate.proofs.survey.need_of.Reads as need-of-reads
+use Rattle.sentence.proofs.wants_of.Reads as wants-of-reads
 use Rattle.evaluate.proofs.survey.+operands+survey.{statement}
 use Rattle.evaluate.proofs.survey.+operands+survey.Tie.{close}
 
@@ -44,14 +42,16 @@ operands-claims t = (survey-below t, survey.Post, need-of-reads.Asked, need-of-r
 
 abbrev survey-claims : ℕ → survey-lts.Claims
 survey-claims t = (
+  wants-of-reads.Asked,
+  wants-of-reads.Learnt,
   leaf-reads.Asked,
   leaf-reads.Learnt,
   survey-below t,
   survey.Post,
   operands-below t,
   operands.Post,
-  at-least-three-reads.Asked,
-  at-least-three-reads.Learnt,
+  of-two-reads.Asked,
+  of-two-reads.Learnt,
 )
 
 operands-survey-requires : (t : ℕ) → operands-lts.Need-survey-requires (operands-claims t) (operands-at t) operands.Post
@@ -81,6 +81,9 @@ survey-mul-slot t c = search needs
 survey-array-copy-out-slot : (t : ℕ) → survey-lts.Need-array-copy-out-slot (survey-claims t) (survey-at t) survey.Post
 survey-array-copy-out-slot t c = search needs
 
+survey-wants-of-requires : (t : ℕ) → survey-lts.Need-wants-of-requires (survey-claims t) (survey-at t) survey.Post
+survey-wants-of-requires t c κs = search needs
+
 survey-enum-told : (t : ℕ) → survey-lts.Need-enum-told (survey-claims t) (survey-at t) survey.Post
 survey-enum-told t c = search needs
 
@@ -90,20 +93,14 @@ survey-leaf-requires t c κs = search needs
 survey-enum-told-2 : (t : ℕ) → survey-lts.Need-enum-told-2 (survey-claims t) (survey-at t) survey.Post
 survey-enum-told-2 t c = search needs
 
-survey-leaf-requires-2 : (t : ℕ) → survey-lts.Need-leaf-requires-2 (survey-claims t) (survey-at t) survey.Post
-survey-leaf-requires-2 t c κs = search needs
-
-survey-enum-told-3 : (t : ℕ) → survey-lts.Need-enum-told-3 (survey-claims t) (survey-at t) survey.Post
-survey-enum-told-3 t c = search needs
-
 survey-add-survey : (t : ℕ) → survey-lts.Need-add-survey (survey-claims t) (survey-at t) survey.Post
 survey-add-survey t c = search needs
 
 survey-survey-requires : (t : ℕ) → survey-lts.Need-survey-requires (survey-claims t) (survey-at t) survey.Post
 survey-survey-requires t c κs = search needs
 
-survey-enum-told-4 : (t : ℕ) → survey-lts.Need-enum-told-4 (survey-claims t) (survey-at t) survey.Post
-survey-enum-told-4 t c = search needs
+survey-enum-told-3 : (t : ℕ) → survey-lts.Need-enum-told-3 (survey-claims t) (survey-at t) survey.Post
+survey-enum-told-3 t c = search needs
 
 survey-add-operands : (t : ℕ) → survey-lts.Need-add-operands (survey-claims t) (survey-at t) survey.Post
 survey-add-operands t c = search needs
@@ -111,154 +108,27 @@ survey-add-operands t c = search needs
 survey-operands-requires : (t : ℕ) → survey-lts.Need-operands-requires (survey-claims t) (survey-at t) survey.Post
 survey-operands-requires t c κs = search needs
 
-survey-enum-told-5 : (t : ℕ) → survey-lts.Need-enum-told-5 (survey-claims t) (survey-at t) survey.Post
-survey-enum-told-5 t c = search needs
-
-survey-add-operands-2 : (t : ℕ) → survey-lts.Need-add-operands-2 (survey-claims t) (survey-at t) survey.Post
-survey-add-operands-2 t c = search needs
-
-survey-operands-requires-2 : (t : ℕ) → survey-lts.Need-operands-requires-2 (survey-claims t) (survey-at t) survey.Post
-survey-operands-requires-2 t c κs = search needs
-
-survey-enum-told-6 : (t : ℕ) → survey-lts.Need-enum-told-6 (survey-claims t) (survey-at t) survey.Post
-survey-enum-told-6 t c = search needs
-
-survey-add-survey-2 : (t : ℕ) → survey-lts.Need-add-survey-2 (survey-claims t) (survey-at t) survey.Post
-survey-add-survey-2 t c = search needs
-
-survey-survey-requires-2 : (t : ℕ) → survey-lts.Need-survey-requires-2 (survey-claims t) (survey-at t) survey.Post
-survey-survey-requires-2 t c κs = search needs
-
-survey-enum-told-7 : (t : ℕ) → survey-lts.Need-enum-told-7 (survey-claims t) (survey-at t) survey.Post
-survey-enum-told-7 t c = search needs
-
-survey-leaf-requires-3 : (t : ℕ) → survey-lts.Need-leaf-requires-3 (survey-claims t) (survey-at t) survey.Post
-survey-leaf-requires-3 t c κs = search needs
-
-survey-enum-told-8 : (t : ℕ) → survey-lts.Need-enum-told-8 (survey-claims t) (survey-at t) survey.Post
-survey-enum-told-8 t c = search needs
-
-survey-add-operands-3 : (t : ℕ) → survey-lts.Need-add-operands-3 (survey-claims t) (survey-at t) survey.Post
-survey-add-operands-3 t c = search needs
-
-survey-operands-requires-3 : (t : ℕ) → survey-lts.Need-operands-requires-3 (survey-claims t) (survey-at t) survey.Post
-survey-operands-requires-3 t c κs = search needs
-
-survey-enum-told-9 : (t : ℕ) → survey-lts.Need-enum-told-9 (survey-claims t) (survey-at t) survey.Post
-survey-enum-told-9 t c = search needs
-
-survey-add-operands-4 : (t : ℕ) → survey-lts.Need-add-operands-4 (survey-claims t) (survey-at t) survey.Post
-survey-add-operands-4 t c = search needs
-
-survey-operands-requires-4 : (t : ℕ) → survey-lts.Need-operands-requires-4 (survey-claims t) (survey-at t) survey.Post
-survey-operands-requires-4 t c κs = search needs
-
-survey-enum-told-10 : (t : ℕ) → survey-lts.Need-enum-told-10 (survey-claims t) (survey-at t) survey.Post
-survey-enum-told-10 t c = search needs
-
-survey-add-operands-5 : (t : ℕ) → survey-lts.Need-add-operands-5 (survey-claims t) (survey-at t) survey.Post
-survey-add-operands-5 t c = search needs
-
-survey-operands-requires-5 : (t : ℕ) → survey-lts.Need-operands-requires-5 (survey-claims t) (survey-at t) survey.Post
-survey-operands-requires-5 t c κs = search needs
-
-survey-enum-told-11 : (t : ℕ) → survey-lts.Need-enum-told-11 (survey-claims t) (survey-at t) survey.Post
-survey-enum-told-11 t c = search needs
-
-survey-add-survey-3 : (t : ℕ) → survey-lts.Need-add-survey-3 (survey-claims t) (survey-at t) survey.Post
-survey-add-survey-3 t c = search needs
-
-survey-survey-requires-3 : (t : ℕ) → survey-lts.Need-survey-requires-3 (survey-claims t) (survey-at t) survey.Post
-survey-survey-requires-3 t c κs = search needs
-
-survey-enum-told-12 : (t : ℕ) → survey-lts.Need-enum-told-12 (survey-claims t) (survey-at t) survey.Post
-survey-enum-told-12 t c = search needs
-
-survey-add-operands-6 : (t : ℕ) → survey-lts.Need-add-operands-6 (survey-claims t) (survey-at t) survey.Post
-survey-add-operands-6 t c = search needs
-
-survey-operands-requires-6 : (t : ℕ) → survey-lts.Need-operands-requires-6 (survey-claims t) (survey-at t) survey.Post
-survey-operands-requires-6 t c κs = search needs
-
-survey-at-least-three-requires : (t : ℕ) → survey-lts.Need-at-least-three-requires (survey-claims t) (survey-at t)
-    survey.Post
-survey-at-least-three-requires t c κs = search needs
+survey-of-two-requires : (t : ℕ) → survey-lts.Need-of-two-requires (survey-claims t) (survey-at t) survey.Post
+survey-of-two-requires t c κs = search needs
 
 survey-returns-2 : (t : ℕ) → survey-lts.Need-returns-2 (survey-claims t) (survey-at t) survey.Post
 survey-returns-2 t c =
-    let start = c .before .before .before .before .before in
-    surveyed-true (start .args .t1) (start .args .at) _ (c .before .before .before .before .if1 .left)
-    (c .leaf .ensures .0) (c .leaf .ensures .1) (c .before .enum-told .given .1)
+    let start = c .before .before .before .before .before .before in
+    surveyed-none (start .args .t1) (start .args .at) _ (c .before .before .before .before .before .if1 .left)
+    (c .leaf .ensures .0) (c .leaf .ensures .1) (sym (c .before .before .before .wants-of .ensures) ∙ c .before .enum-told .given .1)
 
 survey-returns-3 : (t : ℕ) → survey-lts.Need-returns-3 (survey-claims t) (survey-at t) survey.Post
 survey-returns-3 t c =
-    let start = c .before .before .before .before .before in
-    surveyed-label (start .args .t1) (start .args .at) _ (c .before .before .before .before .if1 .left)
-    (c .leaf2 .ensures .0) (c .leaf2 .ensures .1) (c .before .enum-told2 .given .0 .0)
-    (c .before .enum-told2 .given .0 .1 .0) (c .before .enum-told2 .given .1)
+    let start = c .before .before .before .before .before .before in
+    surveyed-one (start .args .t1) (start .args .at) _ (c .before .before .before .before .before .if1 .left)
+    (c .survey .ensures) (sym (c .before .before .before .wants-of .ensures) ∙ c .before .enum-told2 .given .1)
 
 survey-returns-4 : (t : ℕ) → survey-lts.Need-returns-4 (survey-claims t) (survey-at t) survey.Post
 survey-returns-4 t c =
-    let start = c .before .before .before .before .before in
-    surveyed-not (start .args .t1) (start .args .at) _ (c .before .before .before .before .if1 .left)
-    (c .survey .ensures) (c .before .enum-told3 .given .1)
-
-survey-returns-5 : (t : ℕ) → survey-lts.Need-returns-5 (survey-claims t) (survey-at t) survey.Post
-survey-returns-5 t c =
-    let start = c .before .before .before .before .before in
-    surveyed-and (start .args .t1) (start .args .at) _ (c .before .before .before .before .if1 .left)
-    (c .operands .ensures) (c .before .enum-told4 .given .1)
-
-survey-returns-6 : (t : ℕ) → survey-lts.Need-returns-6 (survey-claims t) (survey-at t) survey.Post
-survey-returns-6 t c =
-    let start = c .before .before .before .before .before in
-    surveyed-compare (start .args .t1) (start .args .at) _ (c .before .before .before .before .if1 .left)
-    (c .operands2 .ensures) (c .before .enum-told5 .given .0 .0) (c .before .enum-told5 .given .1)
-
-survey-returns-7 : (t : ℕ) → survey-lts.Need-returns-7 (survey-claims t) (survey-at t) survey.Post
-survey-returns-7 t c =
-    let start = c .before .before .before .before .before in
-    surveyed-probability (start .args .t1) (start .args .at) _ (c .before .before .before .before .if1 .left)
-    (c .survey2 .ensures) (c .before .enum-told6 .given .1)
-
-survey-returns-8 : (t : ℕ) → survey-lts.Need-returns-8 (survey-claims t) (survey-at t) survey.Post
-survey-returns-8 t c =
-    let start = c .before .before .before .before .before in
-    surveyed-constant (start .args .t1) (start .args .at) _ (c .before .before .before .before .if1 .left)
-    (c .leaf3 .ensures .0) (c .leaf3 .ensures .1) (c .before .enum-told7 .given .0 .0)
-    (c .before .enum-told7 .given .0 .1 .0) (c .before .enum-told7 .given .1)
-
-survey-returns-9 : (t : ℕ) → survey-lts.Need-returns-9 (survey-claims t) (survey-at t) survey.Post
-survey-returns-9 t c =
-    let start = c .before .before .before .before .before in
-    surveyed-sum (start .args .t1) (start .args .at) _ (c .before .before .before .before .if1 .left)
-    (c .operands3 .ensures) (c .before .enum-told8 .given .1)
-
-survey-returns-10 : (t : ℕ) → survey-lts.Need-returns-10 (survey-claims t) (survey-at t) survey.Post
-survey-returns-10 t c =
-    let start = c .before .before .before .before .before in
-    surveyed-difference (start .args .t1) (start .args .at) _ (c .before .before .before .before .if1 .left)
-    (c .operands4 .ensures) (c .before .enum-told9 .given .1)
-
-survey-returns-11 : (t : ℕ) → survey-lts.Need-returns-11 (survey-claims t) (survey-at t) survey.Post
-survey-returns-11 t c =
-    let start = c .before .before .before .before .before in
-    surveyed-product (start .args .t1) (start .args .at) _ (c .before .before .before .before .if1 .left)
-    (c .operands5 .ensures) (c .before .enum-told10 .given .1)
-
-survey-returns-12 : (t : ℕ) → survey-lts.Need-returns-12 (survey-claims t) (survey-at t) survey.Post
-survey-returns-12 t c =
-    let start = c .before .before .before .before .before in
-    surveyed-next (start .args .t1) (start .args .at) _ (c .before .before .before .before .if1 .left)
-    (c .survey3 .ensures) (c .before .enum-told11 .given .1)
-
-survey-returns-13 : (t : ℕ) → survey-lts.Need-returns-13 (survey-claims t) (survey-at t) survey.Post
-survey-returns-13 t c =
-    let start = c .before .before .before .before .before .before in
-    surveyed-until (start .args .t1) (start .args .at) (c .before .operands6 .result) _
-    (c .before .before .before .before .before .if1 .left) (c .before .operands6 .ensures)
-    (c .at-least-three .ensures .0) (c .at-least-three .ensures .1) (c .before .before .enum-told12 .given .0 .0)
-    (c .before .before .enum-told12 .given .0 .1 .0) (c .before .before .enum-told12 .given .1)
+    let start = c .before .before .before .before .before .before .before in
+    surveyed-both (start .args .t1) (start .args .at) _ (c .before .before .before .before .before .before .if1 .left)
+    (c .before .operands .ensures) (c .of-two .ensures .0) (c .of-two .ensures .1)
+    (sym (c .before .before .before .before .wants-of .ensures) ∙ c .before .before .enum-told3 .given .1)
 
 pub +operands+survey-spec : {M : Type 1} → statement M
 +operands+survey-spec = close μ-operands μ-survey (λ t. operands-lts.spec (
@@ -274,63 +144,32 @@ pub +operands+survey-spec : {M : Type 1} → statement M
     (operands-need-of-requires t)
     (operands-returns t))
     λ t. survey-lts.spec (
+      wants-of-reads.Asked,
+      wants-of-reads.Learnt,
       leaf-reads.Asked,
       leaf-reads.Learnt,
       survey-below t,
       survey.Post,
       operands-below t,
       operands.Post,
-      at-least-three-reads.Asked,
-      at-least-three-reads.Learnt,
+      of-two-reads.Asked,
+      of-two-reads.Learnt,
     )
     (survey-at t)
     survey.Post
     (survey-returns t)
     (survey-mul-slot t)
     (survey-array-copy-out-slot t)
+    (survey-wants-of-requires t)
     (survey-enum-told t)
     (survey-leaf-requires t)
     (survey-enum-told-2 t)
-    (survey-leaf-requires-2 t)
-    (survey-enum-told-3 t)
     (survey-add-survey t)
     (survey-survey-requires t)
-    (survey-enum-told-4 t)
+    (survey-enum-told-3 t)
     (survey-add-operands t)
     (survey-operands-requires t)
-    (survey-enum-told-5 t)
-    (survey-add-operands-2 t)
-    (survey-operands-requires-2 t)
-    (survey-enum-told-6 t)
-    (survey-add-survey-2 t)
-    (survey-survey-requires-2 t)
-    (survey-enum-told-7 t)
-    (survey-leaf-requires-3 t)
-    (survey-enum-told-8 t)
-    (survey-add-operands-3 t)
-    (survey-operands-requires-3 t)
-    (survey-enum-told-9 t)
-    (survey-add-operands-4 t)
-    (survey-operands-requires-4 t)
-    (survey-enum-told-10 t)
-    (survey-add-operands-5 t)
-    (survey-operands-requires-5 t)
-    (survey-enum-told-11 t)
-    (survey-add-survey-3 t)
-    (survey-survey-requires-3 t)
-    (survey-enum-told-12 t)
-    (survey-add-operands-6 t)
-    (survey-operands-requires-6 t)
-    (survey-at-least-three-requires t)
+    (survey-of-two-requires t)
     (survey-returns-2 t)
     (survey-returns-3 t)
     (survey-returns-4 t)
-    (survey-returns-5 t)
-    (survey-returns-6 t)
-    (survey-returns-7 t)
-    (survey-returns-8 t)
-    (survey-returns-9 t)
-    (survey-returns-10 t)
-    (survey-returns-11 t)
-    (survey-returns-12 t)
-    (survey-returns-13 t)
