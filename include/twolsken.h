@@ -8,6 +8,7 @@
  * Refusals. Of the rows that belong to a call the smallest number that applies is given. A refusal carries only its number:
  * all lent memory is as it was.
  *
+ *    1  the work area is under 8,192 numbers of 64 bits
  *    2  the model file's length is not a multiple of 512 in 512..3,072
  *    3  some block's check is wrong
  *    4  a byte, a field or the number of blocks breaks the layout of the model file
@@ -17,12 +18,17 @@
  *    7  a constant's top over 65,535, its bottom 0 or over 65,535; a window k1..k2 with k1 > k2 or k2 > 60; a variable above
  *       the number of letters
  *    8  a text of over 64 nodes
+ *    9  a label letter of the text is not below A
+ *   10  the size rule: some expression's denominator d or bound m, or some comparison's m1 x d2 or m2 x d1, is above 2^62
+ *   11  T, which is N to the power of the number of letters, is over 1,024
  *   12  the grouping's length is not N, or its numbers are not exactly 0..M-1, each used
  *   13  two states of a group differ in mask or in weight into some group
  *   14  the output is shorter than what is to be written
+ *   15  the tuple's length is not the number of letters, a member is not below N, or there is no such path formula
  *
  * Answers. A reader returns 0, or the refusal's number. A writer, or merge, returns the number of bytes that it wrote at the
- * front of the output, with what is beyond as it was; or TWOLSKEN_REFUSED plus the refusal's number.
+ * front of the output, with what is beyond as it was; or TWOLSKEN_REFUSED plus the refusal's number. Verdict returns
+ * TWOLSKEN_HOLDS, TWOLSKEN_FAILS, or the refusal's number. Numerator returns 0, or the refusal's number.
  */
 #ifndef TWOLSKEN_H
 #define TWOLSKEN_H
@@ -36,6 +42,10 @@ extern "C" {
 
 /* 2^32: a writer's answer from here on is a refusal, and the rest of it the refusal's number. */
 #define TWOLSKEN_REFUSED UINT64_C(4294967296)
+
+/* What verdict returns where no row applies: no refusal has such a number. */
+#define TWOLSKEN_HOLDS 256
+#define TWOLSKEN_FAILS 257
 
 /* The sizes of lent arrays. */
 #define TWOLSKEN_STATES 32 /* masks, rows of weights, and weights in a row */
@@ -112,6 +122,24 @@ uint64_t twolsken_write_sentence(uint64_t letters, uint64_t count,
  */
 uint64_t twolsken_merge(const uint8_t *file, size_t file_length, const uint8_t *grouping,
                         size_t grouping_length, uint8_t *out, size_t out_length);
+
+/*
+ * Verdict. text is the sentence's; work is the work area, of 8,192 numbers or more, with any contents. Returns
+ * TWOLSKEN_HOLDS if the sentence holds on the model and TWOLSKEN_FAILS if it does not, and then the first 8,192 numbers of
+ * the work area are zero, the others as they were; or a refusal of 1..11, and then the work area is as it was.
+ */
+uint32_t twolsken_verdict(const uint8_t *file, size_t file_length, const uint8_t *text,
+                          size_t text_length, uint64_t *work, size_t work_length);
+
+/*
+ * Numerator. tuple has one byte a letter of the prefix, a state; path is the number of a path formula, counted from 0 in
+ * written order; work is as at verdict. Returns 0, with the numerator of that path formula at the tuple in value[0] and its
+ * denominator in value[1], and then the first 8,192 numbers of the work area are zero, the others as they were; or a refusal
+ * of 1..11 or 15, and then value and the work area are as they were.
+ */
+uint32_t twolsken_numerator(const uint8_t *file, size_t file_length, const uint8_t *text,
+                            size_t text_length, const uint8_t *tuple, size_t tuple_length, size_t path,
+                            uint64_t *work, size_t work_length, uint64_t value[2]);
 
 #ifdef __cplusplus
 }

@@ -1,4 +1,5 @@
--- What the exported contracts leave: one result and one content of all that is lent; and a node's code stands for that node.
+-- What the exported contracts leave: one result and one content of all that is lent; a node's code stands for that node, and
+-- a verdict's code for that verdict.
 use Prim.Native.Nat.{ℕ, _≤_, _<_}
 use mathlib.Core.Bool.{Bool, true, false, not, cond}
 use mathlib.Core.List.{List, [], _∷_, _++_}
@@ -21,6 +22,14 @@ use Rattle.sentence.specs.declared.SentenceRead.{SentenceRead}
 use Rattle.sentence.proofs.ReadAll.{one-answer}
 use Rattle.sentence.proofs.Unique.{all-writable}
 use Rattle.sentence.proofs.WriteAll.{one-writing}
+use Rattle.verdict.specs.declared.Answer as Judged
+use Rattle.verdict.specs.declared.Answer.the-variants.{Holds, Fails, Refused}
+use Rattle.verdict.specs.Calls.{VerdictAnswer, numberOf as numberJudged}
+use Rattle.verdict.proofs.Single.{one-verdict, number-few}
+use Rattle.numerator.specs.declared.Answer as Counted
+use Rattle.numerator.specs.Calls.{valuesOf, numberOf as numberCounted}
+use Rattle.numerator.proofs.Single.{one-numerator}
+use Rattle.exports.specs.Questions.{verdictCode, GivesVerdict, GivesNumerator}
 use Rattle.exports.specs.Records.{ReadsModel, WritesCoded}
 use Rattle.exports.specs.Sentences.{sentenceHead, letterCode, letterCodes, codesOf, codeOfNode, ReadsSentence, unspelled, nodeOf, nodeOfCode, placesOf, lettersOf, codeOfWritten, WritesSentence}
 
@@ -58,6 +67,45 @@ pub one-sentence-written : {s : Sentence} {before after after′ : List ℕ} {r 
 one-sentence-written a b =
     let same = one-writing (a .answer) (b .answer) in
     (a .answered ∙ ap codeOfWritten (same .0) ∙ sym (b .answered), same .1)
+
+pub one-verdict-given : {file text before after after′ : List ℕ} {r r′ : ℕ} → GivesVerdict file text before after r →
+    GivesVerdict file text before after′ r′ → (r ≡ r′) × (after ≡ after′)
+one-verdict-given a b =
+    let same = one-verdict (a .answer) (b .answer) in
+    (a .answered ∙ ap verdictCode (same .0) ∙ sym (b .answered), same .1)
+
+module _ {file text tuple before value after after′ v v′ : List ℕ} {path r r′ : ℕ} where
+  pub one-numerator-given : GivesNumerator file text tuple path before value after v r →
+      GivesNumerator file text tuple path before value after′ v′ r′ → (r ≡ r′) × (after ≡ after′) × (v ≡ v′)
+  one-numerator-given a b =
+      let same = one-numerator (a .answer) (b .answer) in
+      let n : r ≡ r′ = a .answered ∙ ap numberCounted (same .0) ∙ sym (b .answered) in (
+        n,
+        same .1,
+        a .value-left ∙ ap₂ (λ (k : ℕ) (x : Counted.Answer). unlessRefused k (valuesOf x) value) n (same .0) ∙ sym (b .value-left),
+      )
+
+-- ---- a verdict's code tells the verdict
+
+code-tells : (a b : Judged.Answer) → numberJudged a ≤ 11 → numberJudged b ≤ 11 → verdictCode a ≡ verdictCode b → a ≡ b
+unfolding numberJudged verdictCode
+code-tells Holds Holds x y e = refl
+code-tells Holds Fails x y e = absurd (omega arith)
+code-tells Holds (Refused n) x y e = absurd (omega arith)
+code-tells Fails Holds x y e = absurd (omega arith)
+code-tells Fails Fails x y e = refl
+code-tells Fails (Refused n) x y e = absurd (omega arith)
+code-tells (Refused n) Holds x y e = absurd (omega arith)
+code-tells (Refused n) Fails x y e = absurd (omega arith)
+code-tells (Refused n) (Refused m) x y e = ap Refused e
+
+-- who is given an answer's code is given that answer
+pub verdict-told : {file text before after : List ℕ} (a : Judged.Answer) → numberJudged a ≤ 11 →
+    GivesVerdict file text before after (verdictCode a) → VerdictAnswer file text before a after
+verdict-told {file} {text} {before} {after} a few g =
+    subst (λ (x : Judged.Answer). VerdictAnswer file text before x after)
+    (code-tells (g .judged) a (number-few (g .answer)) few (sym (g .answered)))
+    (g .answer)
 
 -- ---- the writer takes what the reader leaves
 

@@ -1,6 +1,7 @@
 // The calls of document 01 as other languages see them: functions on numbers and slices, with the answer codes that
 // include/twolsken.h states. Each is thin over the library's own call.
 mod merging;
+mod questions;
 mod sentences;
 
 ghost use mathlib.Core.Path.{_≡_};

@@ -2,3 +2,4 @@
 pub mod Asking
 pub mod Counting
 pub mod Answering
+pub mod Single

@@ -1,0 +1,63 @@
+-- `exports::questions::twolsken_numerator` meets its contract, by what numerator ensures of its answer.
+use borrow.Author.Needs.{needs}
+use mathlib.Core.Path.{sym, ap}
+use Rattle.refusal.specs.Answers.{unlessRefused}
+use Rattle.numerator.specs.Calls.{numberOf, valuesOf}
+use Rattle.exports.proofs.Unread.{count-leaves}
+use Rattle.exports.proofs.questions.twolsken_numerator.Statement.{statement}
+use Rattle.exports.proofs.questions.twolsken_numerator.Tie as tie
+
+numerator-requires : tie.Need-numerator-requires
+numerator-requires c κs = search needs
+
+enum-known-answer : tie.Need-enum-known-answer
+enum-known-answer c = search needs
+
+enum-known-answer-2 : tie.Need-enum-known-answer-2
+enum-known-answer-2 c = search needs
+
+cast-result : tie.Need-cast-result
+cast-result c = search needs
+
+same-length : tie.Need-same-length
+same-length c = search needs
+
+returns : tie.Need-returns
+unfolding unlessRefused numberOf valuesOf
+returns c =
+    let e = c .before .before .answer .given .1 in
+    let call = c .before .before .before .before .before .before .numerator in
+    record {
+      counted = call .result;
+      answer = call .ensures;
+      answered = sym (ap numberOf e);
+      value-left = sym (ap valuesOf e);
+    }
+
+same-length-2 : tie.Need-same-length-2
+same-length-2 c = search needs
+
+returns-2 : tie.Need-returns-2
+unfolding numberOf
+returns-2 c =
+    let e = c .before .answer2 .given .1 in
+    let call = c .before .before .before .before .before .numerator in
+    record {
+      counted = call .result;
+      answer = call .ensures;
+      answered = sym (ap numberOf e);
+      value-left = sym (count-leaves (valuesOf (call .result)) _ _ (call .ensures) e);
+    }
+
+pub twolsken-numerator-spec : {M : Type 1} → statement M
+twolsken-numerator-spec =
+    tie.close
+    (tie.spec
+    numerator-requires
+    enum-known-answer
+    enum-known-answer-2
+    cast-result
+    same-length
+    returns
+    same-length-2
+    returns-2)

@@ -1,0 +1,31 @@
+-- Verdict and numerator as other languages see them: the code of an answer, and what the lent memory is afterwards.
+use Prim.Native.Nat.{ℕ}
+use mathlib.Core.List.{List}
+use mathlib.Core.Path.{_≡_}
+use Rattle.refusal.specs.Answers.{unlessRefused}
+use Rattle.verdict.specs.declared.Answer as Judged
+use Rattle.verdict.specs.declared.Answer.the-variants.{Holds, Fails, Refused}
+use Rattle.verdict.specs.Calls.{VerdictAnswer}
+use Rattle.numerator.specs.declared.Answer as Counted
+use Rattle.numerator.specs.Calls.{NumeratorAnswer, numberOf, valuesOf}
+
+-- the code of what verdict answers: 256 for 'holds', 257 for 'fails', or the refusal's number, which is below both
+unfoldable pub verdictCode : Judged.Answer → ℕ
+verdictCode Holds = 256
+verdictCode Fails = 257
+verdictCode (Refused number) = number
+
+-- verdict, exported: what verdict ensures of the file, the text and the work area before and after, of its answer's code
+pub record GivesVerdict (file text before after : List ℕ) (r : ℕ) : Type 0 where
+  pub judged : Judged.Answer
+  pub answer : VerdictAnswer file text before judged after
+  pub answered : r ≡ verdictCode judged
+
+-- numerator, exported: what numerator ensures of the file, the text, the tuple, the path formula's number and the work area
+-- before and after, of its answer's number, which is 0 where it is no refusal; and the two numbers that are lent for the
+-- values, before and after
+pub record GivesNumerator (file text tuple : List ℕ) (path : ℕ) (before value after value′ : List ℕ) (r : ℕ) : Type 0 where
+  pub counted : Counted.Answer
+  pub answer : NumeratorAnswer file text tuple path before counted after
+  pub answered : r ≡ numberOf counted
+  pub value-left : value′ ≡ unlessRefused r (valuesOf counted) value

@@ -1,0 +1,43 @@
+// Verdict and numerator for other languages, each thin over the library's own call.
+ghost use mathlib.Core.Path.{_≡_};
+ghost use Rattle.exports.specs.Questions.{GivesVerdict, GivesNumerator};
+
+// Verdict: 256 where the sentence holds on the model and 257 where it does not, the first 8,192 numbers of the work area
+// zero; or the refusal's number, the area as it was.
+#[no_mangle]
+pub extern "C" fn twolsken_verdict(file: &[u8], text: &[u8], work: &mut [u64]) -> u32
+    ensures { λ r. ⌜ GivesVerdict (now (file .entry)) (now (text .entry)) (now (work .entry)) (now (work .exit)) r ⌝ }
+{
+    let answer = verdict::verdict(file, text, work);
+    match answer {
+        verdict::Answer::Holds => 256,
+        verdict::Answer::Fails => 257,
+        verdict::Answer::Refused(number) => number as u32,
+    }
+}
+
+// Numerator: 0, with the numerator and the denominator in the two lent numbers and the first 8,192 numbers of the work area
+// zero; or the refusal's number with the lent memory as it was.
+#[no_mangle]
+pub extern "C" fn twolsken_numerator(
+    file: &[u8],
+    text: &[u8],
+    tuple: &[u8],
+    path: usize,
+    work: &mut [u64],
+    value: &mut [u64; 2],
+) -> u32
+    ensures { λ r. ⌜ GivesNumerator (now (file .entry)) (now (text .entry)) (now (tuple .entry)) path (now (work .entry)) (now (value .entry)) (now (work .exit)) (now (value .exit)) r ⌝ }
+{
+    let answer = numerator::numerator(file, text, tuple, path, work);
+    match answer {
+        numerator::Answer::Counted {
+            numerator,
+            denominator,
+        } => {
+            *value = [numerator, denominator];
+            0
+        }
+        numerator::Answer::Refused(number) => number as u32,
+    }
+}
