@@ -49,6 +49,11 @@ fn main() {
     line("read model", &files, |f| Proved.read_model(f), |f| Second.read_model(f));
     line("write model", &models, |m| Proved.write_model(m, &mut a), |m| Second.write_model(m, &mut b));
     line("read sentence", &texts, |t| Proved.read_sentence(t), |t| Second.read_sentence(t));
-    line("write sentence", &sentences, |s| Proved.write_sentence(s, &mut a), |s| Second.write_sentence(s, &mut b));
+    line(
+        "write sentence",
+        &sentences,
+        |s| Proved.write_sentence(s, &mut a),
+        |s| Second.write_sentence(s, &mut b),
+    );
     line("merge", &merges, |(f, g)| Proved.merge(f, g, &mut a), |(f, g)| Second.merge(f, g, &mut b));
 }

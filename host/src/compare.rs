@@ -13,18 +13,24 @@ mod faults;
 mod meaning;
 mod merging;
 mod models;
+mod reach;
 mod sentences;
+mod ways;
 
 use crate::gen::Rng;
 use crate::second::meaning::WORK;
 use crate::second::{self, Model, Sentence};
 use std::fmt::{self, Debug, Display};
 
-pub use examples::{compare_examples, compare_model_examples};
-pub use meaning::{compare_numerator, compare_verdict};
+pub use examples::{compare_examples, compare_model_examples, compare_question_examples};
+pub use meaning::{
+    compare_extreme, compare_full, compare_numerator, compare_rooms, compare_row_15, compare_verdict, ROOMS,
+};
 pub use merging::{compare_kept, compare_merge};
 pub use models::{compare_model_reader, compare_model_writer};
+pub use reach::Reach;
 pub use sentences::{compare_sentence_reader, compare_sentence_writer};
+pub use ways::compare_ways;
 
 /// Reading and writing model files. A refusal is its number, here and in every call below.
 pub trait Models {
@@ -129,12 +135,17 @@ pub struct Tally {
     pub fails: u64,
     /// Cases refused, by number; place 0 stays 0.
     pub refused: [u64; 16],
+    /// Numerators that were asked beside the cases of another call.
+    pub numerators: u64,
+    /// What the answered cases had.
+    pub reach: Reach,
 }
 
 impl Tally {
     /// A tally of an area with nothing counted.
-    fn new(area: &'static str) -> Tally {
-        Tally { area, answered: 0, holds: 0, fails: 0, refused: [0; 16] }
+    pub fn new(area: &'static str) -> Tally {
+        let reach = Reach::default();
+        Tally { area, answered: 0, holds: 0, fails: 0, refused: [0; 16], numerators: 0, reach }
     }
 
     /// Counts one answer that was found equal to the second program's.
@@ -148,6 +159,14 @@ impl Tally {
     /// All cases.
     pub fn cases(&self) -> u64 {
         self.answered + self.refused.iter().sum::<u64>()
+    }
+
+    /// Stops unless there were at least so many answers, and so many refusals of each given number.
+    pub fn require_each(&self, least: u64, numbers: &[usize]) {
+        assert!(self.answered >= least, "{self}: too few answers");
+        for &number in numbers {
+            assert!(self.refused[number] >= least, "{self}: too few refusals of {number}");
+        }
     }
 
     /// Stops unless there were answers, and refusals of exactly the given numbers.
@@ -169,7 +188,55 @@ impl Display for Tally {
         for (number, count) in self.refused.iter().enumerate().filter(|(_, &count)| count > 0) {
             write!(f, ", {number}: {count}")?;
         }
+        if self.numerators > 0 {
+            write!(f, "; {} numerators", self.numerators)?;
+        }
         Ok(())
+    }
+}
+
+/// The exported calls, each compared on cases of its own.
+#[derive(Clone, Copy, Debug, PartialEq, Eq)]
+pub enum Area {
+    /// Read model; what is read is written again.
+    ReadModel,
+    /// Write model; what is written is read again.
+    WriteModel,
+    /// Read sentence; what is read is written again.
+    ReadSentence,
+    /// Write sentence; what is written is read again.
+    WriteSentence,
+    /// Verdict.
+    Verdict,
+    /// Numerator.
+    Numerator,
+    /// Merge.
+    Merge,
+}
+
+impl Area {
+    /// All the calls, and the rows of each.
+    pub const ALL: [(Area, &'static str, &'static [usize]); 7] = [
+        (Area::ReadModel, "read model", &[2, 3, 4, 5]),
+        (Area::WriteModel, "write model", &[4, 5, 14]),
+        (Area::ReadSentence, "read sentence", &[6, 7, 8]),
+        (Area::WriteSentence, "write sentence", &[6, 7, 14]),
+        (Area::Verdict, "verdict", &[1, 2, 3, 4, 5, 6, 7, 8, 9, 10, 11]),
+        (Area::Numerator, "numerator", &[1, 2, 3, 4, 5, 6, 7, 8, 9, 10, 11, 15]),
+        (Area::Merge, "merge", &[2, 3, 4, 5, 12, 13, 14]),
+    ];
+
+    /// Compares one random case of the call (for numerator: of one pair).
+    pub fn case<L: Library>(self, lib: &L, rng: &mut Rng, tally: &mut Tally) {
+        match self {
+            Area::ReadModel => models::any_read(lib, rng, tally),
+            Area::WriteModel => models::any_write(lib, rng, tally),
+            Area::ReadSentence => sentences::any_read(lib, rng, tally),
+            Area::WriteSentence => sentences::any_write(lib, rng, tally),
+            Area::Verdict => meaning::any_verdict(lib, rng, tally),
+            Area::Numerator => meaning::any_numerator(lib, rng, tally),
+            Area::Merge => merging::any_merge(lib, rng, tally),
+        }
     }
 }
 
@@ -283,7 +350,7 @@ mod tests {
         println!("{}", compare_sentence_reader(&Second, 5_000, 3));
         println!("{}", compare_sentence_writer(&Second, 5_000, 4));
         println!("{}", compare_verdict(&Second, 4_000, 5));
-        println!("{}", compare_numerator(&Second, 500, 6));
+        println!("{}", compare_numerator(&Second, 2_000, 6));
         println!("{}", compare_merge(&Second, 2_000, 7));
         println!("{}", compare_kept(&Second, 500, 8));
     }

@@ -4,8 +4,10 @@
 //! * [`sentence`]: sentences grown from the grammar, damaged texts, texts and
 //!   records at each limit.
 //! * [`question`]: pairs of a model and a sentence that suit one another.
+//! * [`extreme`]: such pairs at the ends of what is answered.
 //! * [`grouping`]: groupings that a model was made for, and spoiled ones.
 
+pub mod extreme;
 pub mod grouping;
 pub mod model;
 pub mod question;

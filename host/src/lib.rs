@@ -4,6 +4,7 @@
 //! * [`second`] answers every call of the document by the plainest means.
 //! * [`gen`] makes seeded inputs: files, texts, records, groupings, right and wrong.
 //! * [`compare`] runs a [`compare::Library`] against `second` on those inputs.
+//! * [`plain`] has two plain programs to time the library against.
 //! * [`ffi`] is the proved library behind safe functions.
 //! * [`samples`] are the designs that ship with the repository.
 
@@ -12,5 +13,6 @@
 pub mod compare;
 pub mod ffi;
 pub mod gen;
+pub mod plain;
 pub mod samples;
 pub mod second;

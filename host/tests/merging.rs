@@ -1,6 +1,6 @@
 //! Merge of the proved library beside the second program.
 
-use twolsken_host::compare::compare_merge;
+use twolsken_host::compare::{compare_kept, compare_merge};
 use twolsken_host::ffi::Proved;
 
 #[test]
@@ -8,4 +8,16 @@ fn merge_agrees_with_second() {
     let tally = compare_merge(&Proved, 100_000, 31);
     println!("{tally}");
     assert!(tally.cases() >= 100_000);
+}
+
+/// A random sentence on the full and on the merged model: equal verdicts, numerators and denominators, by the second program
+/// and by the library.
+#[test]
+fn merging_keeps_verdicts_and_numerators() {
+    let tally = compare_kept(&Proved, 20_000, 32);
+    println!("{tally}\n  {:?}", tally.reach);
+    assert!(tally.holds >= 2_000 && tally.fails >= 2_000, "{tally}");
+    assert!(tally.numerators >= 100_000 && tally.reach.between >= 10_000, "{tally}: {:?}", tally.reach);
+    assert!(tally.reach.every >= 5_000, "only {} merges were asked at every tuple", tally.reach.every);
+    assert!(tally.reach.letters[1..].iter().all(|&count| count >= 200), "{:?}", tally.reach);
 }

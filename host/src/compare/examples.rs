@@ -10,10 +10,16 @@ use crate::second::Model;
 /// the document itself.
 pub fn compare_examples<L: Library>(lib: &L) {
     compare_model_examples(lib);
+    compare_question_examples(lib);
+    merge_lines(lib);
+}
+
+/// The lines that verdict and numerator answer.
+pub fn compare_question_examples<L: Questions>(lib: &L) {
     numerator_lines(lib);
     verdict_lines(lib);
     limit_lines(lib);
-    merge_lines(lib);
+    limit_numerators(lib);
 }
 
 /// A model of n states that each stay where they are, with one label.
@@ -55,6 +61,44 @@ fn numerator_lines<L: Questions>(lib: &L) {
     fraction(lib, &m1(), "PX&a1a2", &[0, 0], (1, 16));
     fraction(lib, &m1(), "PX&a1a2", &[0, 1], (4, 16));
     fraction(lib, &m2(), "PU0,2:Ta1", &[0], (12, 16));
+    // M2 merged by 0 1 1, and the numbers at the ends.
+    let mut merged = Model { n: 2, a: 1, d: 4, ..Model::empty() };
+    merged.masks[1] = 1;
+    merged.weights[0][..2].copy_from_slice(&[2, 2]);
+    merged.weights[1][..2].copy_from_slice(&[0, 4]);
+    fraction(lib, &merged, "PU0,2:Ta1", &[0], (12, 16));
+    fraction(lib, &m1(), "PU0,0:TT", &[0], (1, 1));
+    fraction(lib, &m1(), "PU0,31:Ta1", &[1], (1 << 62, 1 << 62));
+    fraction(lib, &m1(), "PU0,31:Ta1", &[0], ((1 << 62) - 3u64.pow(31), 1 << 62));
+    fraction(lib, &still(2, 1), "PU0,60:TT", &[1], (1, 1));
+    fraction(lib, &still(32, 4), "PXT", &[31, 31], (16, 16));
+}
+
+/// One numerator of the first path at the tuple of zeros, or a refusal.
+fn asked<L: Questions>(lib: &L, model: &Model, text: &str, expected: Result<(u64, u64), u8>) {
+    let letters = text.find('.').unwrap_or(1);
+    let got = lib.numerator(&file_of(model), text.as_bytes(), &vec![0; letters], 0, &mut [1; WORK]);
+    agree("the example's numerator", &expected, &got, || shown_text(text.as_bytes()));
+}
+
+/// The lines that give a verdict or a limit, by numerator: a sentence without a path is refused by 15.
+fn limit_numerators<L: Questions>(lib: &L) {
+    asked(lib, &m1(), "AA.=PXa1PXa2", Ok((4, 16)));
+    asked(lib, &m1(), "A.L-#1/4;PXa1#0/1;", Ok((1, 4)));
+    asked(lib, &m1(), "A.=PU0,0:TT#1/1;", Ok((1, 1)));
+    asked(lib, &m1(), "A.GPU0,32:Ta1#0/1;", Err(10));
+    asked(lib, &m1(), "A.GPU0,31:Ta1#0/2;", Err(10));
+    asked(lib, &still(32, 4), "AA.T", Err(15));
+    asked(lib, &still(32, 4), "AA.=PXTPXT", Ok((16, 16)));
+    asked(lib, &still(11, 4), "AAA.T", Err(11));
+    asked(lib, &m1(), "A.a2", Err(7));
+    asked(lib, &m1(), "A.a5", Err(6));
+    asked(lib, &m1(), "", Err(6));
+    asked(lib, &still(2, 1), "A.=PU0,60:Ta1#0/1;", Ok((0, 1)));
+    asked(lib, &still(2, 1), "A.=PU0,61:Ta1#0/1;", Err(7));
+    asked(lib, &m1(), &format!("A.{}T", "!".repeat(63)), Err(15));
+    asked(lib, &m1(), &format!("A.{}T", "!".repeat(64)), Err(8));
+    asked(lib, &m1(), "A.b1", Err(9));
 }
 
 /// One verdict or refusal.

@@ -3,6 +3,7 @@
 //! comparison of its area, or the comparison shows nothing.
 
 use super::*;
+use crate::gen::extreme::Kind;
 use crate::second::meaning::Way;
 use crate::second::sentence::{read_sentence, spelled, Node, Relation};
 use std::panic::{catch_unwind, AssertUnwindSafe};
@@ -22,6 +23,14 @@ enum Fault {
     PathsBackwards,
     NoSizeRule,
     TuplesBeforeSize,
+    DifferenceTurned,
+    WindowCut,
+    ManyTuplesTurned,
+    ManyNodesTurned,
+    // Row 15.
+    TupleCut,
+    MemberWrapped,
+    PathInOneByte,
     // Merging.
     SingleWeights,
     MasksNotCompared,
@@ -96,6 +105,33 @@ impl Faulty {
         Some(if sentence.exists[0] { truth.any(|truth| truth) } else { truth.all(|truth| truth) })
     }
 
+    /// Whether the fault turns the verdict of a pair round: at 1,024 tuples, or from 60 nodes on.
+    fn turns(&self, file: &[u8], text: &[u8]) -> bool {
+        let sentence = read_sentence(text).expect("a pair that is answered");
+        let tuples = usize::from(file[1]).pow(sentence.letters as u32);
+        (self.has(Fault::ManyTuplesTurned) && tuples == 1_024)
+            || (self.has(Fault::ManyNodesTurned) && sentence.count >= 60)
+    }
+
+    /// The tuple and the path number that a fault takes for the given ones.
+    fn taken(&self, file: &[u8], text: &[u8], tuple: &[u8], path: usize) -> (Vec<u8>, usize) {
+        let mut tuple = tuple.to_vec();
+        match self.0 {
+            Fault::TupleBackwards => tuple.reverse(),
+            Fault::TupleCut => tuple.truncate(read_sentence(text).map_or(9, |sentence| sentence.letters)),
+            Fault::MemberWrapped if !file.is_empty() && file[1] > 0 => {
+                tuple.iter_mut().for_each(|member| *member %= file[1])
+            }
+            Fault::PathInOneByte => return (tuple, path % 256),
+            Fault::PathsBackwards => {
+                let paths = text.iter().filter(|&&byte| byte == b'P').count();
+                return (tuple, paths.wrapping_sub(1).wrapping_sub(path));
+            }
+            _ => {}
+        }
+        (tuple, path)
+    }
+
     /// Work area and output faults, after a call.
     fn leave<T, N: Copy + Default>(&self, answer: &Result<T, u8>, lent: &mut [N], written: usize, other: N) {
         match (self.0, answer) {
@@ -149,6 +185,13 @@ fn rewritten(fault: Fault, list: &[Node]) -> Vec<Node> {
         }
         (Fault::MatchBeforeTheWindow, Node::Until { to, .. }, _) => {
             inside(fault, Node::Until { from: 0, to }, list)
+        }
+        (Fault::WindowCut, Node::Until { from, to }, _) => {
+            inside(fault, Node::Until { from: from.min(40), to: to.min(40) }, list)
+        }
+        (Fault::DifferenceTurned, Node::Difference, _) => {
+            let left = &list[1..1 + end_of(&list[1..])];
+            [&[head], &list[1 + left.len()..], left].concat()
         }
         (Fault::LessIsAtMost, Node::Compare(Relation::Less), _) => {
             inside(fault, Node::Compare(Relation::AtMost), list)
@@ -238,6 +281,7 @@ impl Questions for Faulty {
                 let letters = read_sentence(text).map_or(0, |sentence| sentence.letters);
                 Err(if usize::from(file[1]).pow(letters as u32) > 1_024 { 11 } else { 10 })
             }
+            Ok(right) if self.turns(file, text) => Ok(!right),
             Ok(right) => Ok(self.rounded(file, text).unwrap_or(right)),
             refused => refused,
         };
@@ -253,14 +297,7 @@ impl Questions for Faulty {
         path: usize,
         work: &mut [u64],
     ) -> Result<(u64, u64), u8> {
-        let (mut tuple, mut path) = (tuple.to_vec(), path);
-        if self.has(Fault::TupleBackwards) {
-            tuple.reverse();
-        }
-        if self.has(Fault::PathsBackwards) {
-            let paths = text.iter().filter(|&&byte| byte == b'P').count();
-            path = paths.wrapping_sub(1).wrapping_sub(path);
-        }
+        let (tuple, path) = self.taken(file, text, tuple, path);
         let text =
             if self.has(Fault::MatchBeforeTheWindow) { self.mistaken(file, text) } else { text.to_vec() };
         let answer = second::numerator(file, &text, &tuple, path, work);
@@ -327,6 +364,35 @@ fn faults_are_found_by_numerators() {
         [MatchBeforeTheWindow, TupleBackwards, PathsBackwards, WorkNotZero, WorkZeroOnRefusal, WorkZeroBeyond]
     {
         found(fault, |lib| compare_numerator(lib, 2_000, 9));
+    }
+}
+
+#[test]
+fn faults_at_the_ends_are_found_by_extremes() {
+    for (fault, kind) in [
+        (Fault::DifferenceTurned, Kind::BelowZero),
+        (Fault::WindowCut, Kind::LongWindow),
+        (Fault::ManyTuplesTurned, Kind::Tuples),
+        (Fault::ManyNodesTurned, Kind::Negations),
+        (Fault::ManyNodesTurned, Kind::Conjunctions),
+        (Fault::ManyNodesTurned, Kind::LeftSum),
+        (Fault::ManyNodesTurned, Kind::RightSum),
+        (Fault::ManyNodesTurned, Kind::Untils),
+        (Fault::ManyNodesTurned, Kind::Nexts),
+        (Fault::NoSizeRule, Kind::EndBeyond),
+    ] {
+        found(fault, |lib| compare_extreme(lib, kind, 100, 15));
+    }
+}
+
+#[test]
+fn faults_of_row_15_and_of_work_areas_are_found() {
+    use Fault::*;
+    for fault in [TupleCut, MemberWrapped, PathInOneByte, TupleBackwards, PathsBackwards] {
+        found(fault, |lib| compare_row_15(lib, 200, 16));
+    }
+    for fault in [WorkNotZero, WorkZeroOnRefusal, WorkZeroBeyond] {
+        found(fault, |lib| compare_rooms(lib, 50, 17));
     }
 }
 

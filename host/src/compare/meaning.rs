@@ -1,14 +1,23 @@
 //! Verdicts and numerators.
 
 use super::{agree, shown_file, shown_text, work_after, work_area, Questions, Tally};
+use crate::gen::extreme::{self, Kind};
 use crate::gen::question::{self, Pair};
 use crate::gen::Rng;
 use crate::second;
 use crate::second::meaning::{answer, Answer, Way, WORK};
-use crate::second::model::read_model;
+use crate::second::{read_model, read_sentence};
 
-/// The most calls that ask every path at every tuple of one pair.
-const EVERY: usize = 60;
+/// The rows of verdict.
+const ROWS: [usize; 11] = [1, 2, 3, 4, 5, 6, 7, 8, 9, 10, 11];
+/// The rows of numerator.
+const NUMERATOR_ROWS: [usize; 12] = [1, 2, 3, 4, 5, 6, 7, 8, 9, 10, 11, 15];
+/// About how many products the calls that ask a random pair at every tuple may take together.
+const PRODUCTS: usize = 600_000;
+/// The same, where the pair is an extreme one.
+const MANY_PRODUCTS: usize = 3_000_000;
+/// The lengths of work areas on both sides of the limit.
+pub const ROOMS: [usize; 6] = [0, 1, WORK - 1, WORK, WORK + 1, 9_000];
 
 /// Compares verdicts on `cases` random pairs and work areas of every length
 /// about the right one.
@@ -16,13 +25,18 @@ pub fn compare_verdict<L: Questions>(lib: &L, cases: usize, seed: u64) -> Tally 
     let mut rng = Rng::new(seed);
     let mut tally = Tally::new("verdict");
     for _ in 0..cases {
-        let pair = question::pair(&mut rng);
-        let length = question::work_length(&mut rng);
-        verdict_case(lib, &mut rng, &mut tally, &pair, length);
+        any_verdict(lib, &mut rng, &mut tally);
     }
-    tally.require(&[1, 2, 3, 4, 5, 6, 7, 8, 9, 10, 11]);
+    tally.require(&ROWS);
     assert!(tally.holds > 0 && tally.fails > 0, "{tally}: one verdict was never given");
     tally
+}
+
+/// The verdict of one random pair, with a work area of any length.
+pub(super) fn any_verdict<L: Questions>(lib: &L, rng: &mut Rng, tally: &mut Tally) {
+    let pair = question::pair(rng);
+    let length = question::work_length(rng);
+    verdict_case(lib, rng, tally, &pair, length);
 }
 
 /// A pair for a report.
@@ -36,7 +50,7 @@ fn inputs_after(what: &str, pair: &Pair, lent: &Pair) {
     agree(&format!("{what}: the lent text"), &pair.text, &lent.text, || shown(pair));
 }
 
-/// One verdict.
+/// One verdict, with everything that is lent.
 fn verdict_case<L: Questions>(lib: &L, rng: &mut Rng, tally: &mut Tally, pair: &Pair, length: usize) {
     let before = work_area(rng, length);
     let mut after = before.clone();
@@ -51,31 +65,110 @@ fn verdict_case<L: Questions>(lib: &L, rng: &mut Rng, tally: &mut Tally, pair: &
     tally.count(&expected);
     tally.holds += u64::from(expected == Ok(true));
     tally.fails += u64::from(expected == Ok(false));
+    if expected.is_ok() {
+        tally.reach.count(pair);
+    }
 }
 
 /// Compares numerators on `cases` random pairs: every path at every tuple where
-/// these are few and a sample elsewhere, and one call with any tuple, path
+/// that is cheap and a sample elsewhere, and one call with any tuple, path
 /// number and work area.
 pub fn compare_numerator<L: Questions>(lib: &L, cases: usize, seed: u64) -> Tally {
     let mut rng = Rng::new(seed);
     let mut tally = Tally::new("numerator");
-    let mut every = 0;
     for _ in 0..cases {
-        let pair = question::pair(&mut rng);
-        odd_case(lib, &mut rng, &mut tally, &pair);
+        any_numerator(lib, &mut rng, &mut tally);
+    }
+    tally.require(&NUMERATOR_ROWS);
+    assert!(tally.reach.every > cases as u64 / 4, "{tally}: few pairs were asked at every tuple");
+    tally
+}
+
+/// The numerators of one random pair.
+pub(super) fn any_numerator<L: Questions>(lib: &L, rng: &mut Rng, tally: &mut Tally) {
+    let pair = question::pair(rng);
+    odd_case(lib, rng, tally, &pair);
+    if let Ok(found) = answer(&pair.file, &pair.text, Way::Fitting) {
+        ask_all(lib, rng, tally, &Found { pair: &pair, found: &found }, PRODUCTS);
+    }
+}
+
+/// Compares the verdicts of `cases` pairs of an extreme kind, and of those that
+/// are answered every numerator, or a sample where these are too many.
+pub fn compare_extreme<L: Questions>(lib: &L, kind: Kind, cases: usize, seed: u64) -> Tally {
+    let mut rng = Rng::new(seed);
+    let mut tally = Tally::new("extreme verdict");
+    let mut numerators = Tally::new("extreme numerator");
+    for _ in 0..cases {
+        let pair = extreme::pair(&mut rng, kind);
+        let length = rng.pick(&[WORK, WORK, WORK + 1, 9_000]);
+        verdict_case(lib, &mut rng, &mut tally, &pair, length);
         if let Ok(found) = answer(&pair.file, &pair.text, Way::Fitting) {
-            every += usize::from(ask_all(lib, &mut rng, &mut tally, &pair, &found));
+            ask_all(lib, &mut rng, &mut numerators, &Found { pair: &pair, found: &found }, MANY_PRODUCTS);
         }
     }
-    tally.require(&[1, 2, 3, 4, 5, 6, 7, 8, 9, 10, 11, 15]);
-    assert!(every > cases / 10, "{tally}: only {every} pairs were asked at every tuple");
+    tally.reach.add(&numerators.reach);
+    tally.numerators = numerators.answered;
     tally
+}
+
+/// Compares every numerator of every path at every tuple of pairs of about 1,024 tuples and few steps.
+pub fn compare_full<L: Questions>(lib: &L, cases: usize, seed: u64) -> Tally {
+    let mut rng = Rng::new(seed);
+    let mut tally = Tally::new("numerators of 1,024 tuples");
+    for case in 0..cases {
+        let pair = extreme::few_steps(&mut rng, case);
+        let found = answer(&pair.file, &pair.text, Way::Table).expect("a pair that is answered");
+        ask_all(lib, &mut rng, &mut tally, &Found { pair: &pair, found: &found }, usize::MAX);
+    }
+    tally
+}
+
+/// One call of numerator.
+struct Asked<'a> {
+    pair: &'a Pair,
+    tuple: Vec<u8>,
+    path: usize,
+    room: usize,
+}
+
+/// One numerator, with everything that is lent.
+fn numerator_case<L: Questions>(
+    lib: &L,
+    rng: &mut Rng,
+    tally: &mut Tally,
+    asked: &Asked,
+    expected: Result<(u64, u64), u8>,
+) {
+    let Asked { pair, tuple, path, room } = asked;
+    let before = work_area(rng, *room);
+    let (mut after, lent, lent_tuple) = (before.clone(), (*pair).clone(), tuple.clone());
+    let got = lib.numerator(&lent.file, &lent.text, &lent_tuple, *path, &mut after);
+    let told = || format!("  tuple {tuple:?}, path {path}, work area of {room}\n{}", shown(pair));
+    agree("numerator", &expected, &got, told);
+    agree("numerator: the lent tuple", tuple, &lent_tuple, told);
+    work_after("numerator", &expected, &before, &after, told);
+    inputs_after("numerator", pair, &lent);
+    tally.count(&expected);
+    if let Ok((top, bottom)) = expected {
+        tally.reach.fraction(top, bottom);
+    }
+}
+
+/// What the second program answers to a call of numerator.
+fn expected_of(rng: &mut Rng, asked: &Asked) -> Result<(u64, u64), u8> {
+    let Asked { pair, tuple, path, room } = asked;
+    let before = work_area(rng, *room);
+    let mut after = before.clone();
+    let expected = second::numerator(&pair.file, &pair.text, tuple, *path, &mut after);
+    work_after("numerator of second", &expected, &before, &after, || shown(pair));
+    expected
 }
 
 /// Any tuple, path number and work area, most of them wrong in one thing.
 fn odd_case<L: Questions>(lib: &L, rng: &mut Rng, tally: &mut Tally, pair: &Pair) {
     let states = read_model(&pair.file).map_or(3, |model| usize::from(model.n));
-    let letters = second::read_sentence(&pair.text).map_or(2, |sentence| sentence.letters);
+    let letters = read_sentence(&pair.text).map_or(2, |sentence| sentence.letters);
     let mut tuple: Vec<u8> = (0..letters).map(|_| rng.below(states) as u8).collect();
     let mut path = rng.pick(&[0, 0, 0, 1, 2]);
     match rng.below(6) {
@@ -85,47 +178,119 @@ fn odd_case<L: Questions>(lib: &L, rng: &mut Rng, tally: &mut Tally, pair: &Pair
         3 => path = rng.pick(&[1, 5, 64, 65, 256, 1 << 32, usize::MAX]),
         _ => {}
     }
-    let length = question::work_length(rng);
-    let expected = second::numerator(&pair.file, &pair.text, &tuple, path, &mut work_area(rng, length));
-    let before = work_area(rng, length);
-    let (mut after, lent, lent_tuple) = (before.clone(), pair.clone(), tuple.clone());
-    let got = lib.numerator(&lent.file, &lent.text, &lent_tuple, path, &mut after);
-    let told = || format!("  tuple {tuple:?}, path {path}, work area of {length}\n{}", shown(pair));
-    agree("numerator", &expected, &got, told);
-    agree("numerator: the lent tuple", &tuple, &lent_tuple, told);
-    work_after("numerator", &expected, &before, &after, told);
-    inputs_after("numerator", pair, &lent);
-    tally.count(&expected);
+    let asked = Asked { pair, tuple, path, room: question::work_length(rng) };
+    let expected = expected_of(rng, &asked);
+    numerator_case(lib, rng, tally, &asked, expected);
 }
 
-/// Every path at every tuple, or a sample of them; tells whether it was all.
-fn ask_all<L: Questions>(lib: &L, rng: &mut Rng, tally: &mut Tally, pair: &Pair, found: &Answer) -> bool {
-    let tuples = found.paths.first().map_or(0, |fractions| fractions.tops.len());
-    let all = found.paths.len() * tuples;
-    let mut work = vec![0; WORK];
-    for call in 0..all.min(EVERY) {
-        let place = if all <= EVERY { call } else { rng.below(all) };
-        let (path, at) = (place / tuples, place % tuples);
-        let expected = Ok((found.paths[path].tops[at], found.paths[path].bottom));
-        let tuple = tuple_of(pair, at);
-        let mark = rng.bits() | 1;
-        work.fill(mark);
-        let got = lib.numerator(&pair.file, &pair.text, &tuple, path, &mut work);
-        let told = || format!("  tuple {tuple:?}, path {path}\n{}", shown(pair));
-        agree("numerator", &expected, &got, told);
-        if work.iter().any(|&number| number != 0) {
-            panic!("numerator: the work area is not zero\n{}", told());
-        }
-        tally.count(&expected);
+/// A pair that is answered, with what the second program answers.
+struct Found<'a> {
+    pair: &'a Pair,
+    found: &'a Answer,
+}
+
+impl Found<'_> {
+    /// The tuple of a number, variable 1 counting most.
+    fn tuple(&self, at: usize) -> Vec<u8> {
+        let states = usize::from(self.pair.file[1]);
+        let letters = self.pair.text.iter().take_while(|&&byte| byte != b'.').count();
+        members(states, letters, at)
     }
-    all > 0 && all <= EVERY
+
+    /// About how many products one numerator takes. Where the tuples are few, the second program lists runs and makes
+    /// all joint weights for each path.
+    fn cost(&self) -> usize {
+        let model = read_model(&self.pair.file).expect("a pair that is answered");
+        let sentence = read_sentence(&self.pair.text).expect("a pair that is answered");
+        let tuples = self.found.paths.first().map_or(0, |path| path.tops.len());
+        let joint = if tuples <= 45 { 8 * self.found.paths.len() * tuples * tuples } else { 0 };
+        (question::cost(&model, &sentence) + joint).max(1)
+    }
 }
 
-/// The tuple of a number, variable 1 counting most.
-fn tuple_of(pair: &Pair, at: usize) -> Vec<u8> {
-    let states = usize::from(pair.file[1]);
-    let letters = pair.text.iter().take_while(|&&byte| byte != b'.').count();
-    members(states, letters, at)
+/// Every path at every tuple if that takes at most so many products, a sample otherwise.
+fn ask_all<L: Questions>(lib: &L, rng: &mut Rng, tally: &mut Tally, pair: &Found, products: usize) {
+    let paths = &pair.found.paths;
+    let tuples = paths.first().map_or(0, |fractions| fractions.tops.len());
+    let all = paths.len() * tuples;
+    let calls = if all > 0 { all.min((products / pair.cost()).max(2)) } else { 0 };
+    for call in 0..calls {
+        let place = if calls == all { call } else { rng.below(all) };
+        let (path, at) = (place / tuples, place % tuples);
+        let asked = Asked { pair: pair.pair, tuple: pair.tuple(at), path, room: WORK + rng.below(2) };
+        numerator_case(lib, rng, tally, &asked, Ok((paths[path].tops[at], paths[path].bottom)));
+    }
+    if all > 0 && calls == all {
+        tally.reach.every += 1;
+        tally.reach.every_full += u64::from(tuples == 1_024);
+    }
+    tally.reach.below_zero += u64::from(pair.found.below_zero);
+}
+
+/// Row 15 on both sides: for `cases` pairs that are answered, tuples of every
+/// length about n, members about N at every place, path numbers about the count.
+pub fn compare_row_15<L: Questions>(lib: &L, cases: usize, seed: u64) -> Tally {
+    let mut rng = Rng::new(seed);
+    let mut tally = Tally::new("row 15");
+    for _ in 0..cases {
+        let pair = question::fitting(&mut rng);
+        let Ok(found) = answer(&pair.file, &pair.text, Way::Fitting) else { continue };
+        let pair = Found { pair: &pair, found: &found };
+        for (tuple, path, right) in edges(&mut rng, &pair) {
+            let asked = Asked { pair: pair.pair, tuple, path, room: WORK };
+            let expected = expected_of(&mut rng, &asked);
+            let refused = if right { None } else { Some(15) };
+            agree("row 15 of second", &refused, &expected.err(), || shown(pair.pair));
+            numerator_case(lib, &mut rng, &mut tally, &asked, expected);
+        }
+    }
+    tally.require(&[15]);
+    tally
+}
+
+/// Tuples and path numbers on both sides of row 15, and whether each is right.
+fn edges(rng: &mut Rng, pair: &Found) -> Vec<(Vec<u8>, usize, bool)> {
+    let n_states = pair.pair.file[1];
+    let letters = pair.tuple(0).len();
+    let count = pair.found.paths.len();
+    let path = count.saturating_sub(1);
+    let any: Vec<u8> = (0..letters).map(|_| rng.below(usize::from(n_states)) as u8).collect();
+    let mut list = Vec::new();
+    for length in [letters - 1, letters, letters + 1, 0, 2 * letters, letters + 256] {
+        let tuple = any.iter().cycle().take(length).copied().collect();
+        list.push((tuple, path, length == letters && count > 0));
+    }
+    for place in 0..letters {
+        for member in [n_states - 1, n_states, n_states + 1, 255] {
+            let mut tuple = any.clone();
+            tuple[place] = member;
+            list.push((tuple, path, member < n_states && count > 0));
+        }
+    }
+    // The last of these are right but for the bits that a smaller number would not have.
+    for path in [0, path, count, count + 1, 64, usize::MAX, path + 256, path + (1 << 16), path + (1 << 32)] {
+        list.push((any.clone(), path, path < count));
+    }
+    list
+}
+
+/// Work areas of every length of [`ROOMS`] for both calls, on `cases` pairs of any kind.
+pub fn compare_rooms<L: Questions>(lib: &L, cases: usize, seed: u64) -> Tally {
+    let mut rng = Rng::new(seed);
+    let mut tally = Tally::new("work areas");
+    for _ in 0..cases {
+        let pair = question::pair(&mut rng);
+        let letters = read_sentence(&pair.text).map_or(1, |sentence| sentence.letters);
+        for room in ROOMS {
+            verdict_case(lib, &mut rng, &mut tally, &pair, room);
+            let asked = Asked { pair: &pair, tuple: vec![0; letters], path: 0, room };
+            let expected = expected_of(&mut rng, &asked);
+            agree("row 1 of second", &(room < WORK), &(expected == Err(1)), || shown(&pair));
+            numerator_case(lib, &mut rng, &mut tally, &asked, expected);
+        }
+    }
+    tally.require(&NUMERATOR_ROWS);
+    tally
 }
 
 /// The members of the tuple with a number, for so many states and letters.

@@ -7,35 +7,41 @@ use crate::gen::{question, Rng};
 use crate::second::meaning::{answer, Answer, Way, WORK};
 use crate::second::{self, read_model};
 
-/// The most tuples at which the library itself is asked, of one pair.
-const ASKED: usize = 40;
+/// About how many products the numerators that the library is asked of one full model may take together.
+const PRODUCTS: usize = 400_000;
 
 /// Compares merging on `cases` random models, groupings and outputs.
 pub fn compare_merge<L: Merges>(lib: &L, cases: usize, seed: u64) -> Tally {
     let mut rng = Rng::new(seed);
     let mut tally = Tally::new("merge");
     for _ in 0..cases {
-        let merging = grouping::merging(&mut rng);
-        merge_case(lib, &mut rng, &mut tally, &merging);
+        any_merge(lib, &mut rng, &mut tally);
     }
     tally.require(&[2, 3, 4, 5, 12, 13, 14]);
     tally
 }
 
+/// One random merge.
+pub(super) fn any_merge<L: Merges>(lib: &L, rng: &mut Rng, tally: &mut Tally) {
+    let merging = grouping::merging(rng);
+    merge_case(lib, rng, tally, &merging);
+}
+
 /// What merging keeps: for accepted merges of `cases` random ones, a random
 /// sentence is asked of the full and of the merged model, and numerators,
-/// denominators and verdicts must be equal.
+/// denominators and verdicts must be equal: by the second program at every
+/// tuple, by the library at every tuple where that is cheap and at some elsewhere.
 pub fn compare_kept<L: Merges + Questions>(lib: &L, cases: usize, seed: u64) -> Tally {
     let mut rng = Rng::new(seed);
     let mut tally = Tally::new("what merging keeps");
-    let mut kept = 0;
     for _ in 0..cases {
         let merging = grouping::merging(&mut rng);
         if let Some(small) = merge_case(lib, &mut rng, &mut tally, &merging) {
-            kept += usize::from(keeps(lib, &mut rng, &merging, &small));
+            keeps(lib, &mut rng, &mut tally, &merging, &small);
         }
     }
-    assert!(kept > cases / 10, "{tally}: only {kept} merges were asked a sentence with a path");
+    let every = tally.reach.every;
+    assert!(every > cases as u64 / 10, "{tally}: only {every} merges were asked at every tuple of a path");
     tally
 }
 
@@ -111,23 +117,30 @@ impl Both<'_> {
     }
 }
 
-/// Asks one random sentence of both models: by the second program at every
-/// tuple, by the library at every tuple or a sample. Tells whether it had a path
-/// and was not refused.
-fn keeps<L: Questions>(lib: &L, rng: &mut Rng, merging: &Merging, small: &[u8]) -> bool {
+/// A random sentence for a full model and its merged model.
+fn both<'a>(rng: &mut Rng, merging: &'a Merging, small: &'a [u8]) -> (Both<'a>, usize) {
     let full = read_model(&merging.file).expect("a model that was merged");
     let most = rng.pick(&[36, 36, 100, 256]);
     let fits = |&letters: &usize| usize::from(full.n).pow(letters as u32) <= most;
     let letters = (1..=rng.between(1, 4)).rev().find(fits).unwrap_or(1);
     let size = rng.between(3, 16);
     let text = question::fitting_sentence(rng, &full, letters, size).text();
-    let both = Both { merging, small, text, letters };
+    let cost = second::read_sentence(&text).map_or(0, |sentence| question::cost(&full, &sentence));
+    (Both { merging, small, text, letters }, cost.max(1))
+}
+
+/// Asks one random sentence of both models, if it is not refused.
+fn keeps<L: Questions>(lib: &L, rng: &mut Rng, tally: &mut Tally, merging: &Merging, small: &[u8]) {
+    let (both, cost) = both(rng, merging, small);
     let Some((on_full, on_small)) = both.answers() else {
-        return false;
+        return;
     };
     both.verdicts(lib, on_full.holds, on_small.holds);
+    tally.holds += u64::from(on_full.holds);
+    tally.fails += u64::from(!on_full.holds);
+    let all = on_full.paths.iter().map(|fractions| fractions.tops.len()).sum::<usize>();
+    let sample = (all * cost).div_ceil(PRODUCTS).max(1);
     for (path, (fractions, merged)) in on_full.paths.iter().zip(&on_small.paths).enumerate() {
-        let sample = (fractions.tops.len() * on_full.paths.len()).div_ceil(ASKED);
         for (at, &top) in fractions.tops.iter().enumerate() {
             let groups = usize::from(small[1]);
             let there = both.tuples(at).1.iter().fold(0, |number, &g| number * groups + usize::from(g));
@@ -135,8 +148,11 @@ fn keeps<L: Questions>(lib: &L, rng: &mut Rng, merging: &Merging, small: &[u8]) 
             agree("a fraction on merged", &expected, &(merged.tops[there], merged.bottom), || both.told());
             if rng.chance(1, sample) {
                 both.asked(lib, path, at, expected);
+                tally.numerators += 1;
+                tally.reach.fraction(expected.0, expected.1);
             }
         }
     }
-    !on_full.paths.is_empty()
+    tally.reach.letters[both.letters] += 1;
+    tally.reach.every += u64::from(all > 0 && sample == 1);
 }

@@ -21,11 +21,16 @@ pub fn compare_model_reader<L: Models>(lib: &L, cases: usize, seed: u64) -> Tall
     }
     each_byte_changed(lib, &mut rng, &mut tally);
     for _ in 0..cases {
-        let file = model::file(&mut rng);
-        reader_case(lib, &mut rng, &mut tally, &file);
+        any_read(lib, &mut rng, &mut tally);
     }
     tally.require(&[2, 3, 4, 5]);
     tally
+}
+
+/// One random file.
+pub(super) fn any_read<L: Models>(lib: &L, rng: &mut Rng, tally: &mut Tally) {
+    let file = model::file(rng);
+    reader_case(lib, rng, tally, &file);
 }
 
 /// A file of three blocks with each of its bytes changed in turn, the checks as
@@ -65,11 +70,16 @@ pub fn compare_model_writer<L: Models>(lib: &L, cases: usize, seed: u64) -> Tall
     let mut rng = Rng::new(seed);
     let mut tally = Tally::new("model writer");
     for _ in 0..cases {
-        let record = model::record(&mut rng);
-        writer_case(lib, &mut rng, &mut tally, &record);
+        any_write(lib, &mut rng, &mut tally);
     }
     tally.require(&[4, 5, 14]);
     tally
+}
+
+/// One random record.
+pub(super) fn any_write<L: Models>(lib: &L, rng: &mut Rng, tally: &mut Tally) {
+    let record = model::record(rng);
+    writer_case(lib, rng, tally, &record);
 }
 
 /// One record: written, and if accepted read again.

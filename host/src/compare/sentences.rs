@@ -17,11 +17,16 @@ pub fn compare_sentence_reader<L: Sentences>(lib: &L, cases: usize, seed: u64) -
     }
     each_byte_changed(lib, &mut rng, &mut tally);
     for _ in 0..cases {
-        let text = sentence::text(&mut rng);
-        reader_case(lib, &mut rng, &mut tally, &text);
+        any_read(lib, &mut rng, &mut tally);
     }
     tally.require(&[6, 7, 8]);
     tally
+}
+
+/// One random text.
+pub(super) fn any_read<L: Sentences>(lib: &L, rng: &mut Rng, tally: &mut Tally) {
+    let text = sentence::text(rng);
+    reader_case(lib, rng, tally, &text);
 }
 
 /// A text with every form of the grammar in it.
@@ -79,11 +84,16 @@ pub fn compare_sentence_writer<L: Sentences>(lib: &L, cases: usize, seed: u64) -
     let mut rng = Rng::new(seed);
     let mut tally = Tally::new("sentence writer");
     for _ in 0..cases {
-        let record = sentence::record(&mut rng);
-        writer_case(lib, &mut rng, &mut tally, &record);
+        any_write(lib, &mut rng, &mut tally);
     }
     tally.require(&[6, 7, 14]);
     tally
+}
+
+/// One random record.
+pub(super) fn any_write<L: Sentences>(lib: &L, rng: &mut Rng, tally: &mut Tally) {
+    let record = sentence::record(rng);
+    writer_case(lib, rng, tally, &record);
 }
 
 /// One record: written, and if accepted read again.

@@ -15,8 +15,8 @@ pub const WORK: usize = 8_192;
 pub const TUPLES: usize = 1_024;
 /// The end of the size rule.
 const END: u128 = 1 << 62;
-/// The most runs from one tuple that [`Way::Fitting`] lists.
-const RUNS: u64 = 128;
+/// The most runs, from all tuples together, that [`Way::Fitting`] lists.
+const RUNS: u64 = 2_048;
 
 /// How the numerators of a path are found.
 #[derive(Clone, Copy, Debug, PartialEq, Eq)]
@@ -45,6 +45,8 @@ pub struct Fractions {
 pub struct Answer {
     /// Whether the sentence holds.
     pub holds: bool,
+    /// Whether some expression is below zero at some tuple.
+    pub below_zero: bool,
     /// The fractions of each path formula, in written order.
     pub paths: Vec<Fractions>,
 }
@@ -307,10 +309,12 @@ impl Question {
             .iter()
             .filter(|node| matches!(node, Node::Next | Node::Until { .. }))
             .count();
-        let mut paths = vec![Fractions { tops: Vec::new(), bottom: 0 }; count];
-        let truth = self.formula(&body_of(&self.sentence), way, &mut paths);
+        let paths = vec![Fractions { tops: Vec::new(), bottom: 0 }; count];
+        let mut found = Answer { holds: false, below_zero: false, paths };
+        let truth = self.formula(&body_of(&self.sentence), way, &mut found);
         let prefix = &self.sentence.exists[..self.sentence.letters];
-        Answer { holds: self.prefix(prefix, &truth), paths }
+        found.holds = self.prefix(prefix, &truth);
+        found
     }
 
     /// The prefix over the body's truth at each tuple, the first letter outermost.
@@ -333,21 +337,21 @@ impl Question {
     }
 
     /// The truth of a state formula at each tuple.
-    fn formula(&self, formula: &Formula, way: Way, paths: &mut [Fractions]) -> Vec<bool> {
+    fn formula(&self, formula: &Formula, way: Way, found: &mut Answer) -> Vec<bool> {
         match formula {
             Formula::True => vec![true; self.tuples],
             Formula::Label { label, variable } => (0..self.tuples)
                 .map(|tuple| self.model.masks[self.member(tuple, *variable)] >> label & 1 == 1)
                 .collect(),
-            Formula::Not(inner) => self.formula(inner, way, paths).iter().map(|truth| !truth).collect(),
+            Formula::Not(inner) => self.formula(inner, way, found).iter().map(|truth| !truth).collect(),
             Formula::And(left, right) => {
-                let left = self.formula(left, way, paths);
-                let right = self.formula(right, way, paths);
+                let left = self.formula(left, way, found);
+                let right = self.formula(right, way, found);
                 left.iter().zip(&right).map(|(&a, &b)| a && b).collect()
             }
             Formula::Compare(relation, left, right) => {
-                let left = self.expression(left, way, paths);
-                let right = self.expression(right, way, paths);
+                let left = self.expression(left, way, found);
+                let right = self.expression(right, way, found);
                 let sides = left.tops.iter().zip(&right.tops);
                 sides.map(|(&a, &b)| meets(*relation, a * right.bottom, b * left.bottom)).collect()
             }
@@ -355,25 +359,25 @@ impl Question {
     }
 
     /// The value of an expression at each tuple.
-    fn expression(&self, expression: &Expression, way: Way, paths: &mut [Fractions]) -> Values {
+    fn expression(&self, expression: &Expression, way: Way, found: &mut Answer) -> Values {
         match expression {
             Expression::Probability(path) => {
-                let fractions = self.path(path, way, paths);
+                let fractions = self.path(path, way, found);
                 let tops = fractions.tops.iter().map(|&top| i128::from(top)).collect();
                 let bottom = i128::from(fractions.bottom);
-                paths[path.number] = fractions;
+                found.paths[path.number] = fractions;
                 Values { tops, bottom }
             }
             Expression::Constant { top, bottom } => {
                 Values { tops: vec![i128::from(*top); self.tuples], bottom: i128::from(*bottom) }
             }
             Expression::Sum(left, right) => {
-                self.both(left, right, way, paths, |(a, d1), (b, d2)| a * d2 + b * d1)
+                self.both(left, right, way, found, |(a, d1), (b, d2)| a * d2 + b * d1)
             }
             Expression::Difference(left, right) => {
-                self.both(left, right, way, paths, |(a, d1), (b, d2)| a * d2 - b * d1)
+                self.both(left, right, way, found, |(a, d1), (b, d2)| a * d2 - b * d1)
             }
-            Expression::Product(left, right) => self.both(left, right, way, paths, |(a, _), (b, _)| a * b),
+            Expression::Product(left, right) => self.both(left, right, way, found, |(a, _), (b, _)| a * b),
         }
     }
 
@@ -384,21 +388,22 @@ impl Question {
         left: &Expression,
         right: &Expression,
         way: Way,
-        paths: &mut [Fractions],
+        found: &mut Answer,
         top: fn((i128, i128), (i128, i128)) -> i128,
     ) -> Values {
-        let left = self.expression(left, way, paths);
-        let right = self.expression(right, way, paths);
+        let left = self.expression(left, way, found);
+        let right = self.expression(right, way, found);
         let sides = left.tops.iter().zip(&right.tops);
-        let tops = sides.map(|(&a, &b)| top((a, left.bottom), (b, right.bottom))).collect();
+        let tops: Vec<i128> = sides.map(|(&a, &b)| top((a, left.bottom), (b, right.bottom))).collect();
+        found.below_zero |= tops.iter().any(|&top| top < 0);
         Values { tops, bottom: left.bottom * right.bottom }
     }
 
     /// The fractions of a path formula.
-    fn path(&self, path: &Path, way: Way, paths: &mut [Fractions]) -> Fractions {
+    fn path(&self, path: &Path, way: Way, found: &mut Answer) -> Fractions {
         match &path.kind {
             PathKind::Next(inner) => {
-                let truth = self.formula(inner, way, paths);
+                let truth = self.formula(inner, way, found);
                 let tops = match self.resolved(way, 1) {
                     Way::Runs => self.by_runs(1, &|run| truth[run[1]]),
                     _ => self.step(truth.iter().map(|&truth| u64::from(truth)).collect()),
@@ -406,8 +411,8 @@ impl Question {
                 Fractions { tops, bottom: self.joint_power(1) }
             }
             PathKind::Until { from, to, first, second } => {
-                let first = self.formula(first, way, paths);
-                let second = self.formula(second, way, paths);
+                let first = self.formula(first, way, found);
+                let second = self.formula(second, way, found);
                 let tops = match self.resolved(way, *to) {
                     Way::Runs => self.by_runs(*to, &|run| until_takes(run, *from, *to, &first, &second)),
                     _ => self.until_table(*from, *to, &first, &second),
@@ -419,7 +424,7 @@ impl Question {
 
     /// The way for runs of so many steps: listing only where there are few.
     fn resolved(&self, way: Way, steps: usize) -> Way {
-        let few = || (self.tuples as u64).checked_pow(steps as u32).is_some_and(|runs| runs <= RUNS);
+        let few = || (self.tuples as u64).checked_pow(steps as u32 + 1).is_some_and(|runs| runs <= RUNS);
         match way {
             Way::Fitting if few() => Way::Runs,
             Way::Fitting => Way::Table,
@@ -441,8 +446,10 @@ impl Question {
     /// At each tuple, the total weight of the runs taken that start there.
     fn by_runs(&self, steps: usize, takes: &dyn Fn(&[usize]) -> bool) -> Vec<u64> {
         let all = 0..self.tuples;
+        // Runs of no steps have no joint weights.
+        let table = if steps == 0 { 0..0 } else { all.clone() };
         let weights: Vec<Vec<u64>> =
-            all.clone().map(|s| all.clone().map(|t| self.joint_weight(s, t)).collect()).collect();
+            table.map(|s| all.clone().map(|t| self.joint_weight(s, t)).collect()).collect();
         all.map(|start| listed(&weights, &mut vec![start], steps, 1, takes)).collect()
     }
 
