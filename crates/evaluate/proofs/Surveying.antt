@@ -11,12 +11,12 @@ use Rattle.sentence.specs.declared.Node.{Node}
 use Rattle.sentence.specs.declared.Node.the-variants.{True, Label, Not, And, Compare, Probability, Constant, Sum}
 use Rattle.sentence.specs.declared.Node.the-variants.{Difference, Product, Next, Until}
 use Rattle.sentence.specs.declared.Kind.{Kind}
-use Rattle.sentence.specs.declared.Wants.{Wants}
 use Rattle.sentence.specs.declared.Wants.the-variants.{Nothing, One, Two}
 use Rattle.sentence.specs.Writing.{wantsOf}
 use Rattle.meaning.specs.Tree.{Formula, Expression, PathFormula}
 use Rattle.trees.specs.Need.{paired, need, needIn, needFrom}
 use Rattle.trees.specs.Standing.{nodeAt, FormulaAt, ExpressionAt, PathAt}
+use Rattle.trees.specs.Wanted.{operandCount}
 use Rattle.trees.proofs.Cases.{FormulaCase, ExpressionCase, PathCase, formula-case, expression-case, path-case}
 use Rattle.trees.proofs.Cases.{formula-place, expression-place, path-place}
 use Rattle.evaluate.specs.declared.survey.Extent.{Extent}
@@ -167,17 +167,11 @@ surveyed-until slots at t r room s e k k1 k2 n = by-node slots at r (Until k1 k2
     (e ∙ h .0, k ∙ ap (max 3) (h .1) ∙ ap needFrom (sym (w .3))))
 
 -- ---- by what the node wants
--- how many things are wanted
-abbrev wanted : Wants → ℕ
-wanted Nothing = 0
-wanted (One k) = 1
-wanted (Two k) = 2
-
 module _ (slots : List Slot) (at : ℕ) (r : Extent) (room : at < 64) where
   pub surveyed-none : r .next ≡ at + 1 → r .layers ≡ 1 → wantsOf (nodeAt slots at) ≡ Nothing → Surveyed slots at r
-  surveyed-none e k w = by (nodeAt slots at) refl (ap wanted w)
+  surveyed-none e k w = by (nodeAt slots at) refl (ap operandCount w)
     where
-      by : (n : Node) → nodeAt slots at ≡ n → wanted (wantsOf n) ≡ 0 → Surveyed slots at r
+      by : (n : Node) → nodeAt slots at ≡ n → operandCount (wantsOf n) ≡ 0 → Surveyed slots at r
       by True n h = surveyed-true slots at r room e k n
       by (Label l i) n h = surveyed-label slots at r room e k l i n
       by Not n h = absurd (omega arith)
@@ -192,9 +186,9 @@ module _ (slots : List Slot) (at : ℕ) (r : Extent) (room : at < 64) where
       by (Until k1 k2) n h = absurd (omega arith)
 
   pub surveyed-one : {k : Kind} → Surveyed slots (at + 1) r → wantsOf (nodeAt slots at) ≡ One k → Surveyed slots at r
-  surveyed-one s w = by (nodeAt slots at) refl (ap wanted w)
+  surveyed-one s w = by (nodeAt slots at) refl (ap operandCount w)
     where
-      by : (n : Node) → nodeAt slots at ≡ n → wanted (wantsOf n) ≡ 1 → Surveyed slots at r
+      by : (n : Node) → nodeAt slots at ≡ n → operandCount (wantsOf n) ≡ 1 → Surveyed slots at r
       by True n h = absurd (omega arith)
       by (Label l i) n h = absurd (omega arith)
       by Not n h = surveyed-not slots at r room s n
@@ -210,7 +204,7 @@ module _ (slots : List Slot) (at : ℕ) (r : Extent) (room : at < 64) where
 
   pub surveyed-both : {k : Kind} {t : Extent} → SurveyedTwo slots (at + 1) t → r .next ≡ t .next →
       r .layers ≡ layersOfTwo (nodeAt slots at) (t .layers) → wantsOf (nodeAt slots at) ≡ Two k → Surveyed slots at r
-  surveyed-both {t = t} s e l w = by (nodeAt slots at) refl (ap wanted w) l
+  surveyed-both {t = t} s e l w = by (nodeAt slots at) refl (ap operandCount w) l
     where
       -- what is found of the two is found of the node
       same : r .layers ≡ t .layers → SurveyedTwo slots (at + 1) r
@@ -222,7 +216,7 @@ module _ (slots : List Slot) (at : ℕ) (r : Extent) (room : at < 64) where
         expressions = λ a b m q v w. let h = s .expressions a b m q v w in (e ∙ h .0, l ∙ h .1);
       }
 
-      by : (n : Node) → nodeAt slots at ≡ n → wanted (wantsOf n) ≡ 2 → r .layers ≡ layersOfTwo n (t .layers) → Surveyed slots at r
+      by : (n : Node) → nodeAt slots at ≡ n → operandCount (wantsOf n) ≡ 2 → r .layers ≡ layersOfTwo n (t .layers) → Surveyed slots at r
       by True n h l = absurd (omega arith)
       by (Label x i) n h l = absurd (omega arith)
       by Not n h l = absurd (omega arith)

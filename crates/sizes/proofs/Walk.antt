@@ -11,6 +11,8 @@ use Rattle.sentence.specs.declared.Node.the-variants.{True, Label, Not, And, Co
 use Rattle.meaning.specs.Tree.{Formula, Expression, PathFormula}
 use Rattle.meaning.specs.Meaning.{denominator}
 use Rattle.meaning.specs.Size.{size, addS, mulS, tooLarge, largeSize, largeCross, exceeds, exceedsIn, exceedsFrom}
+use Rattle.sentence.specs.Writing.{wantsOf}
+use Rattle.trees.specs.Wanted.{operandCount}
 use Rattle.trees.specs.Standing.{nodeAt, FormulaAt, ExpressionAt, PathAt}
 use Rattle.trees.proofs.Cases.{FormulaCase, ExpressionCase, PathCase, formula-case, expression-case, path-case, formula-place, expression-place, path-place}
 use Rattle.sizes.specs.declared.Measure.{Measure}
@@ -229,3 +231,7 @@ sized-two slots at D n a b s t = record {
       let y = t .expression g q (subst (λ (m : ℕ). ExpressionAt slots m g q) (sym (x .0)) w) in
       (y .0, ap₂ _||_ (x .1) (y .1), x .2, x .3, y .2, y .3);
 }
+
+-- a node that is another wants as much
+pub moved : {a b : Node} {k : ℕ} → a ≡ b → operandCount (wantsOf a) ≡ k → operandCount (wantsOf b) ≡ k
+moved e w = ap (λ (x : Node). operandCount (wantsOf x)) (sym e) ∙ w

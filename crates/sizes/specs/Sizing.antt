@@ -5,10 +5,13 @@ use mathlib.Core.Bool.{Bool, _||_}
 use mathlib.Core.List.{List}
 use mathlib.Core.Path.{_≡_}
 use Rattle.sentence.specs.declared.Slot.{Slot}
+use Rattle.sentence.specs.declared.Node.{Node}
+use Rattle.sentence.specs.Writing.{wantsOf}
 use Rattle.meaning.specs.Tree.{Formula, Expression, PathFormula}
 use Rattle.meaning.specs.Meaning.{denominator}
 use Rattle.meaning.specs.Size.{size, exceeds, exceedsIn, exceedsFrom}
-use Rattle.trees.specs.Standing.{FormulaAt, ExpressionAt, PathAt}
+use Rattle.trees.specs.Standing.{nodeAt, FormulaAt, ExpressionAt, PathAt}
+use Rattle.trees.specs.Wanted.{operandCount}
 use Rattle.sizes.specs.declared.Measure.{Measure}
 use Rattle.sizes.specs.declared.MeasureTwo.{MeasureTwo}
 
@@ -35,3 +38,15 @@ pub record SizesTwo (slots : List Slot) (at D n : ℕ) (r : MeasureTwo) : Type 0
   pub expressions : (a b : Expression) (m q : ℕ) → ExpressionAt slots at a m → ExpressionAt slots m b q →
       (r .next ≡ q) × (r .over ≡ (exceedsIn a D n || exceedsIn b D n)) × (r .d1 ≡ capped (size a D n .d)) ×
       (r .m1 ≡ capped (size a D n .m)) × (r .d2 ≡ capped (size b D n .d)) × (r .m2 ≡ capped (size b D n .m))
+
+-- what is found of a node at a place, by how many things it wants, from what is found of those
+pub record OfNone (node : Node) (at : ℕ) (r : Measure) : Type 0 where
+  pub each : (slots : List Slot) (D n : ℕ) → nodeAt slots at ≡ node → operandCount (wantsOf node) ≡ 0 → Sizes slots at D n r
+
+pub record OfOne (node : Node) (t : Measure) (D n : ℕ) (r : Measure) : Type 0 where
+  pub each : (slots : List Slot) (at : ℕ) → at < 64 → nodeAt slots at ≡ node → operandCount (wantsOf node) ≡ 1 → Sizes slots (at + 1) D n t →
+      Sizes slots at D n r
+
+pub record OfTwo (node : Node) (t : MeasureTwo) (D n : ℕ) (r : Measure) : Type 0 where
+  pub each : (slots : List Slot) (at : ℕ) → at < 64 → nodeAt slots at ≡ node → operandCount (wantsOf node) ≡ 2 → SizesTwo slots (at + 1) D n t →
+      Sizes slots at D n r

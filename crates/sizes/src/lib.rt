@@ -6,10 +6,12 @@ ghost use mathlib.Core.Path.{_≡_};
 ghost use Rattle.meaning.specs.Size.{exceeds as exceedsRule, tooLarge};
 ghost use Rattle.meaning.specs.Tree.{Formula};
 ghost use Rattle.trees.specs.Standing.{FormulaAt};
-ghost use Rattle.sizes.specs.Sizing.{capped, Sizes, SizesTwo};
+ghost use Rattle.sizes.specs.Sizing.{capped, Sizes, SizesTwo, OfNone, OfOne, OfTwo};
 use sentence::Node;
 use sentence::Sentence;
 use sentence::Slot;
+use sentence::Wants;
+use sentence::wants_of;
 
 // What is found of a tree: where its nodes end, an expression's d and m (a path's denominator as both), capped, and whether
 // some number of the size rule is above 2^62.
@@ -180,7 +182,78 @@ fn operands(nodes: [Slot; 64], at: usize, base: u64, n: u64) -> MeasureTwo
     }
 }
 
-// What is found of the tree at a place, with D and the number of variables.
+// What is found of a node that wants nothing.
+fn of_none(node: Node, at: usize) -> Measure
+    requires { ⌜ at < 64 ⌝ }
+    ensures { λ r. ⌜ OfNone node at r ⌝ }
+{
+    match node {
+        Node::True => plain(at + 1, false),
+        Node::Label {
+            label: _,
+            variable: _,
+        } => plain(at + 1, false),
+        Node::Not => plain(at, false),
+        Node::And => plain(at, false),
+        Node::Compare(_) => plain(at, false),
+        Node::Probability => plain(at, false),
+        Node::Constant { top, bottom } => constant(at + 1, top, bottom),
+        Node::Sum => plain(at, false),
+        Node::Difference => plain(at, false),
+        Node::Product => plain(at, false),
+        Node::Next => plain(at, false),
+        Node::Until { from: _, to: _ } => plain(at, false),
+    }
+}
+
+// What is found of a node that wants one thing, from what is found of that.
+fn of_one(node: Node, t: Measure, base: u64, n: u64) -> Measure
+    ensures { λ r. ⌜ OfOne node t base n r ⌝ }
+{
+    match node {
+        Node::Not => t,
+        Node::Probability => probable(t),
+        Node::Next => stepped(t.next, power(base, n), t.over),
+        Node::True => t,
+        Node::Label {
+            label: _,
+            variable: _,
+        } => t,
+        Node::And => t,
+        Node::Compare(_) => t,
+        Node::Constant { top: _, bottom: _ } => t,
+        Node::Sum => t,
+        Node::Difference => t,
+        Node::Product => t,
+        Node::Until { from: _, to: _ } => t,
+    }
+}
+
+// What is found of a node that wants two things, from what is found of those.
+fn of_two(node: Node, t: MeasureTwo, base: u64, n: u64) -> Measure
+    requires { ⌜ n ≤ 4 ⌝ }
+    ensures { λ r. ⌜ OfTwo node t base n r ⌝ }
+{
+    match node {
+        Node::And => joined(t),
+        Node::Compare(_) => crossed(t),
+        Node::Sum => added(t),
+        Node::Difference => added(t),
+        Node::Product => multiplied(t),
+        Node::Until { from: _, to } => stepped(t.next, until_denominator(base, n, to), t.over),
+        Node::True => joined(t),
+        Node::Label {
+            label: _,
+            variable: _,
+        } => joined(t),
+        Node::Not => joined(t),
+        Node::Probability => joined(t),
+        Node::Constant { top: _, bottom: _ } => joined(t),
+        Node::Next => joined(t),
+    }
+}
+
+// What is found of the tree at a place, with D and the number of variables: by what its node wants.
 pub fn size_at(nodes: [Slot; 64], at: usize, base: u64, n: u64) -> Measure
     requires { ⌜ (at ≤ 64) × (n ≤ 4) ⌝ }
     ensures { λ r. ⌜ Sizes nodes at base n r ⌝ }
@@ -190,28 +263,11 @@ pub fn size_at(nodes: [Slot; 64], at: usize, base: u64, n: u64) -> Measure
     }
     let slot = nodes[at];
     let node = slot.node;
-    match node {
-        Node::True => plain(at + 1, false),
-        Node::Label {
-            label: _,
-            variable: _,
-        } => plain(at + 1, false),
-        Node::Not => size_at(nodes, at + 1, base, n),
-        Node::And => joined(operands(nodes, at + 1, base, n)),
-        Node::Compare(_) => crossed(operands(nodes, at + 1, base, n)),
-        Node::Probability => probable(size_at(nodes, at + 1, base, n)),
-        Node::Constant { top, bottom } => constant(at + 1, top, bottom),
-        Node::Sum => added(operands(nodes, at + 1, base, n)),
-        Node::Difference => added(operands(nodes, at + 1, base, n)),
-        Node::Product => multiplied(operands(nodes, at + 1, base, n)),
-        Node::Next => {
-            let f = size_at(nodes, at + 1, base, n);
-            stepped(f.next, power(base, n), f.over)
-        }
-        Node::Until { from: _, to } => {
-            let t = operands(nodes, at + 1, base, n);
-            stepped(t.next, until_denominator(base, n, to), t.over)
-        }
+    let wants = wants_of(node);
+    match wants {
+        Wants::Nothing => of_none(node, at),
+        Wants::One(_) => of_one(node, size_at(nodes, at + 1, base, n), base, n),
+        Wants::Two(_) => of_two(node, operands(nodes, at + 1, base, n), base, n),
     }
 }
 

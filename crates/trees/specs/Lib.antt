@@ -4,3 +4,4 @@ pub mod Need
 pub mod Numbered
 pub mod Ranged
 pub mod Standing
+pub mod Wanted

@@ -1,0 +1,9 @@
+-- How many things a node wants after it.
+use Prim.Native.Nat.{ℕ}
+use Rattle.sentence.specs.declared.Wants.{Wants}
+use Rattle.sentence.specs.declared.Wants.the-variants.{Nothing, One, Two}
+
+abbrev pub operandCount : Wants → ℕ
+operandCount Nothing = 0
+operandCount (One k) = 1
+operandCount (Two k) = 2
