@@ -1,2 +1,2 @@
--- Laws of blocks and parts of a file that belong to no one function.
+-- Laws of blocks that belong to no one function.
 pub mod Laws

@@ -4,7 +4,7 @@ ghost use mathlib.Core.Bool.{_&&_};
 ghost use Prim.Native.Nat.{_+_, _*_, _%_, _<_, _≤_};
 ghost use lib.ListN.{getD, length};
 ghost use lib.Dec.{eqb};
-ghost use Rattle.block.specs.Block.{two, checkOf, checkRight, checksRight};
+ghost use Rattle.block.specs.Block.{byteOf, two, checkOf, checkRight, checksRight};
 ghost use Rattle.counting.specs.Below.{sum};
 
 // A byte as a wider number.
@@ -14,11 +14,53 @@ pub fn wide(b: u8) -> u32
     b as u32
 }
 
-// The byte at a place of the file, and 0 past its end.
+// The byte at a place of a slice, and 0 past its end.
 pub fn byte_at(file: &[u8], at: usize) -> u8
     ensures { λ r. ⌜ r ≡ getD (now (file .entry)) at 0 ⌝ }
 {
     if at < file.len() { file[at] } else { 0 }
+}
+
+// Byte j of a block of the file: the byte of the slice at the offset 512 × block + j, and 0 past the file's end. The
+// covered function that the block reader is thin over.
+fn byte_in(file: &[u8], block: usize, j: usize) -> u8
+    ensures { λ r. ⌜ r ≡ byteOf (now (file .entry)) block j ⌝ }
+{
+    let length = file.len();
+    if length / 512 < block {
+        return 0;
+    }
+    let at = 512 * block;
+    if j < length - at { file[at + j] } else { 0 }
+}
+
+// A block reader shows one block of the lent file at a time: it holds the file and the number of that block. The borrow
+// checker does not cover a struct that holds a reference, so the three functions over it are proved by a walk of their code.
+pub struct Reader<'a> {
+    pub file: &'a [u8],
+    pub block: usize,
+}
+
+// A block reader of the lent file that shows this block.
+pub fn reader_at<'a>(file: &'a [u8], block: usize) -> Reader<'a>
+    ensures { λ r. ⌜ (r .file ≡ file .entry) × (r .block ≡ block) ⌝ }
+{
+    Reader { file, block }
+}
+
+// Byte j of the one block that a block reader shows.
+pub fn shown<'a>(r: Reader<'a>, j: usize) -> u8
+    ensures { λ b. ⌜ b ≡ byteOf (now (r .entry .file)) (r .entry .block) j ⌝ }
+{
+    byte_in(r.file, r.block, j)
+}
+
+// Byte j of a block of the file, as a block reader shows it. Its parameters are plain, so every caller is covered, and
+// whoever reads blocks calls it.
+pub fn block_byte(file: &[u8], block: usize, j: usize) -> u8
+    ensures { λ r. ⌜ r ≡ byteOf (now (file .entry)) block j ⌝ }
+{
+    shown(reader_at(file, block), j)
 }
 
 // The number of two bytes, low byte first.
@@ -36,33 +78,33 @@ fn term(i: usize, b: u8) -> u32
     (i as u32 + 1) * wide(b)
 }
 
-// The sum of the check, over the block at the front of the slice; bytes past the slice's end are 0.
-fn weighed(block: &[u8]) -> u32
-    ensures { λ r. ⌜ r ≡ sum 510 (λ i. (i + 1) * getD (now (block .entry)) i 0) ⌝ }
+// The sum of the check over a block of the file.
+fn weighed(file: &[u8], block: usize) -> u32
+    ensures { λ r. ⌜ r ≡ sum 510 (λ i. (i + 1) * byteOf (now (file .entry)) block i) ⌝ }
 {
     let mut total: u32 = 0;
     let mut i: usize = 0;
     while i < 510 {
-        total += term(i, byte_at(block, i));
+        total += term(i, block_byte(file, block, i));
         i += 1;
     }
     total
 }
 
-// The check of the block at the front of the slice.
-pub fn check_of(block: &[u8]) -> u32
-    ensures { λ r. ⌜ r ≡ checkOf (λ j. getD (now (block .entry)) j 0) ⌝ }
+// The check of a block of the file.
+pub fn check_of(file: &[u8], block: usize) -> u32
+    ensures { λ r. ⌜ r ≡ checkOf (byteOf (now (file .entry)) block) ⌝ }
 {
-    weighed(block) % 65521
+    weighed(file, block) % 65521
 }
 
-// Whether bytes 510 and 511 of the block at the front of the slice hold its check.
-pub fn check_right(block: &[u8]) -> bool
-    ensures { λ r. ⌜ r ≡ checkRight (λ j. getD (now (block .entry)) j 0) ⌝ }
+// Whether bytes 510 and 511 of a block hold its check.
+pub fn check_right(file: &[u8], block: usize) -> bool
+    ensures { λ r. ⌜ r ≡ checkRight (byteOf (now (file .entry)) block) ⌝ }
 {
-    let check = check_of(block);
-    let low = wide(byte_at(block, 510)) == check % 256;
-    let high = wide(byte_at(block, 511)) == check / 256 % 256;
+    let check = check_of(file, block);
+    let low = wide(block_byte(file, block, 510)) == check % 256;
+    let high = wide(block_byte(file, block, 511)) == check / 256 % 256;
     low & high
 }
 
@@ -73,8 +115,7 @@ pub fn checks_right(file: &[u8]) -> bool
     let blocks = file.len() / 512;
     let mut i: usize = 0;
     while i < blocks {
-        let at = 512 * i;
-        if !check_right(&file[at..]) {
+        if !check_right(file, i) {
             return false;
         }
         i += 1;

@@ -138,7 +138,7 @@ module _ (file : List ℕ) (bytes : Bytes file) where
   start-byte first third (suc (suc (suc (suc (suc (suc (suc (suc j)))))))) l = absurd (omega arith)
 
   -- block 0 stands as the layout has it if its fixed bytes and its zeros do
-  head-stands : byteOf file 0 0 ≡ 1 → byteOf file 0 3 ≡ 0 → ((k : ℕ) → k < 438 → getD file (72 + k) 0 ≡ 0) →
+  head-stands : byteOf file 0 0 ≡ 1 → byteOf file 0 3 ≡ 0 → ((k : ℕ) → k < 438 → byteOf file 0 (72 + k) ≡ 0) →
       (j : ℕ) → j < 510 → byteOf file 0 j ≡ contentByte (fieldsOf file) 0 j
   head-stands first third zeros j l = go (decLt j 8) (decLt j 72) ∙ sym (content-head (fieldsOf file) j)
     where
@@ -185,12 +185,12 @@ module _ (file : List ℕ) (bytes : Bytes file) where
       go (no more) = row-end (fieldsOf file) i j (omega arith)
 
   -- the test of block 0
-  pub head-test : (eqb (byteOf file 0 0) 1 && eqb (byteOf file 0 3) 0 && every 438 (λ k. eqb (getD file (72 + k) 0) 0)) ≡ every 510 (stands 0)
-  head-test = marks-and-zeros (eqb (byteOf file 0 0) 1) (eqb (byteOf file 0 3) 0) 438 (λ k. eqb (getD file (72 + k) 0) 0) (stands 0)
+  pub head-test : (eqb (byteOf file 0 0) 1 && eqb (byteOf file 0 3) 0 && every 438 (λ k. eqb (byteOf file 0 (72 + k)) 0)) ≡ every 510 (stands 0)
+  head-test = marks-and-zeros (eqb (byteOf file 0 0) 1) (eqb (byteOf file 0 3) 0) 438 (λ k. eqb (byteOf file 0 (72 + k)) 0) (stands 0)
       (λ first third zeros j l. eq-eqb _ _ (head-stands (eqb-true _ _ first) (eqb-true _ _ third) (λ k m. eqb-true _ _ (zeros k m)) j l))
       (λ all. eq-eqb _ _ (eqb-true _ _ (all 0 (omega arith)) ∙ head-first))
       (λ all. eq-eqb _ _ (eqb-true _ _ (all 3 (omega arith)) ∙ head-third))
-      (λ all k m. eq-eqb _ _ (byte-there file (omega arith) ∙ eqb-true _ _ (all (72 + k) (omega arith)) ∙ head-zero k))
+      (λ all k m. eq-eqb _ _ (eqb-true _ _ (all (72 + k) (omega arith)) ∙ head-zero k))
 
   row-first : (i : ℕ) → rowByte (fieldsOf file) i 0 ≡ 2
   unfolding rowByte

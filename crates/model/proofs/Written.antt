@@ -12,10 +12,11 @@ use lib.ListN.{length, getD, set, take, drop, length-append, List·getD-append}
 use Rattle.counting.specs.Below.{table}
 use Rattle.counting.proofs.Laws.{length-table, table-at, table-same, Fronted, fronted-next, fronted-all, tail-back, tail-lent}
 use Rattle.refusal.specs.Answers.{atFront}
-use Rattle.block.specs.Block.{checkOf, lowByte, highByte}
+use Rattle.block.specs.Block.{byteOf, checkOf, lowByte, highByte}
 use Rattle.block.proofs.Laws.{check-same}
 use Rattle.model.specs.declared.Model.{Model}
 use Rattle.model.specs.Layout.{byteOfTwo, contentByte, byteAt, blockBytes, blocksBelow}
+use Rattle.model.proofs.Places.{byte-there}
 
 module _ (m : Model) (i : ℕ) where
   -- before the check a block has its content
@@ -39,7 +40,7 @@ module _ (m : Model) (i : ℕ) where
 
   -- the content at the front, then the two bytes of its check
   pub block-written : (before now : List ℕ) (check : ℕ) → 512 ≤ length before → length now ≡ length before →
-      now ≡ table 510 (contentByte m i) ++ drop 510 before → check ≡ checkOf (λ j. getD now j 0) →
+      now ≡ table 510 (contentByte m i) ++ drop 510 before → check ≡ checkOf (byteOf now 0) →
       set (set now 510 (check % 256)) 511 (check / 256 % 256) ≡ atFront (blockBytes m i) before
   unfolding blockBytes
   block-written before now check room long held e =
@@ -55,6 +56,7 @@ module _ (m : Model) (i : ℕ) where
 
       right : check ≡ checkOf (contentByte m i)
       right = e ∙ check-same (λ j l.
+          byte-there now {there = j} (omega arith) ∙
           ap (λ (l : List ℕ). getD l j 0) held ∙
           List·getD-append (table 510 (contentByte m i)) (drop 510 before) 0 j
           (let k = length-table 510 (contentByte m i) in

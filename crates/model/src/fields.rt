@@ -1,21 +1,19 @@
 // The fields as they stand in a file: bytes past its end read as 0.
 ghost use mathlib.Core.Path.{_≡_};
 ghost use Prim.Native.Nat.{_+_, _*_, _<_};
-ghost use lib.ListN.{getD};
 ghost use Rattle.counting.specs.Below.{table};
-ghost use Rattle.block.specs.Block.{two, four};
-ghost use Rattle.model.specs.Layout.{maskAt, weightAt, fieldsOf};
+ghost use Rattle.model.specs.Layout.{twoAt, maskAt, weightAt, fieldsOf};
 use crate::Model;
 use crate::matrix;
-use block::byte_at;
+use block::block_byte;
 use block::two_of;
 
-// The number of two bytes from a place of the file.
-fn two_at(file: &[u8], at: usize) -> u16
-    requires { ⌜ at < 4096 ⌝ }
-    ensures { λ r. ⌜ r ≡ two (getD (now (file .entry)) at 0) (getD (now (file .entry)) (at + 1) 0) ⌝ }
+// The number of two bytes from byte j of a block.
+fn two_at(file: &[u8], block: usize, j: usize) -> u16
+    requires { ⌜ j < 511 ⌝ }
+    ensures { λ r. ⌜ r ≡ twoAt (now (file .entry)) block j ⌝ }
 {
-    two_of(byte_at(file, at), byte_at(file, at + 1))
+    two_of(block_byte(file, block, j), block_byte(file, block, j + 1))
 }
 
 // A number of two bytes as a wider one.
@@ -39,7 +37,7 @@ fn masks_at(file: &[u8]) -> [u16; 32]
     let mut masks = [0u16; 32];
     let mut s: usize = 0;
     while s < 32 {
-        masks[s] = two_at(file, 8 + 2 * s);
+        masks[s] = two_at(file, 0, 8 + 2 * s);
         s += 1;
     }
     masks
@@ -50,11 +48,12 @@ fn row_at(file: &[u8], s: usize) -> [u16; 32]
     requires { ⌜ s < 32 ⌝ }
     ensures { λ r. ⌜ r ≡ table 32 (weightAt (now (file .entry)) s) ⌝ }
 {
-    let at = 512 * (1 + s / 7) + (2 + 64 * (s % 7));
+    let block = 1 + s / 7;
+    let from = 2 + 64 * (s % 7);
     let mut row = [0u16; 32];
     let mut t: usize = 0;
     while t < 32 {
-        row[t] = two_at(file, at + 2 * t);
+        row[t] = two_at(file, block, from + 2 * t);
         t += 1;
     }
     row
@@ -80,9 +79,9 @@ pub fn fields_of(file: &[u8]) -> Model
     let masks = masks_at(file);
     let weights = matrix::holding(weights_at(file));
     Model {
-        n: byte_at(file, 1),
-        a: byte_at(file, 2),
-        d: four_of(two_at(file, 4), two_at(file, 6)),
+        n: block_byte(file, 0, 1),
+        a: block_byte(file, 0, 2),
+        d: four_of(two_at(file, 0, 4), two_at(file, 0, 6)),
         masks: masks,
         weights: weights,
     }

@@ -1,8 +1,7 @@
 // Whether a file's bytes stand as the layout has them: the rest of row 4 of document 01's table. The bytes of the fields
 // themselves need no second look: what is left are the fixed bytes, and those that are to be zero.
 ghost use mathlib.Core.Path.{_≡_};
-ghost use Prim.Native.Nat.{_+_, _*_, _<_, _≤_};
-ghost use lib.ListN.{getD};
+ghost use Prim.Native.Nat.{_+_, _<_, _≤_};
 ghost use lib.Dec.{eqb};
 ghost use Rattle.counting.specs.Below.{every};
 ghost use Rattle.block.specs.Block.{byteOf};
@@ -10,16 +9,16 @@ ghost use Rattle.model.specs.Layout.{contentByte, fieldsOf};
 ghost use Rattle.model.specs.Rows.{laidOut};
 use crate::Model;
 use crate::rules::fields_right;
-use block::byte_at;
+use block::block_byte;
 
-// Whether so many bytes from a place of the file are zero.
-fn zeros(file: &[u8], from: usize, count: usize) -> bool
-    requires { ⌜ from + count ≤ 4096 ⌝ }
-    ensures { λ r. ⌜ r ≡ every count (λ k. eqb (getD (now (file .entry)) (from + k) 0) 0) ⌝ }
+// Whether so many bytes from a place of a block are zero.
+fn zeros(file: &[u8], block: usize, from: usize, count: usize) -> bool
+    requires { ⌜ from + count ≤ 510 ⌝ }
+    ensures { λ r. ⌜ r ≡ every count (λ k. eqb (byteOf (now (file .entry)) block (from + k)) 0) ⌝ }
 {
     let mut k: usize = 0;
     while k < count {
-        if !(byte_at(file, from + k) == 0) {
+        if !(block_byte(file, block, from + k) == 0) {
             return false;
         }
         k += 1;
@@ -31,7 +30,7 @@ fn zeros(file: &[u8], from: usize, count: usize) -> bool
 fn head_laid(file: &[u8]) -> bool
     ensures { λ r. ⌜ r ≡ every 510 (λ j. eqb (byteOf (now (file .entry)) 0 j) (contentByte (fieldsOf (now (file .entry))) 0 j)) ⌝ }
 {
-    (byte_at(file, 0) == 1) & (byte_at(file, 3) == 0) & zeros(file, 72, 438)
+    (block_byte(file, 0, 0) == 1) & (block_byte(file, 0, 3) == 0) & zeros(file, 0, 72, 438)
 }
 
 // Whether block i stands as the layout has it: byte 0 is 2, byte 1 is i, and all are zero from byte 450 on, in block 5
@@ -40,12 +39,11 @@ fn row_block_laid(file: &[u8], i: usize) -> bool
     requires { ⌜ (1 ≤ i) × (i < 6) ⌝ }
     ensures { λ r. ⌜ r ≡ every 510 (λ j. eqb (byteOf (now (file .entry)) i j) (contentByte (fieldsOf (now (file .entry))) i j)) ⌝ }
 {
-    let at = 512 * i;
-    let marked = (byte_at(file, at) == 2) & (byte_at(file, at + 1) == i as u8);
+    let marked = (block_byte(file, i, 0) == 2) & (block_byte(file, i, 1) == i as u8);
     if i < 5 {
-        marked & zeros(file, at + 450, 60)
+        marked & zeros(file, i, 450, 60)
     } else {
-        marked & zeros(file, at + 258, 252)
+        marked & zeros(file, i, 258, 252)
     }
 }
 

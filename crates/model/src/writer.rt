@@ -142,7 +142,7 @@ fn write_block(
     ensures { λ r. ⌜ now (out .exit) ≡ atFront (blockBytes (modelOf n a d (now (masks .entry)) (now (rows .entry))) i) (now (out .entry)) ⌝ }
 {
     write_content(n, a, d, masks, rows, i, out);
-    let check = check_of(out);
+    let check = check_of(out, 0);
     out[510] = (check % 256) as u8;
     out[511] = (check / 256 % 256) as u8;
 }

@@ -5,14 +5,14 @@ use Rattle.block.proofs.check_right.Tie as tie
 check-of-requires : tie.Need-check-of-requires
 check-of-requires c κs = search needs
 
-byte-at-requires : tie.Need-byte-at-requires
-byte-at-requires c κs = search needs
+block-byte-requires : tie.Need-block-byte-requires
+block-byte-requires c κs = search needs
 
 wide-requires : tie.Need-wide-requires
 wide-requires c κs = search needs
 
-byte-at-requires-2 : tie.Need-byte-at-requires-2
-byte-at-requires-2 c κs = search needs
+block-byte-requires-2 : tie.Need-block-byte-requires-2
+block-byte-requires-2 c κs = search needs
 
 wide-requires-2 : tie.Need-wide-requires-2
 wide-requires-2 c κs = search needs
@@ -25,8 +25,8 @@ check-right-spec =
     tie.close
     (tie.spec
     check-of-requires
-    byte-at-requires
+    block-byte-requires
     wide-requires
-    byte-at-requires-2
+    block-byte-requires-2
     wide-requires-2
     returns)

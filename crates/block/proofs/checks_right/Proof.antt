@@ -1,14 +1,13 @@
 -- `block::checks_right` meets its contract. The invariant: the checks of the blocks passed are right.
 use borrow.Author.Needs.{needs}
-use Prim.Native.Nat.{_≤_, _-_, _*_, _/_}
+use Prim.Native.Nat.{_≤_, _-_, _/_}
 use native.Mathlib.Omega.{arith}
 use lib.ListN.{length}
 use borrow.Author.Tests.{not-true, not-false}
 use mathlib.Core.Bool.{true}
-use mathlib.Core.Path.{_≡_, sym, ap, _∙_}
+use mathlib.Core.Path.{_≡_, sym, _∙_}
 use Rattle.counting.specs.Below.{every}
 use Rattle.counting.proofs.Laws.{every-none, every-more, every-but}
-use Rattle.block.proofs.Laws.{part-bytes}
 use Rattle.block.specs.Block.{byteOf, checkRight}
 use Rattle.block.proofs.checks_right.Statement.{statement}
 use Rattle.block.proofs.checks_right.Tie as tie
@@ -22,29 +21,12 @@ abbrev μ-loop : tie.MeasureT-loop
 loop-holds : tie.Need-loop-holds Inv-loop μ-loop
 loop-holds c = (search needs, every-none _)
 
-mul-at : tie.Need-mul-at Inv-loop μ-loop
-mul-at c = search needs
-
-sub-check-right : tie.Need-sub-check-right Inv-loop μ-loop
-sub-check-right c = search needs
-
-part-check-right-start : tie.Need-part-check-right-start Inv-loop μ-loop
-part-check-right-start c = search needs
-
-part-check-right-end : tie.Need-part-check-right-end Inv-loop μ-loop
-part-check-right-end c = search needs
-
 check-right-requires : tie.Need-check-right-requires Inv-loop μ-loop
 check-right-requires c κs = search needs
 
--- what the call says, of the block in the file
-found : (c : tie.After-check-right Inv-loop μ-loop) →
-    c .check-right .result ≡ checkRight (byteOf (c .before .before .before .before .before .args .file .now) (c .before .before .before .loop .i))
-found c = c .check-right .ensures ∙ ap checkRight (part-bytes (c .before .before .before .before .before .args .file .now) (512 * c .before .before .before .loop .i))
-
 returns : tie.Need-returns Inv-loop μ-loop
 returns c =
-    sym (every-but _ _ (c .before .before .before .before .loop .i) (omega arith) (sym (found (c .before)) ∙ not-true _ (c .if1 .taken)))
+    sym (every-but _ _ (c .before .before .before .loop .i) (omega arith) (sym (c .before .check-right .ensures) ∙ not-true _ (c .if1 .taken)))
 
 add-i : tie.Need-add-i Inv-loop μ-loop
 add-i c = search needs
@@ -53,7 +35,7 @@ loop-less : tie.Need-loop-less Inv-loop μ-loop
 loop-less c = search needs
 
 loop-again : tie.Need-loop-again Inv-loop μ-loop
-loop-again c = (search needs, every-more _ _ (c .before .before .before .before .loop .inv .1) (sym (found (c .before)) ∙ not-false _ (c .if1 .left)))
+loop-again c = (search needs, every-more _ _ (c .before .before .before .loop .inv .1) (sym (c .before .check-right .ensures) ∙ not-false _ (c .if1 .left)))
 
 returns-2 : tie.Need-returns-2 Inv-loop μ-loop
 returns-2 c =
@@ -67,10 +49,6 @@ checks-right-spec =
     Inv-loop
     μ-loop
     loop-holds
-    mul-at
-    sub-check-right
-    part-check-right-start
-    part-check-right-end
     check-right-requires
     returns
     add-i

@@ -3,23 +3,23 @@ use borrow.Author.Needs.{needs}
 use Prim.Native.Nat.{_+_, _*_, _-_, _≤_}
 use mathlib.Core.Path.{_≡_, sym, _∙_}
 use native.Mathlib.Omega.{arith}
-use lib.ListN.{getD}
 use Rattle.counting.specs.Below.{sum}
 use Rattle.counting.proofs.Laws.{sum-none, sum-more}
+use Rattle.block.specs.Block.{byteOf}
 use Rattle.block.proofs.weighed.Statement.{statement}
 use Rattle.block.proofs.weighed.Tie as tie
 
 abbrev Inv-loop : tie.InvT-loop
-Inv-loop block total₀ i₀ total i = (i ≤ 510) × (total ≡ sum i (λ j. (j + 1) * getD block j 0)) × (total ≤ 130050 * i)
+Inv-loop file block total₀ i₀ total i = (i ≤ 510) × (total ≡ sum i (λ j. (j + 1) * byteOf file block j)) × (total ≤ 130050 * i)
 
 abbrev μ-loop : tie.MeasureT-loop
-μ-loop block total₀ i₀ total i = 510 - i
+μ-loop file block total₀ i₀ total i = 510 - i
 
 loop-holds : tie.Need-loop-holds Inv-loop μ-loop
 loop-holds c = (search needs, sym (sum-none _), search needs)
 
-byte-at-requires : tie.Need-byte-at-requires Inv-loop μ-loop
-byte-at-requires c κs = search needs
+block-byte-requires : tie.Need-block-byte-requires Inv-loop μ-loop
+block-byte-requires c κs = search needs
 
 term-requires : tie.Need-term-requires Inv-loop μ-loop
 term-requires c κs = search needs
@@ -34,7 +34,7 @@ loop-less : tie.Need-loop-less Inv-loop μ-loop
 loop-less c = search needs
 
 loop-again : tie.Need-loop-again Inv-loop μ-loop
-loop-again c = (search needs, cc (sum-more (c .before .before .before .loop .i) (λ j. (j + 1) * getD (c .before .before .before .before .before .args .block .now) j 0)), search needs)
+loop-again c = (search needs, cc (sum-more (c .before .before .before .loop .i) (λ j. (j + 1) * byteOf (c .before .before .before .before .before .args .file .now) (c .before .before .before .before .before .args .block) j)), search needs)
 
 returns : tie.Need-returns Inv-loop μ-loop
 returns c =
@@ -48,7 +48,7 @@ weighed-spec =
     Inv-loop
     μ-loop
     loop-holds
-    byte-at-requires
+    block-byte-requires
     term-requires
     add-total
     add-i

@@ -15,11 +15,11 @@ weights-at-requires c κs = search needs
 holding-requires : tie.Need-holding-requires
 holding-requires c κs = search needs
 
-byte-at-requires : tie.Need-byte-at-requires
-byte-at-requires c κs = search needs
+block-byte-requires : tie.Need-block-byte-requires
+block-byte-requires c κs = search needs
 
-byte-at-requires-2 : tie.Need-byte-at-requires-2
-byte-at-requires-2 c κs = search needs
+block-byte-requires-2 : tie.Need-block-byte-requires-2
+block-byte-requires-2 c κs = search needs
 
 two-at-requires : tie.Need-two-at-requires
 two-at-requires c κs = search needs
@@ -36,8 +36,8 @@ returns c =
     let weights = c .before .before .before .before .before .holding .ensures ∙ c .before .before .before .before .before .before .weights-at .ensures in
     let d = c .four-of .ensures ∙ ap₂ (λ (low high : ℕ). low + 65536 * high) (c .before .before .two-at .ensures) (c .before .two-at2 .ensures) in
     λ i. record {
-      n = c .before .before .before .before .byte-at .ensures i;
-      a = c .before .before .before .byte-at2 .ensures i;
+      n = c .before .before .before .before .block-byte .ensures i;
+      a = c .before .before .before .block-byte2 .ensures i;
       d = d i;
       masks = c .before .before .before .before .before .before .before .masks-at .ensures i;
       weights = record { rows = weights i };
@@ -50,8 +50,8 @@ fields-of-spec =
     masks-at-requires
     weights-at-requires
     holding-requires
-    byte-at-requires
-    byte-at-requires-2
+    block-byte-requires
+    block-byte-requires-2
     two-at-requires
     two-at-requires-2
     four-of-requires

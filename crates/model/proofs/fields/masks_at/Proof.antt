@@ -1,10 +1,9 @@
 -- `model::fields::masks_at` meets its contract: the masks are filled from the front.
 use borrow.Author.Needs.{needs}
-use Prim.Native.Nat.{_+_, _-_, _*_}
-use mathlib.Core.Path.{refl, _∙_}
+use Prim.Native.Nat.{_-_}
+use mathlib.Core.Path.{refl}
 use native.Mathlib.Omega.{arith}
 use Rattle.counting.proofs.Laws.{Filled, filled-none, filled-next, filled-all}
-use Rattle.model.proofs.Places.{two-there}
 use Rattle.model.specs.Layout.{maskAt}
 use Rattle.model.proofs.fields.masks_at.Statement.{statement}
 use Rattle.model.proofs.fields.masks_at.Tie as tie
@@ -40,8 +39,7 @@ loop-less : tie.Need-loop-less Inv-loop μ-loop
 loop-less c = search needs
 
 loop-again : tie.Need-loop-again Inv-loop μ-loop
-loop-again c = filled-next (c .before .before .loop .inv) (omega arith)
-    (c .two-at .ensures ∙ two-there (c .before .before .before .before .args .file .now) 0 (8 + 2 * c .before .before .loop .s) _ (omega arith))
+loop-again c = filled-next (c .before .before .loop .inv) (omega arith) (c .two-at .ensures)
 
 returns : tie.Need-returns Inv-loop μ-loop
 returns c = filled-all (c .before .loop .inv) (omega arith)

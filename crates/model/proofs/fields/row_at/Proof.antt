@@ -1,34 +1,27 @@
 -- `model::fields::row_at` meets its contract: the row is filled from the front.
 use borrow.Author.Needs.{needs}
-use Prim.Native.Nat.{_+_, _-_, _*_, _/_, _%_}
-use mathlib.Core.Path.{refl, _∙_}
+use Prim.Native.Nat.{_-_}
+use mathlib.Core.Path.{refl}
 use native.Mathlib.Omega.{arith}
 use Rattle.counting.proofs.Laws.{Filled, filled-none, filled-next, filled-all}
-use Rattle.model.proofs.Places.{two-there}
 use Rattle.model.specs.Layout.{weightAt}
 use Rattle.model.proofs.fields.row_at.Statement.{statement}
 use Rattle.model.proofs.fields.row_at.Tie as tie
 
 abbrev Inv-loop : tie.InvT-loop
-Inv-loop file s at row₀ t₀ row t = Filled 32 (weightAt file s) 0 t row
+Inv-loop file s block from row₀ t₀ row t = Filled 32 (weightAt file s) 0 t row
 
 abbrev μ-loop : tie.MeasureT-loop
-μ-loop file s at row₀ t₀ row t = 32 - t
+μ-loop file s block from row₀ t₀ row t = 32 - t
 
-add-at : tie.Need-add-at Inv-loop μ-loop
-add-at c = search needs
+add-block : tie.Need-add-block Inv-loop μ-loop
+add-block c = search needs
 
-mul-at : tie.Need-mul-at Inv-loop μ-loop
-mul-at c = search needs
+mul-from : tie.Need-mul-from Inv-loop μ-loop
+mul-from c = search needs
 
-mul-at-2 : tie.Need-mul-at-2 Inv-loop μ-loop
-mul-at-2 c = search needs
-
-add-at-2 : tie.Need-add-at-2 Inv-loop μ-loop
-add-at-2 c = search needs
-
-add-at-3 : tie.Need-add-at-3 Inv-loop μ-loop
-add-at-3 c = search needs
+add-from : tie.Need-add-from Inv-loop μ-loop
+add-from c = search needs
 
 loop-holds : tie.Need-loop-holds Inv-loop μ-loop
 loop-holds c = filled-none refl
@@ -55,10 +48,7 @@ loop-less : tie.Need-loop-less Inv-loop μ-loop
 loop-less c = search needs
 
 loop-again : tie.Need-loop-again Inv-loop μ-loop
-loop-again c = filled-next (c .before .before .loop .inv) (omega arith)
-    (c .two-at .ensures ∙
-    (let s = c .before .before .before .before .args .s in
-    two-there (c .before .before .before .before .args .file .now) (1 + s / 7) (2 + 64 * (s % 7) + 2 * c .before .before .loop .t) _ (omega arith)))
+loop-again c = filled-next (c .before .before .loop .inv) (omega arith) (c .two-at .ensures)
 
 returns : tie.Need-returns Inv-loop μ-loop
 returns c = filled-all (c .before .loop .inv) (omega arith)
@@ -69,11 +59,9 @@ row-at-spec =
     (tie.spec
     Inv-loop
     μ-loop
-    add-at
-    mul-at
-    mul-at-2
-    add-at-2
-    add-at-3
+    add-block
+    mul-from
+    add-from
     loop-holds
     mul-two-at
     add-two-at

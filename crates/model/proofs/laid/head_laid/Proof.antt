@@ -8,11 +8,11 @@ use Rattle.model.proofs.Standing.{head-test}
 use Rattle.model.proofs.laid.head_laid.Statement.{statement}
 use Rattle.model.proofs.laid.head_laid.Tie as tie
 
-byte-at-requires : tie.Need-byte-at-requires
-byte-at-requires c κs = search needs
+block-byte-requires : tie.Need-block-byte-requires
+block-byte-requires c κs = search needs
 
-byte-at-requires-2 : tie.Need-byte-at-requires-2
-byte-at-requires-2 c κs = search needs
+block-byte-requires-2 : tie.Need-block-byte-requires-2
+block-byte-requires-2 c κs = search needs
 
 zeros-requires : tie.Need-zeros-requires
 zeros-requires c κs = search needs
@@ -21,9 +21,9 @@ returns : tie.Need-returns
 returns c =
     let file = c .before .before .before .before .args .file .now in
     ap₂ _&&_
-    (ap₂ _&&_ (ap (λ (x : ℕ). eqb x 1) (c .before .before .byte-at .ensures)) (ap (λ (x : ℕ). eqb x 0) (c .before .byte-at2 .ensures)))
+    (ap₂ _&&_ (ap (λ (x : ℕ). eqb x 1) (c .before .before .block-byte .ensures)) (ap (λ (x : ℕ). eqb x 0) (c .before .block-byte2 .ensures)))
     (c .zeros .ensures) ∙
     head-test file (λ k. c .before .before .before .shared-slice-known .given k .fits)
 
 pub head-laid-spec : {M : Type 1} → statement M
-head-laid-spec = tie.close (tie.spec byte-at-requires byte-at-requires-2 zeros-requires returns)
+head-laid-spec = tie.close (tie.spec block-byte-requires block-byte-requires-2 zeros-requires returns)

@@ -1,32 +1,32 @@
 -- `model::laid::zeros` meets its contract. The invariant: the bytes passed are zero.
 use borrow.Author.Needs.{needs}
 use Prim.Native.Nat.{ℕ, _+_, _-_}
-use mathlib.Core.Path.{_≡_, ap, sym, _∙_}
+use mathlib.Core.Path.{ap, sym, _∙_}
 use native.Mathlib.Omega.{arith}
 use lib.Dec.{eqb}
-use lib.ListN.{getD}
 use borrow.Author.Tests.{not-true, not-false}
 use Rattle.counting.proofs.Laws.{Passed, passed-none, passed-next, passed-all, failed-at}
+use Rattle.block.specs.Block.{byteOf}
 use Rattle.model.proofs.laid.zeros.Statement.{statement}
 use Rattle.model.proofs.laid.zeros.Tie as tie
 
 abbrev Inv-loop : tie.InvT-loop
-Inv-loop file from count k₀ k = Passed count (λ k. eqb (getD file (from + k) 0) 0) k
+Inv-loop file block from count k₀ k = Passed count (λ k. eqb (byteOf file block (from + k)) 0) k
 
 abbrev μ-loop : tie.MeasureT-loop
-μ-loop file from count k₀ k = count - k
+μ-loop file block from count k₀ k = count - k
 
 loop-holds : tie.Need-loop-holds Inv-loop μ-loop
 loop-holds c = passed-none
 
-add-byte-at : tie.Need-add-byte-at Inv-loop μ-loop
-add-byte-at c = search needs
+add-block-byte : tie.Need-add-block-byte Inv-loop μ-loop
+add-block-byte c = search needs
 
-byte-at-requires : tie.Need-byte-at-requires Inv-loop μ-loop
-byte-at-requires c κs = search needs
+block-byte-requires : tie.Need-block-byte-requires Inv-loop μ-loop
+block-byte-requires c κs = search needs
 
 returns : tie.Need-returns Inv-loop μ-loop
-returns c = failed-at (c .before .before .before .loop .inv) (omega arith) (ap (λ (x : ℕ). eqb x 0) (sym (c .before .byte-at .ensures)) ∙ not-true _ (c .if1 .taken))
+returns c = failed-at (c .before .before .before .loop .inv) (omega arith) (ap (λ (x : ℕ). eqb x 0) (sym (c .before .block-byte .ensures)) ∙ not-true _ (c .if1 .taken))
 
 add-k : tie.Need-add-k Inv-loop μ-loop
 add-k c = search needs
@@ -35,7 +35,7 @@ loop-less : tie.Need-loop-less Inv-loop μ-loop
 loop-less c = search needs
 
 loop-again : tie.Need-loop-again Inv-loop μ-loop
-loop-again c = passed-next (c .before .before .before .loop .inv) (omega arith) (ap (λ (x : ℕ). eqb x 0) (sym (c .before .byte-at .ensures)) ∙ not-false _ (c .if1 .left))
+loop-again c = passed-next (c .before .before .before .loop .inv) (omega arith) (ap (λ (x : ℕ). eqb x 0) (sym (c .before .block-byte .ensures)) ∙ not-false _ (c .if1 .left))
 
 returns-2 : tie.Need-returns-2 Inv-loop μ-loop
 returns-2 c = passed-all (c .before .loop .inv) (omega arith)
@@ -47,8 +47,8 @@ zeros-spec =
     Inv-loop
     μ-loop
     loop-holds
-    add-byte-at
-    byte-at-requires
+    add-block-byte
+    block-byte-requires
     returns
     add-k
     loop-less

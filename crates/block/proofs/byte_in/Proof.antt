@@ -1,0 +1,33 @@
+-- `block::byte_in` meets its contract: the byte at 512 times the number plus the offset; past the end `getD` has its default.
+use borrow.Author.Needs.{needs}
+use native.Mathlib.Omega.{arith}
+use lib.ListN.{List·getD-eq-default}
+use mathlib.Core.Path.{refl, sym}
+use Rattle.block.proofs.byte_in.Statement.{statement}
+use Rattle.block.proofs.byte_in.Tie as tie
+
+returns : tie.Need-returns
+returns c = sym (List·getD-eq-default (c .before .args .file .now) 0 (omega arith))
+
+mul-at : tie.Need-mul-at
+mul-at c = search needs
+
+sub-if2 : tie.Need-sub-if2
+sub-if2 c = search needs
+
+add-result : tie.Need-add-result
+add-result c = search needs
+
+shared-slice-read-result : tie.Need-shared-slice-read-result
+shared-slice-read-result c = search needs
+
+returns-2 : tie.Need-returns-2
+returns-2 c = refl
+
+returns-3 : tie.Need-returns-3
+returns-3 c = sym (List·getD-eq-default (c .before .before .args .file .now) 0 (omega arith))
+
+pub byte-in-spec : {M : Type 1} → statement M
+byte-in-spec =
+    tie.close
+    (tie.spec returns mul-at sub-if2 add-result shared-slice-read-result returns-2 returns-3)
