@@ -27,7 +27,8 @@ use Rattle.trees.specs.Standing.{nodeAt}
 use Rattle.trees.proofs.Cases.{FormulaCase, formula-case, formula-place}
 use Rattle.evaluate.specs.declared.Setting.{Setting}
 use Rattle.evaluate.specs.declared.ValuedTwo.{ValuedTwo}
-use Rattle.evaluate.specs.Evaluation.{unspelled, Fixed, LabelReady, LabelDone}
+use Rattle.trees.specs.Listed.{unspelled}
+use Rattle.evaluate.specs.Evaluation.{Fixed, LabelReady, LabelDone}
 use Rattle.evaluate.specs.Evaluation.{FormulaReady, FormulasReady, ExpressionsReady, FormulaDone, FormulasDone}
 use Rattle.evaluate.specs.Evaluation.{ExpressionsDone}
 use Rattle.evaluate.proofs.Needing.{need-some, needIn-some, paired-two, room-of}

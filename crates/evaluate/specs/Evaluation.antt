@@ -6,11 +6,9 @@ use mathlib.Core.List.{List}
 use mathlib.Core.Path.{_≡_}
 use lib.Dec.{eqb}
 use lib.ListN.{length, getD, drop}
-use Rattle.sentence.specs.declared.Relation as Spelled
-use Rattle.sentence.specs.declared.Relation.the-variants.{Less, AtMost, Equal, AtLeast, Greater}
 use Rattle.sentence.specs.declared.Slot.{Slot}
 use Rattle.meaning.specs.Chain.{Chain, Tuple}
-use Rattle.meaning.specs.Tree.{Relation, less, atMost, equal, atLeast, greater, Formula, Expression, PathFormula}
+use Rattle.meaning.specs.Tree.{Formula, Expression, PathFormula}
 use Rattle.meaning.specs.Meaning.{holds, hasLabel, numerator, denominator}
 use Rattle.meaning.specs.Size.{size, exceeds, exceedsIn, exceedsFrom}
 use Rattle.layers.specs.Layers.{Layer, truth, bitAt}
@@ -23,14 +21,6 @@ use Rattle.trees.specs.Standing.{FormulaAt, ExpressionAt, PathAt}
 use Rattle.evaluate.specs.declared.Setting.{Setting}
 use Rattle.evaluate.specs.declared.Valued.{Valued}
 use Rattle.evaluate.specs.declared.ValuedTwo.{ValuedTwo}
-
--- the relation that a comparison's node says
-abbrev pub unspelled : Spelled.Relation → Relation
-unspelled Less = less
-unspelled AtMost = atMost
-unspelled Equal = equal
-unspelled AtLeast = atLeast
-unspelled Greater = greater
 
 -- the first two layers have changed places, and no other number has changed
 pub record Swapped (T : ℕ) (before after : List ℕ) : Type 0 where

@@ -7,10 +7,9 @@ use native.Mathlib.Nat.{le-antisymm}
 use lib.ListN.{length}
 use Rattle.model.specs.Layout.{fieldsOf}
 use Rattle.sentence.specs.declared.Node.{Node}
-use Rattle.sentence.proofs.Once.{spelled-once}
 use Rattle.meaning.specs.Tree.{Formula}
 use Rattle.meaning.specs.Meaning.{numerator, denominator}
-use Rattle.trees.proofs.Once.{formula-once}
+use Rattle.trees.proofs.Once.{sentence-once}
 use Rattle.chain.specs.Of.{chainOf}
 use Rattle.numerator.specs.declared.Answer.{Answer}
 use Rattle.numerator.specs.declared.Answer.the-variants.{Counted, Refused}
@@ -22,10 +21,9 @@ one-numerator (refused {n = n} row least) (refused {n = m} row′ least′) = (a
 one-numerator (refused {n = n} row least) (answered f s none) = absurd (none n row)
 one-numerator (answered f s none) (refused {n = n} row least) = absurd (none n row)
 one-numerator {file} {tuple = tuple} {number = number} (answered f s none) (answered g s′ none′) =
-    let one = spelled-once s s′ in
-    let body : f ≡ g = formula-once f g [] [] (ap (λ (l : List Node). l ++ []) (one .1)) .0 in (
+    let one = sentence-once f g s s′ in (
       ap₂ (λ (ps : List Bool) (h : Formula).
           Counted (numerator (numbered h number) (chainOf (fieldsOf file)) (length ps) tuple) (denominator (numbered h number) (fieldsOf file .d) (length ps)))
-          (one .0) body,
+          (one .0) (one .1),
       refl,
     )

@@ -16,14 +16,13 @@ use Rattle.sentence.specs.declared.Slot.{Slot}
 use Rattle.sentence.specs.declared.Sentence.{Sentence}
 use Rattle.sentence.specs.Grammar.{Spells}
 use Rattle.sentence.specs.Calls.{ReadRow, recordOf, nodesOf, slot}
-use Rattle.sentence.proofs.Once.{spelled-once}
 use Rattle.sentence.proofs.RoundTrips.{same-sentence}
 use Rattle.meaning.specs.Lists.{every}
 use Rattle.meaning.specs.Chain.{tupleCount}
 use Rattle.meaning.specs.Tree.{Formula}
 use Rattle.meaning.specs.Size.{exceeds}
 use Rattle.trees.specs.Listed.{formulaNodes}
-use Rattle.trees.proofs.Once.{formula-once}
+use Rattle.trees.proofs.Once.{sentence-once}
 use Rattle.chain.specs.Of.{chainOf}
 use Rattle.question.specs.Rows.{labelRight, QuestionRow, area, model, sentence, labels, size, tuples, Decided, refused, accepted}
 use Rattle.question.specs.Working.{ModelRead, SentenceRead}
@@ -61,9 +60,7 @@ module _ {file text : List ℕ} {m : Model} {s : Sentence} (a : ModelRead file m
 
   -- the text's sentence is the one that was read
   pub one : {ps : List Bool} (f : Formula) → Spells ps (formulaNodes f) text → (ps ≡ b .prefix) × (f ≡ b .body)
-  one f sp =
-      let e = spelled-once sp (b .spelled) in
-      (e .0, formula-once f (b .body) [] [] (ap (λ (l : List Node). l ++ []) (e .1)) .0)
+  one f sp = sentence-once f (b .body) sp (b .spelled)
 
   -- the rows that are left, of the model and the sentence that were read
   pub data Late : ℕ → Type 0 where

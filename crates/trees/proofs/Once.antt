@@ -1,26 +1,21 @@
 -- A list of nodes begins with at most one tree. Assumes nothing.
 use Prim.Native.Nat.{ℕ}
+use mathlib.Core.Bool.{Bool}
 use mathlib.Core.List.{List, [], _∷_, _++_, append-assoc}
 use mathlib.Core.Path.{_≡_, refl, sym, ap, ap₂, subst, _∙_}
 use Rattle.sentence.specs.declared.Relation.the-variants.{Less, AtMost, Equal, AtLeast, Greater}
 use Rattle.sentence.specs.declared.Relation as Spelled
 use Rattle.sentence.specs.declared.Node.{Node}
 use Rattle.sentence.specs.declared.Node.the-variants.{True, Label, Not, And, Compare, Probability, Constant, Sum, Difference, Product, Next, Until}
+use Rattle.sentence.specs.Grammar.{Spells}
+use Rattle.sentence.proofs.Once.{spelled-once}
 use Rattle.meaning.specs.Tree.{Relation, less, atMost, equal, atLeast, greater}
 use Rattle.meaning.specs.Tree.{Formula, always, labelled, negation, both, compare}
 use Rattle.meaning.specs.Tree.{Expression, probability, constant, sum, difference, product}
 use Rattle.meaning.specs.Tree.{PathFormula, next, until}
-use Rattle.trees.specs.Listed.{relationOf, formulaNodes, expressionNodes, pathNodes}
+use Rattle.trees.specs.Listed.{relationOf, unspelled, formulaNodes, expressionNodes, pathNodes}
 
--- the comparison of a node's relation
-abbrev spelled : Spelled.Relation → Relation
-spelled Less = less
-spelled AtMost = atMost
-spelled Equal = equal
-spelled AtLeast = atLeast
-spelled Greater = greater
-
-spelled-relation : (r : Relation) → spelled (relationOf r) ≡ r
+spelled-relation : (r : Relation) → unspelled (relationOf r) ≡ r
 spelled-relation less = refl
 spelled-relation atMost = refl
 spelled-relation equal = refl
@@ -33,7 +28,7 @@ FormulaBegins True l f s = (f ≡ always) × (l ≡ s)
 FormulaBegins (Label a i) l f s = (f ≡ labelled a i) × (l ≡ s)
 FormulaBegins Not l f s = (g : Formula) × (f ≡ negation g) × (l ≡ formulaNodes g ++ s)
 FormulaBegins And l f s = (g : Formula) × (h : Formula) × (f ≡ both g h) × (l ≡ formulaNodes g ++ (formulaNodes h ++ s))
-FormulaBegins (Compare r) l f s = (a : Expression) × (b : Expression) × (f ≡ compare (spelled r) a b) × (l ≡ expressionNodes a ++ (expressionNodes b ++ s))
+FormulaBegins (Compare r) l f s = (a : Expression) × (b : Expression) × (f ≡ compare (unspelled r) a b) × (l ≡ expressionNodes a ++ (expressionNodes b ++ s))
 FormulaBegins Probability l f s = ⊥
 FormulaBegins (Constant a b) l f s = ⊥
 FormulaBegins Sum l f s = ⊥
@@ -127,7 +122,7 @@ mutual
       let i : (a ≡ b .0) × (expressionNodes d ++ r ≡ expressionNodes (b .1) ++ s) =
       expression-once a (b .0) (expressionNodes d ++ r) (expressionNodes (b .1) ++ s) (sym (append-assoc (expressionNodes a) (expressionNodes d) r) ∙ b .3) in
       let j : (d ≡ b .1) × (r ≡ s) = expression-once d (b .1) r s (i .1) in
-      (ap (λ (x : Relation). compare x a d) (sym (spelled-relation c)) ∙ ap₂ (compare (spelled (relationOf c))) (i .0) (j .0) ∙ sym (b .2), j .1)
+      (ap (λ (x : Relation). compare x a d) (sym (spelled-relation c)) ∙ ap₂ (compare (unspelled (relationOf c))) (i .0) (j .0) ∙ sym (b .2), j .1)
 
   pub expression-once : (a g : Expression) (r s : List Node) → expressionNodes a ++ r ≡ expressionNodes g ++ s → (a ≡ g) × (r ≡ s)
   expression-once (probability w) g r s e =
@@ -165,3 +160,10 @@ mutual
       formula-once f (b .0) (formulaNodes h ++ r) (formulaNodes (b .1) ++ s) (sym (append-assoc (formulaNodes f) (formulaNodes h) r) ∙ b .3) in
       let j : (h ≡ b .1) × (r ≡ s) = formula-once h (b .1) r s (i .1) in
       (ap₂ (until k1 k2) (i .0) (j .0) ∙ sym (b .2), j .1)
+
+-- a text is spelled by one prefix and one body
+pub sentence-once : {text : List ℕ} {ps qs : List Bool} (f g : Formula) → Spells ps (formulaNodes f) text → Spells qs (formulaNodes g) text →
+    (ps ≡ qs) × (f ≡ g)
+sentence-once f g s t =
+    let e = spelled-once s t in
+    (e .0, formula-once f g [] [] (ap (λ (l : List Node). l ++ []) (e .1)) .0)

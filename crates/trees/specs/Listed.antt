@@ -17,6 +17,14 @@ relationOf equal = Equal
 relationOf atLeast = AtLeast
 relationOf greater = Greater
 
+-- and the comparison of a node's relation
+abbrev pub unspelled : Spelled.Relation → Relation
+unspelled Less = less
+unspelled AtMost = atMost
+unspelled Equal = equal
+unspelled AtLeast = atLeast
+unspelled Greater = greater
+
 unfoldable mutual
   pub formulaNodes : Formula → List Node
   formulaNodes always = True ∷ []

@@ -7,10 +7,9 @@ use native.Mathlib.Nat.{le-antisymm}
 use native.Mathlib.Omega.{arith}
 use Rattle.model.specs.Layout.{fieldsOf}
 use Rattle.sentence.specs.declared.Node.{Node}
-use Rattle.sentence.proofs.Once.{spelled-once}
 use Rattle.meaning.specs.Tree.{Formula, letterOf}
 use Rattle.meaning.specs.Meaning.{verdict}
-use Rattle.trees.proofs.Once.{formula-once}
+use Rattle.trees.proofs.Once.{sentence-once}
 use Rattle.chain.specs.Of.{chainOf}
 use Rattle.question.proofs.Numbers.{row-few}
 use Rattle.verdict.specs.declared.Answer.{Answer}
@@ -23,9 +22,8 @@ one-verdict (refused {n = n} row least) (refused {n = m} row′ least′) = (ap 
 one-verdict (refused {n = n} row least) (answered f s none) = absurd (none n row)
 one-verdict (answered f s none) (refused {n = n} row least) = absurd (none n row)
 one-verdict {file} (answered f s none) (answered g s′ none′) =
-    let one = spelled-once s s′ in
-    let body : f ≡ g = formula-once f g [] [] (ap (λ (l : List Node). l ++ []) (one .1)) .0 in
-    (ap₂ (λ (ps : List Bool) (h : Formula). answerOf (verdict (chainOf (fieldsOf file)) (map letterOf ps) h)) (one .0) body, refl)
+    let one = sentence-once f g s s′ in
+    (ap₂ (λ (ps : List Bool) (h : Formula). answerOf (verdict (chainOf (fieldsOf file)) (map letterOf ps) h)) (one .0) (one .1), refl)
 
 answered-few : (t : Bool) → numberOf (answerOf t) ≤ 11
 unfolding answerOf numberOf
