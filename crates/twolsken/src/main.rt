@@ -6,6 +6,7 @@ mod file;
 mod line;
 mod text;
 
+ghost use Rattle.twolsken.specs.Texts.{AnswersFiles};
 use file::Contents;
 use file::read_file;
 use libc::STDOUT_FILENO;
@@ -14,7 +15,9 @@ use text::without_newline;
 use verdict::Answer;
 
 // The verdict on the bytes of the two files, with a work area of the size that row 1 asks for.
-fn answer(model: &[u8], sentence: &[u8]) -> Answer {
+fn answer(model: &[u8], sentence: &[u8]) -> Answer
+    ensures { λ r. ⌜ AnswersFiles (now (model .entry)) (now (sentence .entry)) r ⌝ }
+{
     let mut work = [0u64; 8192];
     verdict::verdict(model, without_newline(sentence), &mut work)
 }
@@ -28,7 +31,7 @@ fn print(answer: Answer) {
     }
 }
 
-// A file of any size is judged by its first bytes, as many as tell that it is too long (the laws are in proofs/Enough).
+// A file of any size is judged by its first bytes, as many as tell that it is too long (proofs/AnySize, `any-size`).
 // - A model file of over 3,072 bytes is refused 2, whatever stands in it and in the sentence: with this work area no
 //   smaller number applies. So 3,073 bytes of it are as good as all.
 // - A text of over 400 bytes is 6 unless a number below 6 applies, and those ask the model alone. A file of 402 bytes or

@@ -1,0 +1,31 @@
+-- `answer` meets its contract: the verdict's, on the text without its newline and a work area of zeros.
+use borrow.Author.Needs.{needs}
+use Prim.Native.Nat.{ℕ}
+use mathlib.Core.List.{List}
+use mathlib.Core.Path.{_≡_, subst}
+use lib.ListN.{replicate, length-replicate}
+use Rattle.verdict.specs.Calls.{VerdictAnswer}
+use Rattle.twolsken.specs.Texts.{withoutNewline}
+use Rattle.twolsken.proofs.answer.Statement.{statement}
+use Rattle.twolsken.proofs.answer.Tie as tie
+
+without-newline-requires : tie.Need-without-newline-requires
+without-newline-requires c κs = search needs
+
+slice-aggregate-verdict : tie.Need-slice-aggregate-verdict
+slice-aggregate-verdict c = search needs
+
+verdict-requires : tie.Need-verdict-requires
+verdict-requires c κs = search needs
+
+returns : tie.Need-returns
+returns c = record {
+  before = replicate 8192 0;
+  after = c .before .verdict .last .1 .1 .0;
+  enough = length-replicate {A = ℕ} 8192 0;
+  answer = subst (λ (text : List ℕ). VerdictAnswer (c .before .before .before .before .before .before .args .model .now) text (replicate 8192 0) (c .before .verdict .result) (c .before .verdict .last .1 .1 .0)) (c .before .before .before .without-newline .ensures) (c .before .verdict .ensures);
+}
+
+pub answer-spec : {M : Type 1} → statement M
+answer-spec =
+    tie.close (tie.spec without-newline-requires slice-aggregate-verdict verdict-requires returns)
