@@ -3,14 +3,14 @@ use Prim.Native.Nat.{ℕ, _+_, _*_, _-_, _/_, _%_, _^_, _≤_, _<_}
 use mathlib.Core.List.{List}
 use mathlib.Core.Path.{_≡_, refl, sym, ap, ap₂, subst, _∙_}
 use native.Mathlib.Decide.{decLt}
-use native.Mathlib.Nat.{mod-lt, div-add-mod', div-lt-iff-lt-mul, mul-div-cancel, le-trans, mul-le-mul-right}
+use native.Mathlib.Nat.{mod-lt, div-add-mod', div-lt-iff-lt-mul, mul-div-cancel, le-trans, mul-le-mul-left, mul-le-mul-right}
 use native.Mathlib.Omega.{arith}
 use lib.Arith.{digits-div, digits-mod, digits-lt}
 use lib.ListN.{length, getD, set, length-set}
 use lib.Seq.{getD-set-same, getD-set-other}
 use Rattle.counting.specs.Below.{sum}
 use Rattle.counting.proofs.Laws.{sum-same}
-use Rattle.layers.specs.Columns.{weightIn, stepped, ColumnFits, ColumnStepped, start, LayerFits, LayerStepped}
+use Rattle.layers.specs.Columns.{weightIn, stepped, ColumnIn, ColumnFits, ColumnStepped, start, LayerFits, LayerStepped}
 use Rattle.layers.proofs.Sums.{sum-bounded}
 use Rattle.layers.proofs.Written.{kept-from}
 
@@ -20,6 +20,12 @@ use Rattle.layers.proofs.Written.{kept-from}
 same-state : (stride a b : ℕ) → 1 ≤ stride → a * stride ≡ b * stride → a ≡ b
 same-state stride a b h e =
     sym (mul-div-cancel a h) ∙ ap (λ (x : ℕ). x / stride) e ∙ mul-div-cancel b h
+
+-- one stride past a place of the column is near too
+pub next-near : {N stride at : ℕ} {w : List ℕ} → ColumnIn N stride at w → (s : ℕ) → s < N → at + (s + 1) * stride ≤ 4096
+next-near {N} {stride} h s less =
+    let p = mul-le-mul-right {m = s + 1} {n = N} stride (omega arith) in
+    omega (arith, h .near)
 
 -- the first s states of the column are stepped, the other places are as before
 pub record ColumnStepping (rows : List (List ℕ)) (N stride at : ℕ) (before : List ℕ) (s : ℕ)
@@ -38,10 +44,10 @@ module _ {rows : List (List ℕ)} {N stride at : ℕ} {before : List ℕ} where
     same = λ k h. refl;
   }
 
-  pub column-next : {s v : ℕ} {after : List ℕ} → ColumnFits rows N stride at before →
+  column-next-at : {s v : ℕ} {after : List ℕ} → ColumnFits rows N stride at before →
       ColumnStepping rows N stride at before s after → s < N → v ≡ stepped rows N stride before at s →
       ColumnStepping rows N stride at before (s + 1) (set after (at + s * stride) v)
-  column-next {s} {v} {after} fits h less e = record {
+  column-next-at {s} {v} {after} fits h less e = record {
     upTo = omega arith;
     long = length-set after (at + s * stride) v ∙ h .long;
     each = λ t l. here t l (decLt t s);
@@ -59,10 +65,17 @@ module _ {rows : List (List ℕ)} {N stride at : ℕ} {before : List ℕ} where
           h .each t small
       here t l (no large) =
           let p : s ≡ t = omega arith in
-          let room : at + s * stride < length after = omega (arith, h .long, fits .inside s less) in
+          let room : at + s * stride < length after = omega (arith, h .long, fits .lies .inside s less) in
           subst
           (λ (x : ℕ). getD (set after (at + s * stride) v) (at + x * stride) 0 ≡ stepped rows N stride before at x) p
           (getD-set-same after (at + s * stride) v 0 room ∙ e)
+
+  pub column-next : {s place v : ℕ} {after : List ℕ} → ColumnFits rows N stride at before →
+      ColumnStepping rows N stride at before s after → s < N → place ≡ at + s * stride →
+      v ≡ stepped rows N stride before at s → ColumnStepping rows N stride at before (s + 1) (set after place v)
+  column-next {s} {place} {v} {after} fits h less there e =
+      subst (λ (x : ℕ). ColumnStepping rows N stride at before (s + 1) (set after x v)) (sym there)
+      (column-next-at fits h less e)
 
   pub column-all : {s : ℕ} {after : List ℕ} → ColumnStepping rows N stride at before s after → N ≤ s →
       ColumnStepped rows N stride at before after
@@ -125,6 +138,53 @@ module _ (N stride : ℕ) (some : 1 ≤ N) (apart : 1 ≤ stride) where
       let q : k / stride / N < above = div-lt-iff-lt-mul some .1 p in
       digits-lt q (mod-lt k apart)
 
+  -- where the column starts that is b columns past a rows of `stride` columns
+  start-at : (a b : ℕ) → b < stride →
+      (startOf N stride (a * stride + b) ≡ a * (stride * N) + b) × ((a * stride + b) % stride ≡ b)
+  start-at a b l = (
+    ap₂ (λ (x y : ℕ). x * (stride * N) + y) (digits-div a l) (digits-mod a l),
+    digits-mod a l,
+  )
+
+-- column j starts at `at`, and is number `within` of its row of `stride` columns
+pub record Counted (N stride j at within : ℕ) : Type 0 where
+  pub begins : at ≡ startOf N stride j
+  pub passed : within ≡ j % stride
+
+module _ {N stride : ℕ} (some : 1 ≤ N) (apart : 1 ≤ stride) where
+  -- a column's start, by its row and its number in it
+  counted-at : {j at : ℕ} (a b : ℕ) → b < stride → j ≡ a * stride + b → at ≡ a * (stride * N) + b →
+      Counted N stride j at b
+  counted-at a b l e f =
+      let p = start-at N stride some apart a b l in record {
+        begins = f ∙ sym (p .0) ∙ ap (startOf N stride) (sym e);
+        passed = sym (p .1) ∙ ap (λ (x : ℕ). x % stride) (sym e);
+      }
+
+  pub counted-as : {j at within at′ within′ : ℕ} → Counted N stride j at within → at′ ≡ at → within′ ≡ within →
+      Counted N stride j at′ within′
+  counted-as h e f = record { begins = e ∙ h .begins; passed = f ∙ h .passed }
+
+  pub counted-none : Counted N stride 0 0 0
+  counted-none = counted-at 0 0 apart (omega arith) (omega arith)
+
+  module _ {j at within : ℕ} (h : Counted N stride j at within) where
+    pub counted-more : (within + 1 ≡ stride → ⊥) → Counted N stride (j + 1) (at + 1) (within + 1)
+    counted-more more =
+        let p = div-add-mod' j stride in
+        let less = mod-lt j apart in
+        let passed = h .passed in
+        let begins = h .begins in
+        counted-at (j / stride) (within + 1) (omega arith) (omega arith) (omega arith)
+
+    pub counted-row : within + 1 ≡ stride → Counted N stride (j + 1) (at + 1 + (stride * N - stride)) 0
+    counted-row last =
+        let p = div-add-mod' j stride in
+        let passed = h .passed in
+        let begins = h .begins in
+        let long = mul-le-mul-left stride some in
+        counted-at (j / stride + 1) 0 apart (omega arith) (omega arith)
+
 -- the columns before j are stepped, the others and what lies past the layer are as before
 pub record LayerStepping (rows : List (List ℕ)) (N stride T : ℕ) (before : List ℕ) (j : ℕ)
     (after : List ℕ) : Type 0 where
@@ -173,9 +233,12 @@ module _ {rows : List (List ℕ)} {N stride T : ℕ} {before : List ℕ} where
 
       pub column-fits : ColumnFits rows N stride (startOf N stride j) after
       column-fits = record {
-        states = fits .states;
+        lies = record {
+          states = fits .states;
+          near = omega (arith, column-small, fits .few);
+          inside = λ s l. omega (arith, inside s l, fits .room, h .long);
+        };
         apart = fits .apart;
-        inside = λ s l. omega (arith, inside s l, fits .room, h .long);
         fits = λ s l.
             le-trans
             (sum-bounded N (weightIn rows s) (λ t. getD after (startOf N stride j + t * stride) 0) (fits .bound)

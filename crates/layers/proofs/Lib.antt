@@ -4,6 +4,7 @@ pub mod Places
 pub mod Truth
 pub mod Sums
 pub mod Columns
+pub mod Namings
 pub mod Joint
 pub mod Tails
 pub mod Untils

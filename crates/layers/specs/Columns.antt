@@ -15,11 +15,21 @@ weightIn rows s t = getD (getD rows s []) t 0
 abbrev pub stepped : List (List ℕ) → (N stride : ℕ) → List ℕ → (at s : ℕ) → ℕ
 stepped rows N stride w at s = sum N (λ t. weightIn rows s t * getD w (at + t * stride) 0)
 
+-- a column lies in the list
+pub record ColumnIn (N stride at : ℕ) (w : List ℕ) : Type 0 where
+  pub states : N ≤ 32
+  pub near : at + N * stride ≤ 4096
+  pub inside : (s : ℕ) → s < N → at + s * stride < length w
+
+-- the column's numbers have been copied
+pub record ColumnRead (N stride at : ℕ) (w column : List ℕ) : Type 0 where
+  pub long : length column ≡ 32
+  pub each : (s : ℕ) → s < N → getD column s 0 ≡ getD w (at + s * stride) 0
+
 -- a column lies in the list, and no sum of its step is above 2^62
 pub record ColumnFits (rows : List (List ℕ)) (N stride at : ℕ) (w : List ℕ) : Type 0 where
-  pub states : N ≤ 32
+  pub lies : ColumnIn N stride at w
   pub apart : 1 ≤ stride
-  pub inside : (s : ℕ) → s < N → at + s * stride < length w
   pub fits : (s : ℕ) → s < N → stepped rows N stride w at s ≤ 2 ^ 62
 
 -- the column has been stepped, and no other number has changed

@@ -1,82 +1,106 @@
-// A joint step of a layer in place, one variable after another: n × N products a tuple.
+// A joint step of a layer in place, one variable after another: n × N products a tuple, or n times as many as a row has
+// weights that are not 0, where each has few.
 ghost use mathlib.Core.Path.{_≡_};
 ghost use Prim.Native.Nat.{ℕ, _+_, _*_, _^_, _≤_, _<_};
 ghost use lib.ListN.{length, getD};
-ghost use Rattle.counting.specs.Below.{sum};
-ghost use Rattle.layers.specs.Columns.{ColumnFits, ColumnStepped, LayerFits, LayerStepped};
+ghost use Rattle.layers.specs.Sparse.{RowsNamed};
+ghost use Rattle.layers.specs.Columns.{ColumnIn, ColumnRead, ColumnFits, ColumnStepped, LayerFits, LayerStepped};
 ghost use Rattle.layers.specs.Steps.{StepFits, Stepped};
+use crate::sparse;
 
-// A weight as a wider number.
-fn wide(x: u16) -> u64
-    ensures { λ r. ⌜ (r ≡ x) × (r < 65536) ⌝ }
+// Reads the numbers of a column.
+fn read_column(states: usize, stride: usize, at: usize, layer: &[u64], column: &mut [u64; 32])
+    requires { ⌜ ColumnIn states stride at (now layer) × (length (now column) ≡ 32) ⌝ }
+    ensures { λ r. ⌜ ColumnRead states stride at (now (layer .entry)) (now (column .exit)) ⌝ }
 {
-    x as u64
-}
-
-// The sum over the states of a row's weight times a column's number.
-fn dot(row: &[u16; 32], column: &[u64; 32], states: usize) -> u64
-    requires { ⌜ (states ≤ 32) × (sum states (λ t. getD (now row) t 0 * getD (now column) t 0) ≤ 2 ^ 62) ⌝ }
-    ensures { λ r. ⌜ r ≡ sum states (λ t. getD (now (row .entry)) t 0 * getD (now (column .entry)) t 0) ⌝ }
-{
-    let mut total: u64 = 0;
-    let mut t: usize = 0;
-    while t < states {
-        total += wide(row[t]) * column[t];
-        t += 1;
-    }
-    total
-}
-
-// The numbers of a column.
-fn column_at(states: usize, stride: usize, at: usize, layer: &[u64]) -> [u64; 32]
-    requires { ⌜ (states ≤ 32) × ((s : ℕ) → s < states → at + s * stride < length (now layer)) ⌝ }
-    ensures { λ r. ⌜ ((s : ℕ) → s < states → getD r s 0 ≡ getD (now (layer .entry)) (at + s * stride) 0) ⌝ }
-{
-    let mut column = [0u64; 32];
+    let mut place = at;
     let mut s: usize = 0;
     while s < states {
-        column[s] = layer[at + s * stride];
+        column[s] = layer[place];
+        place += stride;
         s += 1;
     }
-    column
 }
 
 // Steps the variable's state in one column: its numbers are copied, then each is the sum of its state's row.
-fn step_column(rows: &[[u16; 32]; 32], states: usize, stride: usize, at: usize, layer: &mut [u64])
-    requires { ⌜ ColumnFits (now rows) states stride at (now layer) ⌝ }
-    ensures { λ r. ⌜ ColumnStepped (now (rows .entry)) states stride at (now (layer .entry)) (now (layer .exit)) ⌝ }
+fn step_column(
+    rows: &[[u16; 32]; 32],
+    places: &[[u8; 8]; 32],
+    most: usize,
+    states: usize,
+    stride: usize,
+    at: usize,
+    layer: &mut [u64],
+    column: &mut [u64; 32],
+)
+    requires { ⌜ ColumnFits (now rows) states stride at (now layer) × RowsNamed (now rows) states most (now places) × (length (now column) ≡ 32) ⌝ }
+    ensures { λ r. ⌜ ColumnStepped (now (rows .entry)) states stride at (now (layer .entry)) (now (layer .exit)) × (length (now (column .exit)) ≡ 32) ⌝ }
 {
-    let column = column_at(states, stride, at, layer);
+    read_column(states, stride, at, layer, column);
+    let mut place = at;
     let mut s: usize = 0;
     while s < states {
-        layer[at + s * stride] = dot(&rows[s], &column, states);
+        layer[place] = sparse::row_sum(&rows[s], &places[s], column, states, most);
+        place += stride;
         s += 1;
     }
 }
 
-// Steps one variable at all tuples. Its state changes every `stride` places: column j starts at the place that the
-// states of the variables before and after it count.
+// Steps one variable at all tuples. Its state changes every `stride` places: where `stride` columns have been stepped,
+// the next starts past their last places.
 fn step_variable(
     rows: &[[u16; 32]; 32],
+    places: &[[u8; 8]; 32],
+    most: usize,
     states: usize,
     stride: usize,
     tuples: usize,
     layer: &mut [u64],
 )
-    requires { ⌜ LayerFits (now rows) states stride tuples (now layer) ⌝ }
+    requires { ⌜ LayerFits (now rows) states stride tuples (now layer) × RowsNamed (now rows) states most (now places) ⌝ }
     ensures { λ r. ⌜ LayerStepped (now (rows .entry)) states stride tuples (now (layer .entry)) (now (layer .exit)) ⌝ }
 {
     let columns = tuples / states;
+    let mut column = [0u64; 32];
+    let mut at: usize = 0;
+    let mut within: usize = 0;
     let mut j: usize = 0;
     while j < columns {
-        let at = j / stride * (stride * states) + j % stride;
-        step_column(rows, states, stride, at, layer);
+        step_column(rows, places, most, states, stride, at, layer, &mut column);
+        at += 1;
+        within += 1;
+        if within == stride {
+            at += stride * states - stride;
+            within = 0;
+        }
         j += 1;
     }
 }
 
-// A joint step: all n variables step, the last first. The layer of a function becomes the layer of its step; from a
-// formula's truth it is the numerator of next.
+// A joint step by the places that name the rows' weights: all n variables step, the last first.
+pub(crate) fn joint_named(
+    rows: &[[u16; 32]; 32],
+    places: &[[u8; 8]; 32],
+    most: usize,
+    states: usize,
+    variables: usize,
+    tuples: usize,
+    work: &mut [u64],
+)
+    requires { ⌜ StepFits (now rows) states variables tuples (now work) × RowsNamed (now rows) states most (now places) ⌝ }
+    ensures { λ r. ⌜ Stepped (now (rows .entry)) states variables tuples (now (work .entry)) (now (work .exit)) ⌝ }
+{
+    let mut stride: usize = 1;
+    let mut m: usize = 0;
+    while m < variables {
+        step_variable(rows, places, most, states, stride, tuples, work);
+        stride = stride * states;
+        m += 1;
+    }
+}
+
+// A joint step. The layer of a function becomes the layer of its step; from a formula's truth it is the numerator of
+// next.
 pub fn joint_step(
     rows: &[[u16; 32]; 32],
     states: usize,
@@ -87,11 +111,7 @@ pub fn joint_step(
     requires { ⌜ StepFits (now rows) states variables tuples (now work) ⌝ }
     ensures { λ r. ⌜ Stepped (now (rows .entry)) states variables tuples (now (work .entry)) (now (work .exit)) ⌝ }
 {
-    let mut stride: usize = 1;
-    let mut m: usize = 0;
-    while m < variables {
-        step_variable(rows, states, stride, tuples, work);
-        stride = stride * states;
-        m += 1;
-    }
+    let mut places = [[0u8; 8]; 32];
+    let most = sparse::name_rows(rows, states, &mut places);
+    joint_named(rows, &places, most, states, variables, tuples, work);
 }

@@ -3,7 +3,9 @@ ghost use mathlib.Core.Path.{_≡_};
 ghost use mathlib.Core.Logic.{_⊎_};
 ghost use Prim.Native.Nat.{ℕ, _+_, _*_, _^_, _≤_, _<_};
 ghost use lib.ListN.{length, getD};
+ghost use Rattle.layers.specs.Sparse.{RowsNamed};
 ghost use Rattle.layers.specs.Untils.{WrittenAt, choice, choiceAt, TurnFits, Turned, UntilFits, UntilTaken};
+use crate::sparse;
 use crate::step;
 
 // x times d, as often as is said.
@@ -67,6 +69,8 @@ fn copy(count: usize, from: usize, to: usize, work: &mut [u64])
 // One layer more: a step of the third layer, then the choice.
 fn turn(
     rows: &[[u16; 32]; 32],
+    places: &[[u8; 8]; 32],
+    most: usize,
     states: usize,
     variables: usize,
     opened: bool,
@@ -74,11 +78,19 @@ fn turn(
     tuples: usize,
     work: &mut [u64],
 )
-    requires { ⌜ TurnFits (now rows) states variables tuples (now work) ⌝ }
+    requires { ⌜ TurnFits (now rows) states variables tuples (now work) × RowsNamed (now rows) states most (now places) ⌝ }
     ensures { λ r. ⌜ Turned (now (rows .entry)) states variables tuples opened all (now (work .entry)) (now (work .exit)) ⌝ }
 {
     let from = tuples + tuples;
-    step::joint_step(rows, states, variables, tuples, &mut work[from..]);
+    step::joint_named(
+        rows,
+        places,
+        most,
+        states,
+        variables,
+        tuples,
+        &mut work[from..],
+    );
     choose(opened, all, tuples, work);
 }
 
@@ -98,13 +110,25 @@ pub fn until(
     requires { ⌜ UntilFits (now rows) states variables tuples d k1 k2 (now work) ⌝ }
     ensures { λ r. ⌜ UntilTaken (now (rows .entry)) states variables tuples d k1 k2 (now (work .entry)) (now (work .exit)) ⌝ }
 {
+    let mut places = [[0u8; 8]; 32];
+    let most = sparse::name_rows(rows, states, &mut places);
     copy(tuples, tuples, tuples + tuples, work);
     let mut all: u64 = 1;
     let mut left: usize = 0;
     while left < k2 {
         let next = left + 1;
         all = scaled(all, d, variables);
-        turn(rows, states, variables, k1 <= k2 - next, all, tuples, work);
+        turn(
+            rows,
+            &places,
+            most,
+            states,
+            variables,
+            k1 <= k2 - next,
+            all,
+            tuples,
+            work,
+        );
         left = next;
     }
     copy(tuples, tuples + tuples, 0, work);

@@ -13,34 +13,36 @@ use Rattle.layers.proofs.until.turn.Tie as tie
 add-from : tie.Need-add-from
 add-from c = search needs
 
-mul-joint-step : tie.Need-mul-joint-step
-mul-joint-step c = search needs
+mul-joint-named : tie.Need-mul-joint-named
+mul-joint-named c = search needs
 
-sub-joint-step : tie.Need-sub-joint-step
-sub-joint-step c = search needs
+sub-joint-named : tie.Need-sub-joint-named
+sub-joint-named c = search needs
 
-part-joint-step-start : tie.Need-part-joint-step-start
-part-joint-step-start c = search needs
+part-joint-named-start : tie.Need-part-joint-named-start
+part-joint-named-start c = search needs
 
-part-joint-step-end : tie.Need-part-joint-step-end
-part-joint-step-end c = search needs
+part-joint-named-end : tie.Need-part-joint-named-end
+part-joint-named-end c = search needs
 
-joint-step-requires : tie.Need-joint-step-requires
-joint-step-requires c κs =
+joint-named-requires : tie.Need-joint-named-requires
+joint-named-requires c κs =
     let start = c .before .before in
-    let args = start .args in
-    subst (λ (l : List ℕ). StepFits (args .rows .now) (args .states) (args .variables) (args .tuples) l)
-    (sym (lent-tail (args .tuples + args .tuples) (args .work .now))) (start .pre .step)
+    let args = start .args in (
+      subst (λ (l : List ℕ). StepFits (args .rows .now) (args .states) (args .variables) (args .tuples) l)
+          (sym (lent-tail (args .tuples + args .tuples) (args .work .now))) (start .pre .0 .step),
+      start .pre .1,
+    )
 
 choose-requires : tie.Need-choose-requires
 choose-requires c κs =
     let start = c .before .before .before .before .before .before in
     let T = start .args .tuples in
     let w = start .args .work .now in
-    let tail = c .before .before .before .joint-step .last .1 .1 .1 .1 .0 in
-    let stepped = c .before .before .before .joint-step .ensures in
-    let back = put-back (T + T) w tail (omega (arith, start .pre .room)) (stepped .kept .long) in
-    omega (arith, back .long, start .pre .room)
+    let tail = c .before .before .before .joint-named .last .1 .1 .1 .1 .1 .1 .0 in
+    let stepped = c .before .before .before .joint-named .ensures in
+    let back = put-back (T + T) w tail (omega (arith, start .pre .0 .room)) (stepped .kept .long) in
+    omega (arith, back .long, start .pre .0 .room)
 
 same-length : tie.Need-same-length
 same-length c = search needs
@@ -50,11 +52,11 @@ returns c =
     let start = c .before .before .before .before .before .before .before .before .before in
     let T = start .args .tuples in
     let w = start .args .work .now in
-    let tail = c .before .before .before .before .before .before .joint-step .last .1 .1 .1 .1 .0 in
-    let stepped = c .before .before .before .before .before .before .joint-step .ensures in
-    let back = put-back (T + T) w tail (omega (arith, start .pre .room)) (stepped .kept .long) in
+    let tail = c .before .before .before .before .before .before .joint-named .last .1 .1 .1 .1 .1 .1 .0 in
+    let stepped = c .before .before .before .before .before .before .joint-named .ensures in
+    let back = put-back (T + T) w tail (omega (arith, start .pre .0 .room)) (stepped .kept .long) in
     let args = start .args in
-    turned-from (start .pre .step .sizes .whole)
+    turned-from (start .pre .0 .step .sizes .whole)
     (subst (λ (l : List ℕ). Stepped (args .rows .now) (args .states) (args .variables) T l tail) (lent-tail (T + T) w)
     stepped)
     back (c .before .before .choose .ensures)
@@ -64,11 +66,11 @@ turn-spec =
     tie.close
     (tie.spec
     add-from
-    mul-joint-step
-    sub-joint-step
-    part-joint-step-start
-    part-joint-step-end
-    joint-step-requires
+    mul-joint-named
+    sub-joint-named
+    part-joint-named-start
+    part-joint-named-end
+    joint-named-requires
     choose-requires
     same-length
     returns)

@@ -2,7 +2,7 @@
 use borrow.Author.Needs.{needs}
 use Prim.Native.Nat.{ℕ, _+_, _*_, _-_, _^_, _≤_}
 use mathlib.Core.Logic.{inl, inr}
-use mathlib.Core.Path.{_≡_, sym, subst, _∙_}
+use mathlib.Core.Path.{_≡_, refl, sym, subst, _∙_}
 use native.Mathlib.Omega.{arith}
 use Rattle.layers.proofs.Untils.{Untiling, untiling-none, untiling-next, untiling-all}
 use Rattle.layers.proofs.Untils.{next-power, power-fits, turn-fits}
@@ -11,23 +11,26 @@ use Rattle.layers.proofs.until.until.Statement.{statement}
 use Rattle.layers.proofs.until.until.Tie as tie
 
 abbrev Inv-loop : tie.InvT-loop
-Inv-loop rows states variables d k1 k2 tuples work₀ all₀ left₀ work all left =
+Inv-loop rows states variables d k1 k2 tuples work₀ places most all₀ left₀ work all left =
     Untiling rows states variables tuples d k1 k2 work₀ all left work
 
 abbrev μ-loop : tie.MeasureT-loop
-μ-loop rows states variables d k1 k2 tuples work₀ all₀ left₀ work all left = k2 - left
+μ-loop rows states variables d k1 k2 tuples work₀ places most all₀ left₀ work all left = k2 - left
+
+name-rows-requires : tie.Need-name-rows-requires Inv-loop μ-loop
+name-rows-requires c κs = (c .before .before .pre .sizes .states, refl)
 
 add-copy : tie.Need-add-copy Inv-loop μ-loop
-add-copy c = omega (arith, c .before .pre .room)
+add-copy c = omega (arith, c .before .before .before .pre .room)
 
 copy-requires : tie.Need-copy-requires Inv-loop μ-loop
 copy-requires c κs =
-    let room = c .before .before .pre .room in
+    let room = c .before .before .before .before .pre .room in
     (omega arith, omega arith, inl (omega arith))
 
 loop-holds : tie.Need-loop-holds Inv-loop μ-loop
 loop-holds c =
-    let pre = c .before .before .before .before .before .pre in
+    let pre = c .before .before .before .before .before .before .before .pre in
     let copied = c .before .before .copy .ensures in
     untiling-none (copied-fits pre copied) (copied-same pre copied)
 
@@ -37,7 +40,7 @@ add-next c = search needs
 scaled-requires : tie.Need-scaled-requires Inv-loop μ-loop
 scaled-requires c κs =
     let at-loop = c .before in
-    let start = at-loop .before .before .before .before .before .before in
+    let start = at-loop .before .before .before .before .before .before .before .before in
     let copied = at-loop .before .before .before .copy .ensures in
     let fits = copied-fits (start .pre) copied in
     let h = at-loop .loop .inv in
@@ -48,28 +51,28 @@ sub-turn c = search needs
 
 turn-requires : tie.Need-turn-requires Inv-loop μ-loop
 turn-requires c κs =
-    let at-loop = c .before .before .before in
-    let start = at-loop .before .before .before .before .before .before in
+    let at-loop = c .before .before .before .before in
+    let start = at-loop .before .before .before .before .before .before .before .before in
     let copied = at-loop .before .before .before .copy .ensures in
     let fits = copied-fits (start .pre) copied in
-    turn-fits fits (at-loop .loop .inv) (omega arith)
+    (turn-fits fits (at-loop .loop .inv) (omega arith), at-loop .before .before .before .before .before .name-rows .ensures)
 
 loop-less : tie.Need-loop-less Inv-loop μ-loop
 loop-less c = search needs
 
 loop-again : tie.Need-loop-again Inv-loop μ-loop
 loop-again c =
-    let at-loop = c .before .before .before .before .before .before in
-    let start = at-loop .before .before .before .before .before .before in
+    let at-loop = c .before .before .before .before .before .before .before in
+    let start = at-loop .before .before .before .before .before .before .before .before in
     let copied = at-loop .before .before .before .copy .ensures in
     let fits = copied-fits (start .pre) copied in
-    untiling-next fits (at-loop .loop .inv) (omega arith) (c .before .before .before .before .scaled .ensures)
+    untiling-next fits (at-loop .loop .inv) (omega arith) (c .before .before .before .before .before .scaled .ensures)
     (c .before .before .turn .ensures)
 
 add-copy-2 : tie.Need-add-copy-2 Inv-loop μ-loop
 add-copy-2 c =
     let at-loop = c .before in
-    let start = at-loop .before .before .before .before .before .before in
+    let start = at-loop .before .before .before .before .before .before .before .before in
     let copied = at-loop .before .before .before .copy .ensures in
     let fits = copied-fits (start .pre) copied in
     omega (arith, start .pre .room)
@@ -77,7 +80,7 @@ add-copy-2 c =
 copy-requires-2 : tie.Need-copy-requires-2 Inv-loop μ-loop
 copy-requires-2 c κs =
     let at-loop = c .before .before in
-    let start = at-loop .before .before .before .before .before .before in
+    let start = at-loop .before .before .before .before .before .before .before .before in
     let copied = at-loop .before .before .before .copy .ensures in
     let fits = copied-fits (start .pre) copied in
     let room = start .pre .room in
@@ -88,7 +91,7 @@ copy-requires-2 c κs =
 same-length : tie.Need-same-length Inv-loop μ-loop
 same-length c =
     let at-loop = c .before .before .before .before .before in
-    let start = at-loop .before .before .before .before .before .before in
+    let start = at-loop .before .before .before .before .before .before .before .before in
     let copied = at-loop .before .before .before .copy .ensures in
     let fits = copied-fits (start .pre) copied in
     c .before .before .copy2 .ensures .long ∙ at-loop .loop .inv .long ∙ copied .long
@@ -96,7 +99,7 @@ same-length c =
 returns : tie.Need-returns Inv-loop μ-loop
 returns c =
     let at-loop = c .before .before .before .before .before in
-    let start = at-loop .before .before .before .before .before .before in
+    let start = at-loop .before .before .before .before .before .before .before .before in
     let copied = at-loop .before .before .before .copy .ensures in
     let fits = copied-fits (start .pre) copied in
     copied-taken (start .pre) copied
@@ -108,6 +111,7 @@ until-spec =
     (tie.spec
     Inv-loop
     μ-loop
+    name-rows-requires
     add-copy
     copy-requires
     loop-holds

@@ -1,17 +1,17 @@
--- `layers::step::joint_step` meets its contract: one variable after another, the last first.
+-- `layers::step::joint_named` meets its contract: one variable after another, the last first.
 use borrow.Author.Needs.{needs}
 use Prim.Native.Nat.{_-_}
 use native.Mathlib.Omega.{arith}
 use Rattle.layers.proofs.Joint.{Stepping, stepping-none, stepping-next, stepping-all, layer-fits, stride-small}
-use Rattle.layers.proofs.step.joint_step.Statement.{statement}
-use Rattle.layers.proofs.step.joint_step.Tie as tie
+use Rattle.layers.proofs.step.joint_named.Statement.{statement}
+use Rattle.layers.proofs.step.joint_named.Tie as tie
 
 abbrev Inv-loop : tie.InvT-loop
-Inv-loop rows states variables tuples work₀ stride₀ m₀ work stride m =
+Inv-loop rows places most states variables tuples work₀ stride₀ m₀ work stride m =
     Stepping rows states variables tuples work₀ m stride work
 
 abbrev μ-loop : tie.MeasureT-loop
-μ-loop rows states variables tuples work₀ stride₀ m₀ work stride m = variables - m
+μ-loop rows places most states variables tuples work₀ stride₀ m₀ work stride m = variables - m
 
 loop-holds : tie.Need-loop-holds Inv-loop μ-loop
 loop-holds c = stepping-none
@@ -20,13 +20,13 @@ step-variable-requires : tie.Need-step-variable-requires Inv-loop μ-loop
 step-variable-requires c κs =
     let at-loop = c .before .before in
     let start = at-loop .before .before in
-    layer-fits (start .pre) (at-loop .loop .inv) (omega arith)
+    (layer-fits (start .pre .0) (at-loop .loop .inv) (omega arith), start .pre .1)
 
 mul-stride : tie.Need-mul-stride Inv-loop μ-loop
 mul-stride c =
     let at-loop = c .before .before .before .before .before in
     let start = at-loop .before .before in
-    omega (arith, stride-small (start .pre) (at-loop .loop .inv) (omega arith))
+    omega (arith, stride-small (start .pre .0) (at-loop .loop .inv) (omega arith))
 
 add-m : tie.Need-add-m Inv-loop μ-loop
 add-m c = search needs
@@ -38,7 +38,7 @@ loop-again : tie.Need-loop-again Inv-loop μ-loop
 loop-again c =
     let at-loop = c .before .before .before .before .before in
     let start = at-loop .before .before in
-    stepping-next (start .pre) (at-loop .loop .inv) (omega arith) (c .before .before .step-variable .ensures)
+    stepping-next (start .pre .0) (at-loop .loop .inv) (omega arith) (c .before .before .step-variable .ensures)
 
 same-length : tie.Need-same-length Inv-loop μ-loop
 same-length c = search needs
@@ -47,10 +47,10 @@ returns : tie.Need-returns Inv-loop μ-loop
 returns c =
     let at-loop = c .before in
     let start = at-loop .before .before in
-    stepping-all (start .pre .sizes) (at-loop .loop .inv) (omega arith)
+    stepping-all (start .pre .0 .sizes) (at-loop .loop .inv) (omega arith)
 
-pub joint-step-spec : {M : Type 1} → statement M
-joint-step-spec =
+pub joint-named-spec : {M : Type 1} → statement M
+joint-named-spec =
     tie.close
     (tie.spec
     Inv-loop

@@ -1,0 +1,84 @@
+-- `layers::sparse::name_rows` meets its contract: row after row.
+use borrow.Author.Needs.{needs}
+use Prim.Native.Nat.{ℕ, _-_, _≤_, _<_}
+use mathlib.Core.List.{[]}
+use mathlib.Core.Path.{_≡_, _∙_}
+use native.Mathlib.Omega.{arith}
+use lib.ListN.{length, getD, length-set}
+use Rattle.layers.proofs.Namings.{rows-next}
+use Rattle.layers.specs.Sparse.{Named}
+use Rattle.layers.proofs.sparse.name_rows.Statement.{statement}
+use Rattle.layers.proofs.sparse.name_rows.Tie as tie
+
+abbrev Inv-loop : tie.InvT-loop
+Inv-loop rows states places₀ most₀ s₀ places most s =
+    (s ≤ states) × (1 ≤ most) × (most ≤ 7) × (length places ≡ 32) ×
+    ((k : ℕ) → k < s → Named (getD rows k []) states most (getD places k []))
+
+abbrev μ-loop : tie.MeasureT-loop
+μ-loop rows states places₀ most₀ s₀ places most s = states - s
+
+loop-holds : tie.Need-loop-holds Inv-loop μ-loop
+loop-holds c = (omega arith, omega arith, omega arith, c .pre .1, λ k l. absurd (omega arith))
+
+mul-name-anew : tie.Need-mul-name-anew Inv-loop μ-loop
+mul-name-anew c = search needs
+
+index-1-name-anew : tie.Need-index-1-name-anew Inv-loop μ-loop
+index-1-name-anew c = search needs
+
+mul-name-anew-2 : tie.Need-mul-name-anew-2 Inv-loop μ-loop
+mul-name-anew-2 c = search needs
+
+index-1-name-anew-2 : tie.Need-index-1-name-anew-2 Inv-loop μ-loop
+index-1-name-anew-2 c = search needs
+
+name-anew-requires : tie.Need-name-anew-requires Inv-loop μ-loop
+name-anew-requires c κs = search needs
+
+returns : tie.Need-returns Inv-loop μ-loop
+returns c = record { few = omega arith; each = λ l. absurd (omega arith) }
+
+larger-requires : tie.Need-larger-requires Inv-loop μ-loop
+larger-requires c κs = search needs
+
+add-s : tie.Need-add-s Inv-loop μ-loop
+add-s c = search needs
+
+loop-less : tie.Need-loop-less Inv-loop μ-loop
+loop-less c = search needs
+
+loop-again : tie.Need-loop-again Inv-loop μ-loop
+loop-again c =
+    let at-loop = c .before .before .before .before .before .before in
+    let start = at-loop .before in
+    let inv = at-loop .loop .inv in
+    let most = c .larger .ensures in (
+      omega arith,
+      omega arith,
+      omega arith,
+      length-set (at-loop .loop .places) (at-loop .loop .s) _ ∙ inv .3,
+      rows-next (start .args .rows .now) (at-loop .loop .places) (inv .3) (omega (arith, start .pre .0)) (inv .4) (c .before .before .name-anew .ensures (omega arith)) (most .0) (most .1),
+    )
+
+returns-2 : tie.Need-returns-2 Inv-loop μ-loop
+returns-2 c = record { few = c .before .loop .inv .2; each = λ some s l. c .before .loop .inv .4 s (omega arith) }
+
+pub name-rows-spec : {M : Type 1} → statement M
+name-rows-spec =
+    tie.close
+    (tie.spec
+    Inv-loop
+    μ-loop
+    loop-holds
+    mul-name-anew
+    index-1-name-anew
+    mul-name-anew-2
+    index-1-name-anew-2
+    name-anew-requires
+    returns
+    larger-requires
+    add-s
+    loop-less
+    loop-again
+    returns-2)

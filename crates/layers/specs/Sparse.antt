@@ -1,0 +1,34 @@
+-- The weights of a row that are not 0, by the states to which they lead.
+use Prim.Native.Nat.{ℕ, _+_, _*_, _≤_, _<_}
+use mathlib.Core.List.{List, []}
+use mathlib.Core.Path.{_≡_}
+use lib.ListN.{length, getD}
+use Rattle.counting.specs.Below.{sum}
+
+-- the weight that place i names, times g of its state
+abbrev pub namedAt : (row places : List ℕ) → (ℕ → ℕ) → ℕ → ℕ
+namedAt row places g i = getD row (getD places i 0) 0 * g (getD places i 0)
+
+-- the products of places i and i + 1 with a column
+abbrev pub twoAt : (row places column : List ℕ) → ℕ → ℕ
+twoAt row places column i =
+    namedAt row places (λ t. getD column t 0) i + namedAt row places (λ t. getD column t 0) (i + 1)
+
+-- the weights to the states below t that are not 0 are named by the first `count` of 8 places, once each; the other
+-- places name a weight that is 0. A count above 7 says nothing
+pub record Naming (row : List ℕ) (t count : ℕ) (places : List ℕ) : Type 0 where
+  pub long : length places ≡ 8
+  pub inside : (i : ℕ) → i < 8 → getD places i 0 < 32
+  pub rest : (i : ℕ) → count ≤ i → i < 8 → getD row (getD places i 0) 0 ≡ 0
+  pub each : (g : ℕ → ℕ) → count ≤ 7 → sum count (namedAt row places g) ≡ sum t (λ s. getD row s 0 * g s)
+
+-- a sum over the row is the sum over its first `most` places, or over more of them
+pub record Named (row : List ℕ) (N most : ℕ) (places : List ℕ) : Type 0 where
+  pub inside : (i : ℕ) → i < 8 → getD places i 0 < 32
+  pub each : (g : ℕ → ℕ) (m : ℕ) → most ≤ m → m ≤ 8 →
+      sum m (namedAt row places g) ≡ sum N (λ t. getD row t 0 * g t)
+
+-- so it is in each row, unless `most` is 0
+pub record RowsNamed (rows : List (List ℕ)) (N most : ℕ) (places : List (List ℕ)) : Type 0 where
+  pub few : most ≤ 7
+  pub each : 1 ≤ most → (s : ℕ) → s < N → Named (getD rows s []) N most (getD places s [])

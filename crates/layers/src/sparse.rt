@@ -1,0 +1,165 @@
+// Sums of products over the weights that are not 0. Where the windows are long D is small, and a row has at most D of them.
+ghost use mathlib.Core.Path.{_≡_};
+ghost use Prim.Native.Nat.{ℕ, _+_, _*_, _^_, _≤_, _<_};
+ghost use lib.ListN.{length, getD};
+ghost use Rattle.counting.specs.Below.{sum};
+ghost use Rattle.layers.specs.Sparse.{twoAt, Naming, Named, RowsNamed};
+
+// A weight as a wider number.
+fn wide(x: u16) -> u64
+    ensures { λ r. ⌜ (r ≡ x) × (r < 65536) ⌝ }
+{
+    x as u64
+}
+
+// The sum over the states of a row's weight times a column's number.
+fn dot(row: &[u16; 32], column: &[u64; 32], states: usize) -> u64
+    requires { ⌜ (states ≤ 32) × (sum states (λ t. getD (now row) t 0 * getD (now column) t 0) ≤ 2 ^ 62) ⌝ }
+    ensures { λ r. ⌜ r ≡ sum states (λ t. getD (now (row .entry)) t 0 * getD (now (column .entry)) t 0) ⌝ }
+{
+    let mut total: u64 = 0;
+    let mut t: usize = 0;
+    while t < states {
+        total += wide(row[t]) * column[t];
+        t += 1;
+    }
+    total
+}
+
+// A row's weight times a column's number, at a place.
+fn product(row: &[u16; 32], column: &[u64; 32], place: u8) -> u64
+    requires { ⌜ (place < 32) × (getD (now row) place 0 * getD (now column) place 0 ≤ 2 ^ 62) ⌝ }
+    ensures { λ r. ⌜ r ≡ getD (now (row .entry)) place 0 * getD (now (column .entry)) place 0 ⌝ }
+{
+    let t = place as usize;
+    wide(row[t]) * column[t]
+}
+
+// The products at two places of a row that are neighbours.
+fn pair(row: &[u16; 32], places: &[u8; 8], column: &[u64; 32], i: usize) -> u64
+    requires { ⌜ (i ≤ 6) × ((k : ℕ) → k < 8 → getD (now places) k 0 < 32) × (twoAt (now row) (now places) (now column) i ≤ 2 ^ 62) ⌝ }
+    ensures { λ r. ⌜ r ≡ twoAt (now (row .entry)) (now (places .entry)) (now (column .entry)) i ⌝ }
+{
+    product(row, column, places[i]) + product(row, column, places[i + 1])
+}
+
+// The same sum as `dot`, over the places that name the weights: two at a time, since most rows have one or two.
+fn dot_named(
+    row: &[u16; 32],
+    places: &[u8; 8],
+    column: &[u64; 32],
+    states: usize,
+    most: usize,
+) -> u64
+    requires { ⌜ (most ≤ 7) × Named (now row) states most (now places) × (sum states (λ t. getD (now row) t 0 * getD (now column) t 0) ≤ 2 ^ 62) ⌝ }
+    ensures { λ r. ⌜ r ≡ sum states (λ t. getD (now (row .entry)) t 0 * getD (now (column .entry)) t 0) ⌝ }
+{
+    let mut total = pair(row, places, column, 0);
+    let mut i: usize = 2;
+    while i < most {
+        total += pair(row, places, column, i);
+        i += 2;
+    }
+    total
+}
+
+// The sum over the states: by the places that name the weights, or where there are none (`most` is 0) by all states.
+pub fn row_sum(
+    row: &[u16; 32],
+    places: &[u8; 8],
+    column: &[u64; 32],
+    states: usize,
+    most: usize,
+) -> u64
+    requires { ⌜ (states ≤ 32) × (most ≤ 7) × (1 ≤ most → Named (now row) states most (now places)) × (sum states (λ t. getD (now row) t 0 * getD (now column) t 0) ≤ 2 ^ 62) ⌝ }
+    ensures { λ r. ⌜ r ≡ sum states (λ t. getD (now (row .entry)) t 0 * getD (now (column .entry)) t 0) ⌝ }
+{
+    if most == 0 {
+        return dot(row, column, states);
+    }
+    dot_named(row, places, column, states, most)
+}
+
+// A state to which a row has weight 0, or `states`.
+fn zero_in(row: &[u16; 32], states: usize) -> usize
+    requires { ⌜ states ≤ 32 ⌝ }
+    ensures { λ r. ⌜ (r ≤ states) × (r < states → getD (now (row .entry)) r 0 ≡ 0) ⌝ }
+{
+    let mut t: usize = 0;
+    while t < states {
+        if row[t] == 0 {
+            return t;
+        }
+        t += 1;
+    }
+    states
+}
+
+// Names one more state where its weight is not 0. The count of the named ones is 8 where there are too many.
+fn name(row: &[u16; 32], t: usize, count: usize, places: &mut [u8; 8]) -> usize
+    requires { ⌜ (t < 32) × Naming (now row) t count (now places) ⌝ }
+    ensures { λ r. ⌜ Naming (now (row .entry)) (t + 1) r (now (places .exit)) ⌝ }
+{
+    if row[t] == 0 {
+        return count;
+    }
+    if 7 <= count {
+        return 8;
+    }
+    places[count] = t as u8;
+    count + 1
+}
+
+// Names the states of a row to which its weight is not 0, and says how many they are: 8 where they are too many. All
+// places name a weight that is 0 before.
+fn name_row(row: &[u16; 32], states: usize, places: &mut [u8; 8]) -> usize
+    requires { ⌜ (states ≤ 32) × Naming (now row) 0 0 (now places) ⌝ }
+    ensures { λ r. ⌜ Naming (now (row .entry)) states r (now (places .exit)) ⌝ }
+{
+    let mut count: usize = 0;
+    let mut t: usize = 0;
+    while t < states {
+        count = name(row, t, count, places);
+        t += 1;
+    }
+    count
+}
+
+// The same for any places; 8 too where no weight is 0.
+fn name_anew(row: &[u16; 32], states: usize, places: &mut [u8; 8]) -> usize
+    requires { ⌜ states ≤ 32 ⌝ }
+    ensures { λ r. ⌜ (r ≤ 7 → Named (now (row .entry)) states r (now (places .exit))) ⌝ }
+{
+    let spare = zero_in(row, states);
+    if spare == states {
+        return 8;
+    }
+    *places = [spare as u8; 8];
+    name_row(row, states, places)
+}
+
+// The larger of two counts.
+fn larger(a: usize, b: usize) -> usize
+    requires { ⌜ (a ≤ 7) × (b ≤ 7) ⌝ }
+    ensures { λ r. ⌜ (a ≤ r) × (b ≤ r) × (r ≤ 7) ⌝ }
+{
+    if a < b { b } else { a }
+}
+
+// Names the weights of all rows that are not 0, and says how many a row has at most; 0 where a row has too many.
+pub fn name_rows(rows: &[[u16; 32]; 32], states: usize, places: &mut [[u8; 8]; 32]) -> usize
+    requires { ⌜ (states ≤ 32) × (length (now places) ≡ 32) ⌝ }
+    ensures { λ r. ⌜ RowsNamed (now (rows .entry)) states r (now (places .exit)) ⌝ }
+{
+    let mut most: usize = 1;
+    let mut s: usize = 0;
+    while s < states {
+        let count = name_anew(&rows[s], states, &mut places[s]);
+        if 7 < count {
+            return 0;
+        }
+        most = larger(most, count);
+        s += 1;
+    }
+    most
+}
