@@ -1,22 +1,25 @@
 -- Document 01's starred line on merging M2 holds of the definitions, said of the files.
 use Prim.Native.Nat.{ℕ}
 use mathlib.Core.Bool.{true, false}
-use mathlib.Core.List.{List, [], _∷_}
+use mathlib.Core.List.{List, [], _∷_, _++_, map}
 use mathlib.Core.Path.{_≡_, refl, ap, _∙_}
 use native.Mathlib.Omega.{arith}
 use lib.ListN.{length}
-use Rattle.counting.specs.Below.{sum, every, table}
+use Rattle.counting.specs.Below.{sum, every as everyBelow, table}
 use Rattle.counting.proofs.Laws.{length-table, table-at}
 use Rattle.refusal.specs.Rows.{first}
 use Rattle.model.specs.declared.Model.{Model}
 use Rattle.model.specs.Layout.{fileOf}
 use Rattle.model.specs.Rows.{fieldsRight, rowsRight}
 use Rattle.model.proofs.Roundtrip.{Shaped, fields-written, file-written}
-use Rattle.meaning.specs.Lists.{below, thereIs, total, Each, nothing, further}
+use Rattle.meaning.specs.Lists.{below, every, thereIs, total, Each, nothing, further}
+use Rattle.meaning.specs.Examples.{Claim as Meant, met, claims as starred}
+use Rattle.meaning.proofs.Tests.{and-left, and-right}
+use Rattle.meaning.proofs.Examples.{examples as meant}
 use Rattle.meaning.specs.Merging.{weightInto, member}
 use Rattle.merge.specs.Groups.{overAll, groupingRight, groupsAlike, mergedModel}
 use Rattle.merge.specs.Rows.{groupRows, mergeNumber, mergedFile}
-use Rattle.merge.specs.Examples.{M2, M2merged, merges, Met, claims}
+use Rattle.merge.specs.Examples.{M2, M2merged, Claim, means, merges, refuses, Met, claims}
 use Rattle.merge.proofs.Numbers.{file-accepted, groups-12, groups-13, enough-room}
 use Rattle.merge.proofs.Shape.{shaped}
 
@@ -34,11 +37,11 @@ module _ (m : Model) (fields : fieldsRight m ≡ true) (adds : rowsRight m ≡ t
 -- ---- M2
 
 fields-M2 : fieldsRight M2 ≡ true
-unfolding M2 fieldsRight every table
+unfolding M2 fieldsRight everyBelow table
 fields-M2 = refl
 
 adds-M2 : rowsRight M2 ≡ true
-unfolding M2 rowsRight every table sum
+unfolding M2 rowsRight everyBelow table sum
 adds-M2 = refl
 
 long-M2 : Shaped M2
@@ -49,31 +52,31 @@ long-M2 =
 
 -- 0 1 1 and 0 1 2 pass rows 12 and 13, 0 0 1 passes 12 only, 0 2 2 does not pass 12
 grouped-0-1-1 : groupingRight (M2 .n) (0 ∷ 1 ∷ 1 ∷ []) ≡ true
-unfolding M2 groupingRight every overAll thereIs below
+unfolding M2 groupingRight everyBelow overAll thereIs below
 grouped-0-1-1 = refl
 
 alike-0-1-1 : groupsAlike M2 (0 ∷ 1 ∷ 1 ∷ []) ≡ true
-unfolding M2 groupsAlike every overAll table weightInto total below
+unfolding M2 groupsAlike everyBelow overAll table weightInto total below
 alike-0-1-1 = refl
 
 grouped-0-0-1 : groupingRight (M2 .n) (0 ∷ 0 ∷ 1 ∷ []) ≡ true
-unfolding M2 groupingRight every overAll thereIs below
+unfolding M2 groupingRight everyBelow overAll thereIs below
 grouped-0-0-1 = refl
 
 unlike-0-0-1 : groupsAlike M2 (0 ∷ 0 ∷ 1 ∷ []) ≡ false
-unfolding M2 groupsAlike every overAll table weightInto total below
+unfolding M2 groupsAlike everyBelow overAll table weightInto total below
 unlike-0-0-1 = refl
 
 unused-0-2-2 : groupingRight (M2 .n) (0 ∷ 2 ∷ 2 ∷ []) ≡ false
-unfolding M2 groupingRight every overAll thereIs below
+unfolding M2 groupingRight everyBelow overAll thereIs below
 unused-0-2-2 = refl
 
 grouped-0-1-2 : groupingRight (M2 .n) (0 ∷ 1 ∷ 2 ∷ []) ≡ true
-unfolding M2 groupingRight every overAll thereIs below
+unfolding M2 groupingRight everyBelow overAll thereIs below
 grouped-0-1-2 = refl
 
 alike-0-1-2 : groupsAlike M2 (0 ∷ 1 ∷ 2 ∷ []) ≡ true
-unfolding M2 groupsAlike every overAll table weightInto total below
+unfolding M2 groupsAlike everyBelow overAll table weightInto total below
 alike-0-1-2 = refl
 
 -- what the two merge to
@@ -97,11 +100,20 @@ merging-M2 grouping merged grouped alike e = (
   file-of M2 fields-M2 adds-M2 long-M2 grouping ∙ ap fileOf e,
 )
 
+-- the meaning's claims, and others after them
+all-then : (l : List Meant) (rest : List Claim) → every met l ≡ true → Each Met (length rest) rest →
+    Each Met (length (map means l ++ rest)) (map means l ++ rest)
+unfolding every Met
+all-then [] rest e r = r
+all-then (x ∷ xs) rest e r =
+    further (and-left (met x) (every met xs) e) (all-then xs rest (and-right (met x) (every met xs) e) r)
+
 -- every line marked * agrees with the definitions
-pub examples : Each Met 4 claims
+pub examples : Each Met (length claims) claims
 unfolding Met claims
 examples =
-    further (merging-M2 (0 ∷ 1 ∷ 1 ∷ []) M2merged grouped-0-1-1 alike-0-1-1 merged-0-1-1)
+    all-then starred (merges M2 (0 ∷ 1 ∷ 1 ∷ []) M2merged ∷ refuses M2 (0 ∷ 0 ∷ 1 ∷ []) 13 ∷ refuses M2 (0 ∷ 2 ∷ 2 ∷ []) 12 ∷ merges M2 (0 ∷ 1 ∷ 2 ∷ []) M2 ∷ []) meant
+    (further (merging-M2 (0 ∷ 1 ∷ 1 ∷ []) M2merged grouped-0-1-1 alike-0-1-1 merged-0-1-1)
     (further (number-M2 (0 ∷ 0 ∷ 1 ∷ []) ∙ groups-13 M2 (0 ∷ 0 ∷ 1 ∷ []) 3072 grouped-0-0-1 unlike-0-0-1)
     (further (number-M2 (0 ∷ 2 ∷ 2 ∷ []) ∙ groups-12 M2 (0 ∷ 2 ∷ 2 ∷ []) 3072 unused-0-2-2)
-    (further (merging-M2 (0 ∷ 1 ∷ 2 ∷ []) M2 grouped-0-1-2 alike-0-1-2 merged-0-1-2) nothing)))
+    (further (merging-M2 (0 ∷ 1 ∷ 2 ∷ []) M2 grouped-0-1-2 alike-0-1-2 merged-0-1-2) nothing))))
