@@ -9,4 +9,3 @@ pub mod Joint
 pub mod Tails
 pub mod Untils
 pub mod Paths
-pub mod Areas

@@ -7,9 +7,6 @@ use crate::gen::{question, Rng};
 use crate::second::meaning::{answer, Answer, Way, WORK};
 use crate::second::{self, read_model};
 
-/// About how many products the numerators that the library is asked of one full model may take together.
-const PRODUCTS: usize = 400_000;
-
 /// Compares merging on `cases` random models, groupings and outputs.
 pub fn compare_merge<L: Merges>(lib: &L, cases: usize, seed: u64) -> Tally {
     let mut rng = Rng::new(seed);
@@ -118,20 +115,19 @@ impl Both<'_> {
 }
 
 /// A random sentence for a full model and its merged model.
-fn both<'a>(rng: &mut Rng, merging: &'a Merging, small: &'a [u8]) -> (Both<'a>, usize) {
+fn both<'a>(rng: &mut Rng, merging: &'a Merging, small: &'a [u8]) -> Both<'a> {
     let full = read_model(&merging.file).expect("a model that was merged");
     let most = rng.pick(&[36, 36, 100, 256]);
     let fits = |&letters: &usize| usize::from(full.n).pow(letters as u32) <= most;
     let letters = (1..=rng.between(1, 4)).rev().find(fits).unwrap_or(1);
     let size = rng.between(3, 16);
     let text = question::fitting_sentence(rng, &full, letters, size).text();
-    let cost = second::read_sentence(&text).map_or(0, |sentence| question::cost(&full, &sentence));
-    (Both { merging, small, text, letters }, cost.max(1))
+    Both { merging, small, text, letters }
 }
 
 /// Asks one random sentence of both models, if it is not refused.
 fn keeps<L: Questions>(lib: &L, rng: &mut Rng, tally: &mut Tally, merging: &Merging, small: &[u8]) {
-    let (both, cost) = both(rng, merging, small);
+    let both = both(rng, merging, small);
     let Some((on_full, on_small)) = both.answers() else {
         return;
     };
@@ -139,20 +135,17 @@ fn keeps<L: Questions>(lib: &L, rng: &mut Rng, tally: &mut Tally, merging: &Merg
     tally.holds += u64::from(on_full.holds);
     tally.fails += u64::from(!on_full.holds);
     let all = on_full.paths.iter().map(|fractions| fractions.tops.len()).sum::<usize>();
-    let sample = (all * cost).div_ceil(PRODUCTS).max(1);
     for (path, (fractions, merged)) in on_full.paths.iter().zip(&on_small.paths).enumerate() {
         for (at, &top) in fractions.tops.iter().enumerate() {
             let groups = usize::from(small[1]);
             let there = both.tuples(at).1.iter().fold(0, |number, &g| number * groups + usize::from(g));
             let expected = (top, fractions.bottom);
             agree("a fraction on merged", &expected, &(merged.tops[there], merged.bottom), || both.told());
-            if rng.chance(1, sample) {
-                both.asked(lib, path, at, expected);
-                tally.numerators += 1;
-                tally.reach.fraction(expected.0, expected.1);
-            }
+            both.asked(lib, path, at, expected);
+            tally.numerators += 1;
+            tally.reach.fraction(expected.0, expected.1);
         }
     }
     tally.reach.letters[both.letters] += 1;
-    tally.reach.every += u64::from(all > 0 && sample == 1);
+    tally.reach.every += u64::from(all > 0);
 }
