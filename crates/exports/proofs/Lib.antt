@@ -1,5 +1,3 @@
 -- The laws that the proofs of the exported calls share.
 pub mod Arms
-pub mod Coded
-pub mod Unread
 pub mod Theorems

@@ -9,8 +9,12 @@ use lib.Dec.{eqb}
 use lib.ListN.{length, getD}
 use borrow.Author.Tests.{le-leb}
 use Rattle.counting.proofs.Laws.{and-true, table-at, table-is}
-use Rattle.refusal.specs.Answers.{unlessRefused}
-use Rattle.sentence.specs.Calls.{numberOf, slot, nodesOf, WriteRow}
+use Rattle.refusal.specs.Answers.{Reply, gives, refuses, numberIn, filled, replyOf}
+use Rattle.refusal.proofs.Listed.{one-writing}
+use Rattle.model.specs.declared.Model.{Model}
+use Rattle.model.specs.declared.ModelRead.{ModelRead}
+use Rattle.model.proofs.Theorems.{one-reading}
+use Rattle.sentence.specs.Calls.{slot, nodesOf, WriteRow}
 use Rattle.sentence.specs.Grammar.{Writable}
 use Rattle.sentence.specs.Writing.{AllWritable}
 use Rattle.sentence.specs.declared.Slot.{Slot}
@@ -21,74 +25,87 @@ use Rattle.sentence.specs.declared.Sentence.{Sentence}
 use Rattle.sentence.specs.declared.SentenceRead.{SentenceRead}
 use Rattle.sentence.proofs.ReadAll.{one-answer}
 use Rattle.sentence.proofs.Unique.{all-writable}
-use Rattle.sentence.proofs.WriteAll.{one-writing}
+use Rattle.sentence.proofs.WriteAll.{one-writing as one-text}
 use Rattle.verdict.specs.declared.Answer as Judged
 use Rattle.verdict.specs.declared.Answer.the-variants.{Holds, Fails, Refused}
-use Rattle.verdict.specs.Calls.{VerdictAnswer, numberOf as numberJudged}
+use Rattle.verdict.specs.Calls.{VerdictAnswer, replyOf as replyJudged}
 use Rattle.verdict.proofs.Single.{one-verdict, number-few}
 use Rattle.numerator.specs.declared.Answer as Counted
-use Rattle.numerator.specs.Calls.{valuesOf, numberOf as numberCounted}
+use Rattle.numerator.specs.Calls.{replyOf as replyCounted}
 use Rattle.numerator.proofs.Single.{one-numerator}
-use Rattle.exports.specs.Questions.{verdictCode, GivesVerdict, GivesNumerator}
-use Rattle.exports.specs.Records.{ReadsModel, WritesCoded}
-use Rattle.exports.specs.Sentences.{sentenceHead, letterCode, letterCodes, codesOf, codeOfNode, ReadsSentence, unspelled, nodeOf, nodeOfCode, placesOf, lettersOf, codeOfWritten, WritesSentence}
+use Rattle.exports.specs.Questions.{verdictCode, GivesVerdict, valuesLeft, GivesNumerator}
+use Rattle.exports.specs.Records.{Coded, headOf, ReadsModel, codeOf, WritesModel, Merges}
+use Rattle.exports.specs.Sentences.{sentenceHead, letterCode, letterCodes, codesOf, codeOfNode, ReadsSentence, unspelled, nodeOf, nodeOfCode, placesOf, lettersOf, WritesSentence}
 
 -- ---- any two results that a contract allows are equal
+
+-- a call that returns the code of an answer, where the library's call leaves one answer and one content of what is lent
+module _ {A : Type 0} (code : A → ℕ) (Ensures : A → List ℕ → Type 0)
+    (one : (a b : A) (l l′ : List ℕ) → Ensures a l → Ensures b l′ → (a ≡ b) × (l ≡ l′)) where
+  one-coded : {r r′ : ℕ} {after after′ : List ℕ} → Coded code Ensures after r → Coded code Ensures after′ r′ → (r ≡ r′) × (after ≡ after′)
+  one-coded x y =
+      let same = one (x .answer) (y .answer) _ _ (x .ensures) (y .ensures) in
+      (x .coded ∙ ap code (same .0) ∙ sym (y .coded), same .1)
+
+module _ {before after after′ : List ℕ} {r r′ : ℕ} where
+  pub one-model-written : (m : Model) → WritesModel m before after r → WritesModel m before after′ r′ → (r ≡ r′) × (after ≡ after′)
+  one-model-written m = one-coded codeOf _ (λ a b l l′ x y. one-writing x y)
+
+  pub one-merged : (file grouping : List ℕ) → Merges file grouping before after r → Merges file grouping before after′ r′ →
+      (r ≡ r′) × (after ≡ after′)
+  one-merged file grouping = one-coded codeOf _ (λ a b l l′ x y. one-writing x y)
+
+  pub one-sentence-written : (s : Sentence) → WritesSentence s before after r → WritesSentence s before after′ r′ → (r ≡ r′) × (after ≡ after′)
+  one-sentence-written s = one-coded codeOf _ (λ a b l l′ x y. one-text x y)
+
+  pub one-verdict-given : (file text : List ℕ) → GivesVerdict file text before after r → GivesVerdict file text before after′ r′ →
+      (r ≡ r′) × (after ≡ after′)
+  one-verdict-given file text = one-coded verdictCode _ (λ a b l l′ x y. one-verdict x y)
 
 module _ {head masks h h′ m m′ : List ℕ} {rows w w′ : List (List ℕ)} {r r′ : ℕ} where
   pub one-model-read : {file : List ℕ} → ReadsModel file head masks rows h m w r → ReadsModel file head masks rows h′ m′ w′ r′ →
       (r ≡ r′) × (h ≡ h′) × (m ≡ m′) × (w ≡ w′)
-  one-model-read a b = (
-    a .answered ∙ sym (b .answered),
-    a .head-left ∙ sym (b .head-left),
-    a .masks-left ∙ sym (b .masks-left),
-    a .rows-left ∙ sym (b .rows-left),
-  )
-
--- write model and merge
-pub one-coded : {n : ℕ} {text before after after′ : List ℕ} {r r′ : ℕ} → WritesCoded n text before after r →
-    WritesCoded n text before after′ r′ → (r ≡ r′) × (after ≡ after′)
-one-coded a b = (a .answered ∙ sym (b .answered), a .left ∙ sym (b .left))
+  one-model-read a b =
+      let same : a .read ≡ b .read = one-reading (a .answer) (b .answer) in (
+        a .answered ∙ ap (λ (x : ModelRead). numberIn (replyOf (x .outcome))) same ∙ sym (b .answered),
+        a .head-left ∙ ap (λ (x : ModelRead). filled (replyOf (x .outcome)) (headOf (x .model)) head) same ∙ sym (b .head-left),
+        a .masks-left ∙ ap (λ (x : ModelRead). filled (replyOf (x .outcome)) (x .model .masks) masks) same ∙ sym (b .masks-left),
+        a .rows-left ∙ ap (λ (x : ModelRead). filled (replyOf (x .outcome)) (x .model .weights .rows) rows) same ∙ sym (b .rows-left),
+      )
 
 module _ {text head exists h h′ e e′ : List ℕ} {codes c c′ : List (List ℕ)} {r r′ : ℕ} where
   pub one-sentence-read : ReadsSentence text head exists codes h e c r → ReadsSentence text head exists codes h′ e′ c′ r′ →
       (r ≡ r′) × (h ≡ h′) × (e ≡ e′) × (c ≡ c′)
   one-sentence-read a b =
-      let same : a .read ≡ b .read = one-answer (a .answer) (b .answer) in
-      let n : r ≡ r′ = a .answered ∙ ap (λ (x : SentenceRead). numberOf (x .outcome)) same ∙ sym (b .answered) in (
-        n,
-        a .head-left ∙ ap₂ (λ (k : ℕ) (x : SentenceRead). unlessRefused k (sentenceHead (x .sentence)) head) n same ∙ sym (b .head-left),
-        a .exists-left ∙ ap₂ (λ (k : ℕ) (x : SentenceRead). unlessRefused k (letterCodes (x .sentence .exists)) exists) n same ∙ sym (b .exists-left),
-        a .codes-left ∙ ap₂ (λ (k : ℕ) (x : SentenceRead). unlessRefused k (codesOf (x .sentence .nodes)) codes) n same ∙ sym (b .codes-left),
+      let same : a .read ≡ b .read = one-answer (a .answer) (b .answer) in (
+        a .answered ∙ ap (λ (x : SentenceRead). numberIn (replyOf (x .outcome))) same ∙ sym (b .answered),
+        a .head-left ∙ ap (λ (x : SentenceRead). filled (replyOf (x .outcome)) (sentenceHead (x .sentence)) head) same ∙ sym (b .head-left),
+        a .exists-left ∙ ap (λ (x : SentenceRead). filled (replyOf (x .outcome)) (letterCodes (x .sentence .exists)) exists) same ∙ sym (b .exists-left),
+        a .codes-left ∙ ap (λ (x : SentenceRead). filled (replyOf (x .outcome)) (codesOf (x .sentence .nodes)) codes) same ∙ sym (b .codes-left),
       )
-
-pub one-sentence-written : {s : Sentence} {before after after′ : List ℕ} {r r′ : ℕ} → WritesSentence s before after r →
-    WritesSentence s before after′ r′ → (r ≡ r′) × (after ≡ after′)
-one-sentence-written a b =
-    let same = one-writing (a .answer) (b .answer) in
-    (a .answered ∙ ap codeOfWritten (same .0) ∙ sym (b .answered), same .1)
-
-pub one-verdict-given : {file text before after after′ : List ℕ} {r r′ : ℕ} → GivesVerdict file text before after r →
-    GivesVerdict file text before after′ r′ → (r ≡ r′) × (after ≡ after′)
-one-verdict-given a b =
-    let same = one-verdict (a .answer) (b .answer) in
-    (a .answered ∙ ap verdictCode (same .0) ∙ sym (b .answered), same .1)
 
 module _ {file text tuple before value after after′ v v′ : List ℕ} {path r r′ : ℕ} where
   pub one-numerator-given : GivesNumerator file text tuple path before value after v r →
       GivesNumerator file text tuple path before value after′ v′ r′ → (r ≡ r′) × (after ≡ after′) × (v ≡ v′)
   one-numerator-given a b =
-      let same = one-numerator (a .answer) (b .answer) in
-      let n : r ≡ r′ = a .answered ∙ ap numberCounted (same .0) ∙ sym (b .answered) in (
-        n,
+      let same = one-numerator (a .answer) (b .answer) in (
+        a .answered ∙ ap (λ (x : Counted.Answer). numberIn (replyCounted x)) (same .0) ∙ sym (b .answered),
         same .1,
-        a .value-left ∙ ap₂ (λ (k : ℕ) (x : Counted.Answer). unlessRefused k (valuesOf x) value) n (same .0) ∙ sym (b .value-left),
+        a .value-left ∙ ap (λ (x : Counted.Answer). valuesLeft (replyCounted x) value) (same .0) ∙ sym (b .value-left),
       )
+
+-- ---- the two numbers that are lent for numerator's values
+
+pub values-given : {q : Reply (ℕ × ℕ)} {v : ℕ × ℕ} → q ≡ gives v → (before : List ℕ) → valuesLeft q before ≡ v .0 ∷ v .1 ∷ []
+values-given e before = ap (λ (x : Reply (ℕ × ℕ)). valuesLeft x before) e
+
+pub values-refused : {q : Reply (ℕ × ℕ)} {n : ℕ} → q ≡ refuses n → (before : List ℕ) → valuesLeft q before ≡ before
+values-refused e before = ap (λ (x : Reply (ℕ × ℕ)). valuesLeft x before) e
 
 -- ---- a verdict's code tells the verdict
 
-code-tells : (a b : Judged.Answer) → numberJudged a ≤ 11 → numberJudged b ≤ 11 → verdictCode a ≡ verdictCode b → a ≡ b
-unfolding numberJudged verdictCode
+code-tells : (a b : Judged.Answer) → numberIn (replyJudged a) ≤ 11 → numberIn (replyJudged b) ≤ 11 → verdictCode a ≡ verdictCode b → a ≡ b
+unfolding verdictCode
 code-tells Holds Holds x y e = refl
 code-tells Holds Fails x y e = absurd (omega arith)
 code-tells Holds (Refused n) x y e = absurd (omega arith)
@@ -100,12 +117,12 @@ code-tells (Refused n) Fails x y e = absurd (omega arith)
 code-tells (Refused n) (Refused m) x y e = ap Refused e
 
 -- who is given an answer's code is given that answer
-pub verdict-told : {file text before after : List ℕ} (a : Judged.Answer) → numberJudged a ≤ 11 →
+pub verdict-told : {file text before after : List ℕ} (a : Judged.Answer) → numberIn (replyJudged a) ≤ 11 →
     GivesVerdict file text before after (verdictCode a) → VerdictAnswer file text before a after
 verdict-told {file} {text} {before} {after} a few g =
     subst (λ (x : Judged.Answer). VerdictAnswer file text before x after)
-    (code-tells (g .judged) a (number-few (g .answer)) few (sym (g .answered)))
-    (g .answer)
+    (code-tells (g .answer) a (number-few (g .ensures)) few (sym (g .coded)))
+    (g .ensures)
 
 -- ---- the writer takes what the reader leaves
 

@@ -1,13 +1,13 @@
 -- Sentences as other languages see them: the three numbers that stand for a node, and the record that lent numbers stand for.
-use Prim.Native.Nat.{ℕ, _+_}
+use Prim.Native.Nat.{ℕ}
 use mathlib.Core.Bool.{Bool, true, false, _&&_, not, cond}
 use mathlib.Core.List.{List, [], _∷_}
 use mathlib.Core.Path.{_≡_}
 use lib.Dec.{leb, eqb}
 use lib.ListN.{getD}
 use Rattle.counting.specs.Below.{table}
-use Rattle.refusal.specs.Answers.{unlessRefused}
-use Rattle.sentence.specs.Calls.{numberOf, slot, ReadAnswer, WriteAnswer}
+use Rattle.refusal.specs.Answers.{numberIn, filled, replyOf}
+use Rattle.sentence.specs.Calls.{slot, ReadAnswer, WriteAnswer}
 use Rattle.sentence.specs.declared.Relation.{Relation}
 use Rattle.sentence.specs.declared.Relation.the-variants.{Less, AtMost, Equal, AtLeast, Greater}
 use Rattle.sentence.specs.declared.Node.{Node}
@@ -15,8 +15,7 @@ use Rattle.sentence.specs.declared.Node.the-variants.{True, Label, Not, And, Co
 use Rattle.sentence.specs.declared.Slot.{Slot}
 use Rattle.sentence.specs.declared.Sentence.{Sentence}
 use Rattle.sentence.specs.declared.SentenceRead.{SentenceRead}
-use Rattle.sentence.specs.declared.Written.{Written}
-use Rattle.sentence.specs.declared.Written.the-variants.{Wrote, Refused as Unwritten}
+use Rattle.exports.specs.Records.{Coded, codeOf}
 
 -- ---- what read sentence leaves
 
@@ -68,10 +67,10 @@ letterCodes exists = table 4 (λ i. letterCode (getD exists i false))
 pub record ReadsSentence (text : List ℕ) (head exists : List ℕ) (codes : List (List ℕ)) (head′ exists′ : List ℕ) (codes′ : List (List ℕ)) (r : ℕ) : Type 0 where
   pub read : SentenceRead
   pub answer : ReadAnswer text read
-  pub answered : r ≡ numberOf (read .outcome)
-  pub head-left : head′ ≡ unlessRefused r (sentenceHead (read .sentence)) head
-  pub exists-left : exists′ ≡ unlessRefused r (letterCodes (read .sentence .exists)) exists
-  pub codes-left : codes′ ≡ unlessRefused r (codesOf (read .sentence .nodes)) codes
+  pub answered : r ≡ numberIn (replyOf (read .outcome))
+  pub head-left : head′ ≡ filled (replyOf (read .outcome)) (sentenceHead (read .sentence)) head
+  pub exists-left : exists′ ≡ filled (replyOf (read .outcome)) (letterCodes (read .sentence .exists)) exists
+  pub codes-left : codes′ ≡ filled (replyOf (read .outcome)) (codesOf (read .sentence .nodes)) codes
 
 -- ---- what write sentence takes
 
@@ -117,13 +116,6 @@ abbrev pub sentenceOf : ℕ → ℕ → List ℕ → List (List ℕ) → Sentenc
 sentenceOf letters count exists codes =
     record { letters = letters; exists = lettersOf exists; count = count; nodes = placesOf codes }
 
--- the code of what write sentence answers: how many bytes it wrote, or 2^32 plus the refusal's number
-unfoldable pub codeOfWritten : Written → ℕ
-codeOfWritten (Wrote size) = size
-codeOfWritten (Unwritten number) = 4294967296 + number
-
--- write sentence, exported: what write sentence ensures, of its answer's code
-pub record WritesSentence (s : Sentence) (before after : List ℕ) (r : ℕ) : Type 0 where
-  pub written : Written
-  pub answer : WriteAnswer s before written after
-  pub answered : r ≡ codeOfWritten written
+-- write sentence, exported
+abbrev pub WritesSentence : Sentence → (before after : List ℕ) → ℕ → Type 0
+WritesSentence s before = Coded codeOf (WriteAnswer s before)

@@ -6,11 +6,21 @@ mod sentences;
 
 ghost use mathlib.Core.Path.{_≡_};
 ghost use Rattle.model.specs.Layout.{modelOf};
-ghost use Rattle.exports.specs.Records.{ReadsModel, WritesModel};
+ghost use Rattle.exports.specs.Records.{codeOf, ReadsModel, WritesModel};
 use model::Model;
 use model::matrix;
 use refusal::Outcome;
 use refusal::Written;
+
+// The code of a writer's answer: the number of bytes written, or 2^32 plus the refusal's number.
+fn written_code(written: Written) -> u64
+    ensures { λ r. ⌜ r ≡ codeOf written ⌝ }
+{
+    match written {
+        Written::Wrote(size) => size as u64,
+        Written::Refused(number) => 4294967296 + number as u64,
+    }
+}
 
 // Read model: 0, and the model in the three lent parts (N, A and D; the masks; the weights), or the refusal's number
 // with the lent memory as it was.
@@ -59,8 +69,5 @@ pub extern "C" fn twolsken_write_model(
         weights: matrix::holding(*rows),
     };
     let written = model::writer::write_model(m, out);
-    match written {
-        Written::Wrote(size) => size as u64,
-        Written::Refused(number) => 4294967296 + number as u64,
-    }
+    written_code(written)
 }

@@ -1,7 +1,7 @@
 // Merge for other languages, thin over the library's own call.
 ghost use mathlib.Core.Path.{_≡_};
 ghost use Rattle.exports.specs.Records.{Merges};
-use refusal::Written;
+use crate::written_code;
 
 // Merge: the number of bytes of the merged model's file, written at the front of the output, or 2^32 plus the refusal's
 // number with the output as it was.
@@ -10,8 +10,5 @@ pub extern "C" fn twolsken_merge(file: &[u8], grouping: &[u8], out: &mut [u8]) -
     ensures { λ r. ⌜ Merges (now (file .entry)) (now (grouping .entry)) (now (out .entry)) (now (out .exit)) r ⌝ }
 {
     let written = merge::merge(file, grouping, out);
-    match written {
-        Written::Wrote(size) => size as u64,
-        Written::Refused(number) => 4294967296 + number as u64,
-    }
+    written_code(written)
 }

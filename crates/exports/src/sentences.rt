@@ -4,12 +4,12 @@ ghost use mathlib.Core.Bool.{true, false, not};
 ghost use mathlib.Core.Path.{_≡_};
 ghost use lib.Dec.{eqb};
 ghost use Rattle.exports.specs.Sentences.{relationCode, codeOfNode, codesOf, letterCode, letterCodes, ReadsSentence, labelOf, comparisonOf, nodeOf, nodeOfCode, placesOf, lettersOf, sentenceOf, unspelled, WritesSentence};
+use crate::written_code;
+use refusal::Outcome;
 use sentence::Node;
-use sentence::Outcome;
 use sentence::Relation;
 use sentence::Sentence;
 use sentence::Slot;
-use sentence::Written;
 
 // The number of a comparison.
 fn relation_code(relation: Relation) -> u32
@@ -216,8 +216,5 @@ pub extern "C" fn twolsken_write_sentence(
         nodes: places_of(*codes),
     };
     let written = sentence::write_sentence(s, out);
-    match written {
-        Written::Wrote(size) => size as u64,
-        Written::Refused(number) => 4294967296 + number as u64,
-    }
+    written_code(written)
 }

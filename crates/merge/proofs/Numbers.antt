@@ -1,24 +1,30 @@
 -- The number that merge gives, test by test.
-use Prim.Native.Nat.{ℕ, zero, suc, _≤_}
+use Prim.Native.Nat.{ℕ, suc, _≤_}
 use mathlib.Core.Bool.{true, false, not}
 use mathlib.Core.List.{List, [], _∷_}
 use mathlib.Core.Path.{_≡_, refl, sym, ap, _∙_}
 use native.Mathlib.Omega.{arith}
 use lib.Dec.{ltb}
-use Rattle.refusal.specs.Rows.{Row, first, none, more}
-use Rattle.refusal.specs.Answers.{outcomeOf}
-use Rattle.refusal.specs.declared.Outcome.the-variants.{Refused}
-use Rattle.refusal.proofs.Laws.{first-here, first-later}
+use Rattle.refusal.specs.Rows.{Row, first, Ascending}
+use Rattle.refusal.proofs.Laws.{in-order, first-here, first-later}
 use Rattle.refusal.proofs.Joined.{joined-refused, joined-accepted}
 use Rattle.model.specs.declared.Model.{Model}
 use Rattle.model.specs.Layout.{blocks, fieldsOf}
 use Rattle.model.specs.Rows.{fieldsRight, rowsRight, fileRows, fileNumber, recordNumber}
-use Rattle.model.proofs.Answer.{record-0}
+use Rattle.model.proofs.Answer.{file-rows, record-0}
 use Rattle.model.proofs.Rightness.{states-few}
 use Rattle.model.proofs.Written.{length-blocks}
 use Rattle.merge.specs.Groups.{groupingRight, groupsAlike, mergedModel}
-use Rattle.merge.specs.Rows.{groupRows, mergeNumber}
+use Rattle.merge.specs.Rows.{groupRows, mergeRows, mergeNumber}
 use Rattle.merge.proofs.Merging.{fields-merged, rows-merged}
+
+-- ---- the rows stand in the order of their numbers
+
+pub group-rows : (m : Model) (grouping : List ℕ) (room : ℕ) → Ascending 0 (groupRows m grouping room)
+group-rows m grouping room = in-order 0 (groupRows m grouping room) refl
+
+pub merge-rows : (file grouping : List ℕ) (room : ℕ) → Ascending 0 (mergeRows file grouping room)
+merge-rows file grouping room = in-order 0 (mergeRows file grouping room) refl
 
 -- ---- of the model of an accepted file
 
@@ -61,14 +67,4 @@ module _ (file grouping : List ℕ) (room : ℕ) where
   pub file-accepted : fileNumber file ≡ 0 → mergeNumber file grouping room ≡ first (groupRows (fieldsOf file) grouping room)
   unfolding fileNumber mergeNumber
   file-accepted e =
-      joined-accepted {low = 0} (more (omega arith) (more (omega arith) (more (omega arith) (more (omega arith) none))))
-      (groupRows (fieldsOf file) grouping room) e
-
--- ---- what a reader's refusal says of its number
-
-pub refused-number : (n number : ℕ) → outcomeOf n ≡ Refused number → (k : ℕ) × (n ≡ suc k) × (number ≡ suc k)
-unfolding outcomeOf
-refused-number zero number e =
-    let z : _≡_ {A = ℕ} 0 1 = cc in
-    absurd (omega arith)
-refused-number (suc k) number e = (k, refl, (cc))
+      joined-accepted (file-rows file) (groupRows (fieldsOf file) grouping room) e

@@ -11,11 +11,11 @@ use lib.Dec.{ltb}
 use lib.ListN.{length, take}
 use lib.Seq.{take-at}
 use Rattle.counting.proofs.Laws.{length-table, table-at}
-use Rattle.refusal.specs.Rows.{Given, none, more}
-use Rattle.refusal.specs.Answers.{Writes, writtenOf, unlessRefused, leftBy}
+use Rattle.refusal.specs.Rows.{Applies, Given}
+use Rattle.refusal.specs.Answers.{gives, Ensured, refused, answered, Fronted, Writes}
 use Rattle.refusal.specs.declared.Written.{Written}
 use Rattle.refusal.specs.declared.Written.the-variants.{Wrote}
-use Rattle.refusal.proofs.Answered.{one-writing}
+use Rattle.refusal.proofs.Listed.{list-number, one-writing}
 use Rattle.refusal.proofs.Laws.{smallest, none-here}
 use Rattle.model.specs.declared.Model.{Model}
 use Rattle.model.specs.Layout.{fieldsOf}
@@ -32,26 +32,21 @@ use Rattle.merge.specs.Rows.{mergeRows, mergeNumber, mergedFile}
 use Rattle.merge.specs.Kept.{Kept}
 use Rattle.merge.proofs.Grouped.{count-few}
 use Rattle.merge.proofs.Merging.{merged-chain, fields-merged, rows-merged}
-use Rattle.merge.proofs.Numbers.{file-refused, file-accepted}
+use Rattle.merge.proofs.Numbers.{merge-rows, file-refused, file-accepted}
 use Rattle.merge.proofs.Shape.{shaped}
 
 -- ---- the smallest number that applies
 
 pub merge-smallest : (file grouping : List ℕ) (room : ℕ) → Given (mergeRows file grouping room) (mergeNumber file grouping room)
 unfolding mergeNumber
-merge-smallest file grouping room =
-    smallest
-    (more {low = 0} (omega arith)
-    (more (omega arith)
-    (more (omega arith) (more (omega arith) (more (omega arith) (more (omega arith) (more (omega arith) none)))))))
+merge-smallest file grouping room = smallest (merge-rows file grouping room)
 
 -- ---- one result
 
 -- any two results that merge's contract allows are equal: the answer, and what the output then holds
 pub one-merging : (file grouping : List ℕ) {before after after′ : List ℕ} {r r′ : Written} →
-    Writes (mergeNumber file grouping (length before)) (mergedFile file grouping) before after r →
-    Writes (mergeNumber file grouping (length before)) (mergedFile file grouping) before after′ r′ →
-    (r ≡ r′) × (after ≡ after′)
+    Writes (mergeRows file grouping (length before)) (mergedFile file grouping) before after r →
+    Writes (mergeRows file grouping (length before)) (mergedFile file grouping) before after′ r′ → (r ≡ r′) × (after ≡ after′)
 one-merging file grouping w w′ = one-writing w w′
 
 -- ---- what is not refused
@@ -154,26 +149,27 @@ kept-file file grouping accepted grouped alike =
 -- of the bytes that merge leaves: where it answers that it wrote so many, those at the front of the output are a file that
 -- the reader accepts and that keeps what the full file says
 pub kept-written : (file grouping before after : List ℕ) (size : ℕ) →
-    Writes (mergeNumber file grouping (length before)) (mergedFile file grouping) before after (Wrote size) →
+    Writes (mergeRows file grouping (length before)) (mergedFile file grouping) before after (Wrote size) →
     (fileNumber (take size after) ≡ 0) × Kept (fieldsOf file) (groupOf grouping) (fieldsOf (take size after))
-unfolding writtenOf unlessRefused
-kept-written file grouping before after size w = look (mergeNumber file grouping (length before)) refl (w .answered) (w .left)
+unfolding mergeNumber
+kept-written file grouping before after size w = by (w .ensured)
   where
     Result : List ℕ → Type 0
     Result written = (fileNumber written ≡ 0) × Kept (fieldsOf file) (groupOf grouping) (fieldsOf written)
 
-    text : List ℕ
-    text = mergedFile file grouping
+    free : mergeNumber file grouping (length before) ≡ 0
+    free = sym (list-number (merge-rows file grouping (length before)) (w .ensured))
 
-    look : (n : ℕ) → mergeNumber file grouping (length before) ≡ n → Wrote size ≡ writtenOf n (length text) →
-        after ≡ leftBy n text before → Result (take size after)
-    look (suc k) e answered left =
+    by : Ensured (λ n. Applies n (mergeRows file grouping (length before))) (Fronted (λ t. t ≡ mergedFile file grouping) before) before (gives size) after →
+        Result (take size after)
+    by (refused {n} e l row least) =
         let z : _≡_ {A = ℕ} 0 1 = cc in
         absurd (omega arith)
-    look zero e answered left =
-        let long : length text ≡ size = cc in
-        let m = mergeable file grouping (length before) e in
-        let same : take size after ≡ text = ap (take size) left ∙ take-at text _ size long in
+    by (answered {v} e right none) =
+        let text = right .text in
+        let long : length text ≡ size = sym (right .sized) ∙ sym (cc e) in
+        let m = mergeable file grouping (length before) free in
+        let same : take size after ≡ mergedFile file grouping = ap (take size) (right .left) ∙ take-at text _ size long ∙ right .asked in
         subst Result (sym same) (
           merged-accepted file grouping (m .accepted) (m .grouped) (m .alike),
           kept-file file grouping (m .accepted) (m .grouped) (m .alike),

@@ -1,17 +1,22 @@
 -- The number of the rows, test by test, for read model and write model; and read model's contract from that number.
-use Prim.Native.Nat.{ℕ, suc, _*_, _<_, _≤_}
+use Prim.Native.Nat.{ℕ, suc, _-_, _*_, _<_, _≤_}
+use native.Mathlib.Omega.{arith}
 use mathlib.Core.List.{List}
-use mathlib.Core.Path.{_≡_, ap, sym, _∙_}
+use mathlib.Core.Path.{_≡_, refl, sym, ap, _∙_}
 use mathlib.Core.Bool.{true, false, not}
-use Rattle.refusal.proofs.Laws.{first-here, first-later, first-none}
+use Rattle.refusal.proofs.Laws.{in-order, above, first-here, first-later, first-none}
 use Rattle.block.specs.Block.{checksRight}
-use Rattle.refusal.specs.Answers.{outcomeOf, unlessRefused}
+use Rattle.refusal.specs.declared.Outcome.{Outcome}
+use Rattle.refusal.specs.Answers.{gives, refuses, numberIn, Ensured, refused, answered, replyOf}
+use Rattle.refusal.specs.Rows.{Ascending, Applies}
+use Rattle.refusal.proofs.Ensuring.{right-of}
+use Rattle.refusal.proofs.Listed.{none-applies, list-refused, list-answered, list-number}
 use Rattle.refusal.specs.declared.Outcome.the-variants.{Done, Refused}
 use borrow.Author.Tests.{lt-ltb, le-ltb}
 use Rattle.model.specs.declared.Model.{Model}
 use Rattle.model.specs.declared.ModelRead.{ModelRead}
 use Rattle.model.specs.Layout.{fieldsOf, blocks}
-use Rattle.model.specs.Rows.{lengthRight, fieldsRight, laidOut, rowsRight, fileNumber, recordNumber, emptyModel, Reads}
+use Rattle.model.specs.Rows.{lengthRight, fieldsRight, laidOut, rowsRight, fileRows, fileNumber, recordRows, recordNumber, emptyModel, Reads}
 
 -- ---- the number, test by test
 
@@ -57,21 +62,54 @@ module _ (m : Model) (room : ℕ) where
   record-0 a b e =
       first-later 4 _ (ap not a) ∙ first-later 5 _ (ap not b) ∙ first-later 14 _ (le-ltb room (512 * blocks (m .n)) e) ∙ first-none
 
+-- ---- the rows stand in the order of their numbers
+
+pub file-rows : (file : List ℕ) → Ascending 0 (fileRows file)
+file-rows file = in-order 0 (fileRows file) refl
+
+pub record-rows : (m : Model) (room : ℕ) → Ascending 0 (recordRows m room)
+record-rows m room = in-order 0 (recordRows m room) refl
+
 -- ---- the contract, from the number
 
 -- a refusal
 pub reads-refused : (file : List ℕ) (k : ℕ) {r : ModelRead} → fileNumber file ≡ suc k →
     r .outcome ≡ Refused (suc k) → r .model ≡ emptyModel → Reads file r
-unfolding outcomeOf unlessRefused
-reads-refused file k e o m = record {
-  answered = o ∙ sym (ap outcomeOf e);
-  value = m ∙ sym (ap (λ (n : ℕ). unlessRefused n (fieldsOf file) emptyModel) e);
-}
+unfolding fileNumber
+reads-refused file k e o m = record { ensured = list-refused (file-rows file) k e (ap replyOf o) m }
 
 -- an answer
 pub reads-done : (file : List ℕ) {r : ModelRead} → fileNumber file ≡ 0 → r .outcome ≡ Done → r .model ≡ fieldsOf file → Reads file r
-unfolding outcomeOf unlessRefused
-reads-done file e o m = record {
-  answered = o ∙ sym (ap outcomeOf e);
-  value = m ∙ sym (ap (λ (n : ℕ). unlessRefused n (fieldsOf file) emptyModel) e);
-}
+unfolding fileNumber
+reads-done file e o m = record { ensured = list-answered (file-rows file) e (ap replyOf o) m }
+
+-- ---- and back
+
+-- the number that the reader answers
+pub reads-number : {file : List ℕ} {r : ModelRead} → Reads file r → numberIn (replyOf (r .outcome)) ≡ fileNumber file
+unfolding fileNumber
+reads-number {file} reads = list-number (file-rows file) (reads .ensured)
+
+-- a refusal of the reader: its number is the rows' number, and not 0
+pub reads-refusal : {file : List ℕ} {r : ModelRead} {number : ℕ} → Reads file r → r .outcome ≡ Refused number →
+    (k : ℕ) × (fileNumber file ≡ suc k) × (number ≡ suc k)
+reads-refusal {file} {r} {number} reads o = by (reads .ensured)
+  where
+    same : number ≡ fileNumber file
+    same = sym (ap (λ (x : Outcome). numberIn (replyOf x)) o) ∙ reads-number reads
+
+    by : Ensured (λ n. Applies n (fileRows file)) (λ done m. m ≡ fieldsOf file) emptyModel (replyOf (r .outcome)) (r .model) →
+        (k : ℕ) × (fileNumber file ≡ suc k) × (number ≡ suc k)
+    by (refused {n} e l row least) =
+        let some = above (file-rows file) n row in
+        let here : number ≡ n = ap numberIn (sym (ap replyOf o) ∙ e) in
+        (n - 1, omega (arith, same), omega arith)
+    by (answered {v} e right none) =
+        let other : refuses number ≡ gives v = sym (ap replyOf o) ∙ e in
+        let z : _≡_ {A = ℕ} 0 1 = cc in
+        absurd (omega arith)
+
+-- the model of an accepted file
+pub reads-value : {file : List ℕ} {r : ModelRead} → Reads file r → fileNumber file ≡ 0 → r .model ≡ fieldsOf file
+unfolding fileNumber
+reads-value {file} reads e = right-of (none-applies (file-rows file) e) (reads .ensured) .2

@@ -3,20 +3,21 @@
 use Prim.Native.Nat.{ℕ, zero, suc, _*_, _<_, _≤_}
 use mathlib.Core.Bool.{Bool, true, false, not}
 use mathlib.Core.List.{List, [], _∷_}
-use mathlib.Core.Path.{_≡_, refl, sym, ap, _∙_}
+use mathlib.Core.Path.{_≡_, refl, sym, ap, ap₂, _∙_}
 use native.Mathlib.Omega.{arith}
 use borrow.Author.Tests.{not-false, ltb-false}
 use lib.Dec.{ltb}
 use lib.ListN.{length}
-use Rattle.refusal.specs.Rows.{first, Given, none, more}
-use Rattle.refusal.specs.Answers.{outcomeOf}
+use Rattle.refusal.specs.declared.Outcome.{Outcome}
+use Rattle.refusal.specs.Rows.{first, Given}
+use Rattle.refusal.proofs.Ensuring.{one-result, outcome-told}
 use Rattle.refusal.proofs.Laws.{smallest, none-here}
 use Rattle.block.specs.Block.{checksRight}
 use Rattle.model.specs.declared.Model.{Model}
 use Rattle.model.specs.declared.ModelRead.{ModelRead}
 use Rattle.model.specs.Layout.{blocks, fieldsOf, fileOf}
 use Rattle.model.specs.Rows.{lengthRight, fieldsRight, laidOut, rowsRight, fileRows, fileNumber, recordRows, recordNumber, Reads}
-use Rattle.model.proofs.Answer.{record-0}
+use Rattle.model.proofs.Answer.{record-0, file-rows, record-rows}
 use Rattle.model.proofs.Rightness.{laid-fields}
 use Rattle.model.proofs.Roundtrip.{written-back, Shaped, fields-written, file-written}
 use Rattle.model.proofs.Written.{length-blocks}
@@ -25,19 +26,18 @@ use Rattle.model.proofs.Written.{length-blocks}
 
 pub read-smallest : (file : List ℕ) → Given (fileRows file) (fileNumber file)
 unfolding fileNumber
-read-smallest file = smallest (more {low = 0} (omega arith) (more (omega arith) (more (omega arith) (more (omega arith) none))))
+read-smallest file = smallest (file-rows file)
 
 pub write-smallest : (m : Model) (room : ℕ) → Given (recordRows m room) (recordNumber m room)
 unfolding recordNumber
-write-smallest m room = smallest (more {low = 0} (omega arith) (more (omega arith) (more (omega arith) none)))
+write-smallest m room = smallest (record-rows m room)
 
 -- ---- one result
 
 pub one-reading : {file : List ℕ} {r r′ : ModelRead} → Reads file r → Reads file r′ → r ≡ r′
-one-reading p q =
-    let o = p .answered ∙ sym (q .answered) in
-    let m = p .value ∙ sym (q .value) in
-    λ i. record { outcome = o i; model = m i }
+one-reading {file} {r} {r′} x y =
+    let one = one-result (λ (v v′ : Unit {0}) (m m′ : Model) p q. (refl, p ∙ sym q)) (x .ensured) (y .ensured) in
+    ap₂ (λ (o : Outcome) (m : Model). record { outcome = o; model = m }) (outcome-told (r .outcome) (r′ .outcome) (one .0)) (one .1)
 
 -- ---- what an accepted file, and an accepted record, is
 

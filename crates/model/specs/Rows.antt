@@ -7,8 +7,8 @@ use mathlib.Core.Path.{_≡_}
 use lib.Dec.{ltb, leb, eqb}
 use lib.ListN.{length, replicate}
 use Rattle.counting.specs.Below.{sum, every, table}
-use Rattle.refusal.specs.Rows.{Row, first}
-use Rattle.refusal.specs.Answers.{outcomeOf, unlessRefused}
+use Rattle.refusal.specs.Rows.{Row, first, Applies}
+use Rattle.refusal.specs.Answers.{replyOf, Ensured}
 use Rattle.block.specs.Block.{byteOf, blocksIn, checksRight}
 use Rattle.model.specs.declared.Model.{Model}
 use Rattle.model.specs.declared.ModelRead.{ModelRead}
@@ -77,10 +77,9 @@ emptyModel = record {
   weights = record { rows = table 32 (λ s. table 32 (λ t. 0)) };
 }
 
--- what read model ensures: the number of the rows, and the fields of an accepted file
+-- what read model ensures of the file and what it answers: the fields of an accepted file
 pub record Reads (file : List ℕ) (r : ModelRead) : Type 0 where
-  pub answered : r .outcome ≡ outcomeOf (fileNumber file)
-  pub value : r .model ≡ unlessRefused (fileNumber file) (fieldsOf file) emptyModel
+  pub ensured : Ensured (λ n. Applies n (fileRows file)) (λ done m. m ≡ fieldsOf file) emptyModel (replyOf (r .outcome)) (r .model)
 
 -- ---- the rows of the record that write model takes, for an output of `room` bytes
 

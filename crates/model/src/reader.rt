@@ -1,6 +1,5 @@
 // Read model: the rows of a model file in the order of their numbers, then its fields.
 ghost use mathlib.Core.Path.{_≡_};
-ghost use Rattle.refusal.specs.Answers.{outcomeOf};
 ghost use Rattle.model.specs.Rows.{lengthRight, emptyModel, Reads};
 use crate::Model;
 use crate::ModelRead;

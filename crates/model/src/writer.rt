@@ -6,7 +6,7 @@ ghost use lib.ListN.{length, getD, drop};
 ghost use Rattle.counting.specs.Below.{table};
 ghost use Rattle.refusal.specs.Answers.{atFront, Writes};
 ghost use Rattle.model.specs.Layout.{modelOf, byteOfTwo, headByte, rowByte, contentByte, blockBytes, blocksBelow, fileOf};
-ghost use Rattle.model.specs.Rows.{recordNumber};
+ghost use Rattle.model.specs.Rows.{recordRows};
 use crate::Model;
 use crate::matrix;
 use crate::rules::fields_right;
@@ -170,7 +170,7 @@ fn write_blocks(
 
 // Write model: the file of a model at the front of the output, or the smallest number of a row that applies.
 pub fn write_model(m: Model, out: &mut [u8]) -> Written
-    ensures { λ r. ⌜ Writes (recordNumber m (length (now (out .entry)))) (fileOf m) (now (out .entry)) (now (out .exit)) r ⌝ }
+    ensures { λ r. ⌜ Writes (recordRows m (length (now (out .entry)))) (fileOf m) (now (out .entry)) (now (out .exit)) r ⌝ }
 {
     if !fields_right(m) {
         return Written::Refused(4);

@@ -7,6 +7,8 @@ use native.Mathlib.Omega.{arith}
 use borrow.Author.Tests.{eqb-false, ltb-false}
 use lib.Dec.{eqb, ltb}
 use lib.ListN.{length}
+use Rattle.refusal.specs.Answers.{refused, answered}
+use Rattle.refusal.specs.Rows.{Decided, refused as given, accepted}
 use Rattle.model.specs.declared.Model.{Model}
 use Rattle.model.specs.declared.ModelRead as Loaded
 use Rattle.model.specs.Layout.{fieldsOf}
@@ -19,7 +21,7 @@ use Rattle.meaning.specs.Meaning.{numerator, denominator}
 use Rattle.trees.specs.Listed.{formulaNodes}
 use Rattle.chain.specs.Of.{chainOf}
 use Rattle.paths.specs.Tuples.{membersBelow}
-use Rattle.question.specs.Rows.{QuestionRow, Decided, refused as given, accepted, cleared}
+use Rattle.question.specs.Rows.{QuestionRow, cleared}
 use Rattle.question.specs.Working.{SentenceRead}
 use Rattle.question.proofs.Numbers.{row-few}
 use Rattle.question.proofs.Pair.{letters-length}
@@ -28,14 +30,14 @@ use Rattle.question.proofs.Settled.{model-of}
 use Rattle.numerator.specs.declared.Answer.{Answer}
 use Rattle.numerator.specs.declared.Answer.the-variants.{Counted, Refused}
 use Rattle.numerator.specs.declared.Ratio.{Ratio}
-use Rattle.numerator.specs.Calls.{numbered, NumeratorRow, question, long, member, missing, NumeratorAnswer, refused, answered}
+use Rattle.numerator.specs.Calls.{numbered, NumeratorRow, question, long, member, missing, NumeratorAnswer}
 use Rattle.numerator.specs.Working.{asksRight, CountedSo}
 use Rattle.numerator.proofs.Asking.{RightParts}
 
 module _ {file text tuple : List ℕ} {number : ℕ} where
   pub refused-so : {before : List ℕ} {n : ℕ} → Decided (QuestionRow file text (length before)) n → 0 < n →
       NumeratorAnswer file text tuple number before (Refused n) before
-  refused-so {before} {n} (given row least) h = refused (question row) from
+  refused-so {before} {n} (given row least) h = record { ensured = refused refl refl (question row) from }
     where
       from : (k : ℕ) → NumeratorRow file text tuple number (length before) k → n ≤ k
       from k (question r) = least k r
@@ -49,7 +51,8 @@ module _ {file text tuple : List ℕ} {number : ℕ} where
     -- row 15
     pub refused-15 : asksRight (m .model) s (b .body) tuple number ≡ false →
         NumeratorAnswer file text tuple number before (Refused 15) before
-    refused-15 e = refused (row (eqb (length tuple) (s .letters)) (membersBelow (m .model .n) tuple) refl refl e) from
+    refused-15 e =
+        record { ensured = refused refl refl (row (eqb (length tuple) (s .letters)) (membersBelow (m .model .n) tuple) refl refl e) from }
       where
         row : (t u : Bool) → eqb (length tuple) (s .letters) ≡ t → membersBelow (m .model .n) tuple ≡ u →
             ((t && u) && ltb number (length (pathsOf (b .body)))) ≡ false → NumeratorRow file text tuple number (length before) 15
@@ -80,11 +83,14 @@ module _ {file text tuple : List ℕ} {number : ℕ} where
           let w = numbered (b .body) number in
           let n = letters-length b in
           let fields = model-of none reads .fields in
-          let top : r .top ≡ numerator w (chainOf (fieldsOf file)) (length (b .prefix)) tuple =
-          counts .each text b .0 ∙ ap₂ (λ (x : Model) (k : ℕ). numerator w (chainOf x) k tuple) fields n in
-          let bottom : r .bottom ≡ denominator w (fieldsOf file .d) (length (b .prefix)) =
-          counts .each text b .1 ∙ ap₂ (λ (x : Model) (k : ℕ). denominator w (x .d) k) fields n in
-          subst (λ (l : List ℕ). NumeratorAnswer file text tuple number before (Counted (r .top) (r .bottom)) l) (sym clear)
-          (subst (λ (x : ℕ). NumeratorAnswer file text tuple number before (Counted x (r .bottom)) (cleared 8192 before)) (sym top)
-          (subst (λ (y : ℕ). NumeratorAnswer file text tuple number before (Counted (numerator w (chainOf (fieldsOf file)) (length (b .prefix)) tuple) y) (cleared 8192 before)) (sym bottom)
-          (answered (b .body) (b .spelled) free)))
+          record {
+            ensured =
+                answered refl
+                (record {
+                  sentence = record { prefix = b .prefix; body = b .body; spelled = b .spelled };
+                  top = counts .each text b .0 ∙ ap₂ (λ (x : Model) (k : ℕ). numerator w (chainOf x) k tuple) fields n;
+                  bottom = counts .each text b .1 ∙ ap₂ (λ (x : Model) (k : ℕ). denominator w (x .d) k) fields n;
+                  left = clear;
+                })
+                free;
+          }

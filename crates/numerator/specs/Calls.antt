@@ -1,9 +1,10 @@
 -- Document 01, 'Calls and refusal numbers', for numerator: its rows, and what the call answers and leaves.
 use Prim.Native.Nat.{ℕ, _≤_}
 use mathlib.Core.Bool.{Bool, false}
-use mathlib.Core.List.{List, [], _∷_}
+use mathlib.Core.List.{List}
 use mathlib.Core.Path.{_≡_}
 use lib.ListN.{length, getD}
+use Rattle.refusal.specs.Answers.{Reply, gives, refuses, Ensured}
 use Rattle.model.specs.Layout.{fieldsOf}
 use Rattle.sentence.specs.Grammar.{Spells}
 use Rattle.meaning.specs.Tree.{Formula, always, PathFormula, next, pathsOf}
@@ -11,18 +12,14 @@ use Rattle.meaning.specs.Meaning.{numerator, denominator}
 use Rattle.trees.specs.Listed.{formulaNodes}
 use Rattle.chain.specs.Of.{chainOf}
 use Rattle.paths.specs.Tuples.{membersBelow}
-use Rattle.question.specs.Rows.{QuestionRow, cleared}
+use Rattle.question.specs.Rows.{QuestionRow, SentenceOf, cleared}
 use Rattle.numerator.specs.declared.Answer.{Answer}
 use Rattle.numerator.specs.declared.Answer.the-variants.{Counted, Refused}
 
--- the refusal's number of an answer, and the two values of one that is no refusal (0 is no row's number)
-unfoldable pub numberOf : Answer → ℕ
-numberOf (Counted top bottom) = 0
-numberOf (Refused n) = n
-
-unfoldable pub valuesOf : Answer → List ℕ
-valuesOf (Counted top bottom) = top ∷ bottom ∷ []
-valuesOf (Refused n) = []
+-- the document's words for an answer: the numerator and the denominator, or the number of a refusal
+abbrev pub replyOf : Answer → Reply (ℕ × ℕ)
+replyOf (Counted top bottom) = gives (top, bottom)
+replyOf (Refused number) = refuses number
 
 -- the path formula with a number, counted from 0 in written order (where there is none, row 15 applies)
 unfoldable pub numbered : Formula → ℕ → PathFormula
@@ -38,16 +35,15 @@ pub data NumeratorRow (file text tuple : List ℕ) (number room : ℕ) : ℕ →
   missing : {ps : List Bool} (f : Formula) → Spells ps (formulaNodes f) text → length (pathsOf f) ≤ number →
       NumeratorRow file text tuple number room 15
 
--- what numerator answers, and what the work area is afterwards: of the rows that apply the smallest number, the area as it was;
--- and where none applies the numerator of the path formula at the tuple, and its denominator, the first 8,192 numbers of the
--- area zero
-pub data NumeratorAnswer (file text tuple : List ℕ) (number : ℕ) (before : List ℕ) : Answer → List ℕ → Type 0 where
-  refused : {n : ℕ} → NumeratorRow file text tuple number (length before) n →
-      ((m : ℕ) → NumeratorRow file text tuple number (length before) m → n ≤ m) →
-      NumeratorAnswer file text tuple number before (Refused n) before
-  answered : {ps : List Bool} (f : Formula) → Spells ps (formulaNodes f) text →
-      ((m : ℕ) → NumeratorRow file text tuple number (length before) m → ⊥) →
-      NumeratorAnswer file text tuple number before
-      (Counted (numerator (numbered f number) (chainOf (fieldsOf file)) (length ps) tuple)
-      (denominator (numbered f number) (fieldsOf file .d) (length ps)))
-      (cleared 8192 before)
+-- what is right of numerator: the numerator of the path formula at the tuple, and its denominator, and the first 8,192 numbers of
+-- the area zero
+pub record Counts (file text tuple : List ℕ) (number : ℕ) (before : List ℕ) (values : ℕ × ℕ) (after : List ℕ) : Type 0 where
+  pub sentence : SentenceOf text
+  pub top : values .0 ≡ numerator (numbered (sentence .body) number) (chainOf (fieldsOf file)) (length (sentence .prefix)) tuple
+  pub bottom : values .1 ≡ denominator (numbered (sentence .body) number) (fieldsOf file .d) (length (sentence .prefix))
+  pub left : after ≡ cleared 8192 before
+
+-- what numerator ensures of the model file, the sentence text, the tuple, the path formula's number, the work area before and
+-- after, and what it answers
+pub record NumeratorAnswer (file text tuple : List ℕ) (number : ℕ) (before : List ℕ) (answer : Answer) (after : List ℕ) : Type 0 where
+  pub ensured : Ensured (NumeratorRow file text tuple number (length before)) (Counts file text tuple number before) before (replyOf answer) after

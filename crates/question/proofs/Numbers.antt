@@ -8,7 +8,7 @@ use native.Mathlib.Numerals.{add-one}
 use native.Mathlib.Omega.{arith}
 use lib.ListN.{length, getD, take, drop, drop-of-length-le}
 use lib.Seq.{drop-cons, getD-take, length-take-le}
-use Rattle.refusal.specs.Rows.{Applies, here, later, Given, refused as given, accepted}
+use Rattle.refusal.specs.Rows.{Applies, here, later, Decided, refused, accepted, Given}
 use Rattle.model.specs.Layout.{fieldsOf}
 use Rattle.model.specs.Rows.{fileRows, fileNumber}
 use Rattle.model.proofs.Theorems.{read-smallest}
@@ -20,7 +20,7 @@ use Rattle.meaning.specs.Tree.{Formula}
 use Rattle.meaning.specs.Size.{exceeds}
 use Rattle.trees.specs.Listed.{formulaNodes}
 use Rattle.chain.specs.Of.{chainOf}
-use Rattle.question.specs.Rows.{QuestionRow, area, model, sentence, labels, size, tuples, Decided, refused, accepted as clear}
+use Rattle.question.specs.Rows.{QuestionRow, area, model, sentence, labels, size, tuples}
 
 -- the numbers of a file's rows, and of a text's
 pub file-number : (file : List ℕ) {n : ℕ} → Applies n (fileRows file) → (2 ≤ n) × (n ≤ 5)
@@ -56,7 +56,7 @@ row-few (tuples f s e) = omega arith
 -- where the number given is 0, no row applies
 pub none-of : {file text : List ℕ} {room n : ℕ} → Decided (QuestionRow file text room) n → n ≤ 0 → (m : ℕ) → QuestionRow file text room m → ⊥
 none-of (refused row least) h m r = let some = row-some row in absurd (omega arith)
-none-of (clear none) h m r = none m r
+none-of (accepted none) h m r = none m r
 
 module _ {file text : List ℕ} {room : ℕ} (space : 8192 ≤ room) where
   -- the file's number where it is not 0
@@ -65,7 +65,7 @@ module _ {file text : List ℕ} {room : ℕ} (space : 8192 ≤ room) where
   least-model {k} e = by (subst (Given (fileRows file)) e (read-smallest file))
     where
       by : Given (fileRows file) (suc k) → QuestionRow file text room (suc k) × ((m : ℕ) → QuestionRow file text room m → suc k ≤ m)
-      by (given a least) = (model a, below (file-number file a .1) least)
+      by (refused a least) = (model a, below (file-number file a .1) least)
         where
           below : suc k ≤ 5 → ((m : ℕ) → Applies m (fileRows file) → suc k ≤ m) → (m : ℕ) → QuestionRow file text room m → suc k ≤ m
           below low least m (area h) = absurd (omega arith)

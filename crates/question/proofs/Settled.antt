@@ -7,7 +7,8 @@ use native.Mathlib.Decide.{decLt}
 use native.Mathlib.Nat.{mul-le-mul-right}
 use native.Mathlib.Omega.{arith}
 use lib.ListN.{length}
-use Rattle.refusal.specs.Answers.{unlessRefused}
+use Rattle.refusal.specs.Answers.{numberIn, replyOf}
+use Rattle.refusal.proofs.Ensuring.{right-of}
 use Rattle.model.specs.declared.Model.{Model}
 use Rattle.model.specs.declared.ModelRead as Loaded
 use Rattle.model.specs.Layout.{fieldsOf}
@@ -15,7 +16,7 @@ use Rattle.model.specs.Rows.{fileNumber, Reads}
 use Rattle.sentence.specs.declared.Sentence.{Sentence}
 use Rattle.sentence.specs.declared.SentenceRead as Parsed
 use Rattle.sentence.specs.Grammar.{someOutOfRange}
-use Rattle.sentence.specs.Calls.{ReadAnswer, refused as not-read, done, range, recordOf, numberOf}
+use Rattle.sentence.specs.Calls.{ReadAnswer, range, recordOf}
 use Rattle.meaning.specs.Chain.{Sound}
 use Rattle.meaning.specs.Size.{exceeds}
 use Rattle.layers.specs.Columns.{weightIn}
@@ -50,9 +51,8 @@ module _ {file text : List ℕ} {room : ℕ} (none : (n : ℕ) → QuestionRow f
       by zero e = refl
       by (suc n) e = absurd (none (suc n) (least-model space e .0))
 
-  text-free : {s : Parsed.SentenceRead} → ReadAnswer text s → numberOf (s .outcome) ≡ 0
-  text-free (not-read {n} row least) = absurd (none n (sentence row))
-  text-free (done s clean) = refl
+  text-free : {s : Parsed.SentenceRead} → ReadAnswer text s → numberIn (replyOf (s .outcome)) ≡ 0
+  text-free said = ap numberIn (right-of (λ n row. none n (sentence row)) (said .ensured) .1)
 
   -- the readers' answers, where no row applies
   pub model-of : {m : Loaded.ModelRead} → Reads file m → ModelRead file (m .model)

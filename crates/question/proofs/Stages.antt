@@ -6,7 +6,7 @@ use mathlib.Core.List.{List, [], _∷_, _++_, map}
 use mathlib.Core.Path.{_≡_, refl, sym, ap, ap₂, subst, _∙_}
 use native.Mathlib.Omega.{arith}
 use lib.ListN.{length, take}
-use Rattle.refusal.specs.Rows.{Applies, Given, refused as given, accepted as free}
+use Rattle.refusal.specs.Rows.{Applies, Decided, refused, accepted, Given}
 use Rattle.model.specs.declared.Model.{Model}
 use Rattle.model.specs.Layout.{fieldsOf}
 use Rattle.model.specs.Rows.{fileRows, fileNumber}
@@ -24,7 +24,7 @@ use Rattle.meaning.specs.Size.{exceeds}
 use Rattle.trees.specs.Listed.{formulaNodes}
 use Rattle.trees.proofs.Once.{sentence-once}
 use Rattle.chain.specs.Of.{chainOf}
-use Rattle.question.specs.Rows.{labelRight, QuestionRow, area, model, sentence, labels, size, tuples, Decided, refused, accepted}
+use Rattle.question.specs.Rows.{labelRight, QuestionRow, area, model, sentence, labels, size, tuples}
 use Rattle.question.specs.Working.{ModelRead, SentenceRead}
 use Rattle.question.proofs.Numbers.{file-number}
 use Rattle.question.proofs.Pair.{letters-length}
@@ -34,8 +34,8 @@ pub none-of-file : (file : List ℕ) → fileNumber file ≡ 0 → {n : ℕ} →
 none-of-file file e {n} a = by (subst (Given (fileRows file)) e (read-smallest file))
   where
     by : Given (fileRows file) 0 → ⊥
-    by (given b least) = let m = file-number file b in absurd (omega arith)
-    by (free none) = none n a
+    by (refused b least) = let m = file-number file b in absurd (omega arith)
+    by (accepted none) = none n a
 
 -- a test of the nodes, by the places that hold them
 every-places : (test : Node → Bool) (l : List Slot) → every (λ (x : Slot). test (x .node)) l ≡ every test (map (λ (x : Slot). x .node) l)

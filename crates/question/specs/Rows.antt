@@ -48,11 +48,11 @@ pub data QuestionRow (file text : List ℕ) (room : ℕ) : ℕ → Type 0 where
   tuples : {ps : List Bool} (f : Formula) → Spells ps (formulaNodes f) text → 1024 < tupleCount (chainOf (fieldsOf file)) (length ps) →
       QuestionRow file text room 11
 
--- n is what the document asks for: the row with the number n applies, and no row that applies has a smaller number; or n is 0
--- and no row applies
-pub data Decided (Row : ℕ → Type 0) : ℕ → Type 0 where
-  refused : {n : ℕ} → Row n → ((m : ℕ) → Row m → n ≤ m) → Decided Row n
-  accepted : ((m : ℕ) → Row m → ⊥) → Decided Row 0
+-- the sentence of a text: the prefix and the body that spell it
+pub record SentenceOf (text : List ℕ) : Type 0 where
+  pub prefix : List Bool
+  pub body : Formula
+  pub spelled : Spells prefix (formulaNodes body) text
 
 -- after an answer the first n numbers of the work area are zero, the others unchanged
 unfoldable pub cleared : ℕ → List ℕ → List ℕ

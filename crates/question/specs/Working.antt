@@ -4,7 +4,7 @@ use mathlib.Core.Bool.{Bool, false}
 use mathlib.Core.List.{List}
 use mathlib.Core.Path.{_≡_}
 use lib.ListN.{length, drop}
-use Rattle.refusal.specs.declared.Outcome as Plain
+use Rattle.refusal.specs.Rows.{Decided}
 use Rattle.model.specs.declared.Model.{Model}
 use Rattle.model.specs.declared.ModelRead as Loaded
 use Rattle.model.specs.Layout.{fieldsOf}
@@ -17,7 +17,7 @@ use Rattle.meaning.specs.Tree.{Formula}
 use Rattle.meaning.specs.Size.{exceeds}
 use Rattle.evaluate.specs.declared.Setting.{Setting}
 use Rattle.trees.specs.Listed.{formulaNodes}
-use Rattle.question.specs.Rows.{QuestionRow, Decided}
+use Rattle.question.specs.Rows.{QuestionRow}
 
 -- the file is accepted and m is its model
 pub record ModelRead (file : List ℕ) (m : Model) : Type 0 where

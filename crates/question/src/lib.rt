@@ -3,8 +3,7 @@
 ghost use mathlib.Core.Path.{_≡_};
 ghost use Prim.Native.Nat.{_^_, _≤_};
 ghost use lib.ListN.{take};
-ghost use Rattle.refusal.specs.Answers.{numberOf as numberOfModel};
-ghost use Rattle.sentence.specs.Calls.{numberOf as numberOfSentence};
+ghost use Rattle.refusal.specs.Answers.{numberIn, replyOf};
 ghost use Rattle.meaning.specs.Lists.{every};
 ghost use Rattle.question.specs.Rows.{labelRight};
 ghost use Rattle.question.specs.Working.{Read, Late, Answered, First, Ready, SettingOf};
@@ -87,23 +86,13 @@ fn late_number(m: Model, s: Sentence) -> u8
     0
 }
 
-// The number of what read model answered, 0 where it is no refusal.
-fn model_number(outcome: Outcome) -> u8
-    ensures { λ r. ⌜ r ≡ numberOfModel outcome ⌝ }
+// The number of what a reader answered, 0 where it is no refusal.
+fn number_of(outcome: Outcome) -> u8
+    ensures { λ r. ⌜ r ≡ numberIn (replyOf outcome) ⌝ }
 {
     match outcome {
         Outcome::Done => 0,
         Outcome::Refused(number) => number,
-    }
-}
-
-// The number of what read sentence answered, 0 where it is no refusal.
-fn sentence_number(outcome: sentence::Outcome) -> u8
-    ensures { λ r. ⌜ r ≡ numberOfSentence outcome ⌝ }
-{
-    match outcome {
-        sentence::Outcome::Done => 0,
-        sentence::Outcome::Refused(number) => number,
     }
 }
 
@@ -117,12 +106,12 @@ pub fn first_number(room: usize, m: ModelRead, s: SentenceRead) -> u8
         return 1;
     }
     let loaded = m.outcome;
-    let of_model = model_number(loaded);
+    let of_model = number_of(loaded);
     if 0 < of_model {
         return of_model;
     }
     let said = s.outcome;
-    let of_sentence = sentence_number(said);
+    let of_sentence = number_of(said);
     if 0 < of_sentence {
         return of_sentence;
     }

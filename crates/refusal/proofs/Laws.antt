@@ -1,15 +1,31 @@
 -- The first row that applies is the smallest that applies, where the rows stand in the order of their numbers; and the
 -- document's words leave one number only.
 use Prim.Native.Nat.{ℕ, suc, _≤_, _<_}
-use mathlib.Core.Bool.{Bool, true, false, false≢true}
+use mathlib.Core.Bool.{Bool, true, false, _&&_, false≢true}
 use mathlib.Core.List.{List, [], _∷_}
 use mathlib.Core.Path.{_≡_, refl, ap, sym, subst}
 use native.Mathlib.Omega.{arith}
 use native.Mathlib.Nat.{le-antisymm}
-use Rattle.refusal.specs.Rows.{Row, orElse, first, Ascending, none, more, Applies, here, later, Given, refused, accepted}
+use borrow.Author.Tests.{ltb-true}
+use lib.Dec.{ltb}
+use Rattle.refusal.specs.Rows.{Row, orElse, first, Ascending, none, more, Applies, here, later, Decided, refused, accepted, Given}
+
+-- whether the rows stand in the order of their numbers: of a list that is written out, by computing
+abbrev pub ascends : ℕ → List Row → Bool
+ascends low [] = true
+ascends low (r ∷ rows) = ltb low (r .number) && ascends (r .number) rows
+
+pub in-order : (low : ℕ) (rows : List Row) → ascends low rows ≡ true → Ascending low rows
+in-order low [] e = none
+in-order low (r ∷ rows) e = both (ltb low (r .number)) refl e (λ rest. in-order (r .number) rows rest)
+  where
+    both : (t : Bool) → ltb low (r .number) ≡ t → (t && ascends (r .number) rows) ≡ true →
+        (ascends (r .number) rows ≡ true → Ascending (r .number) rows) → Ascending low (r ∷ rows)
+    both true less rest onward = more (ltb-true low (r .number) less) (onward rest)
+    both false less rest onward = absurd (false≢true rest)
 
 -- every row of an ascending list that applies has a number above the bound
-above : {low : ℕ} {rows : List Row} → Ascending low rows → (m : ℕ) → Applies m rows → low < m
+pub above : {low : ℕ} {rows : List Row} → Ascending low rows → (m : ℕ) → Applies m rows → low < m
 above (more h t) m (here e a) = omega arith
 above (more h t) m (later w) =
     let r = above t m w in
@@ -48,7 +64,7 @@ smallest none = accepted (λ m. elim [ ])
 smallest (more {r = r} h t) = step (r .number) (r .applies) t (smallest t)
 
 -- and no other number is
-pub one-number : {rows : List Row} {m n : ℕ} → Given rows m → Given rows n → m ≡ n
+pub one-number : {R : ℕ → Type 0} {m n : ℕ} → Decided R m → Decided R n → m ≡ n
 one-number (refused a la) (refused b lb) = le-antisymm (la _ b) (lb _ a)
 one-number (refused a la) (accepted no-row) = absurd (no-row _ a)
 one-number (accepted no-row) (refused b lb) = absurd (no-row _ b)

@@ -1,4 +1,5 @@
 -- What every call's proof cites about refusal numbers and answers.
-pub mod Answered
+pub mod Ensuring
 pub mod Joined
 pub mod Laws
+pub mod Listed

@@ -1,48 +1,61 @@
--- The document's number and values for each case of the answers that readers and writers give, and what the two kinds of
--- call leave behind. A number is the first of the call's rows that applies (specs/Rows), 0 where none does.
-use Prim.Native.Nat.{ℕ, zero, suc}
+-- What every call ensures, and the document's number and values for each case of the answers that readers and writers give.
+use Prim.Native.Nat.{ℕ, _≤_}
 use mathlib.Core.List.{List, _++_}
 use mathlib.Core.Path.{_≡_}
 use lib.ListN.{length, drop}
+use Rattle.refusal.specs.Rows.{Row, Applies}
 use Rattle.refusal.specs.declared.Outcome.{Outcome}
 use Rattle.refusal.specs.declared.Outcome.the-variants.{Done, Refused}
 use Rattle.refusal.specs.declared.Written.{Written}
 use Rattle.refusal.specs.declared.Written.the-variants.{Wrote, Refused as Unwritten}
 
--- the document's number of a reader's answer, 0 where it is no refusal
-unfoldable pub numberOf : Outcome → ℕ
-numberOf Done = 0
-numberOf (Refused number) = number
+-- ---- what every call ensures
 
--- a reader's answer to the number of its rows
-unfoldable pub outcomeOf : ℕ → Outcome
-outcomeOf zero = Done
-outcomeOf (suc k) = Refused (suc k)
+-- the document's words for an answer: the values that the call gives, or a refusal, which carries only its number
+pub data Reply (A : Type 0) : Type 0 where
+  gives : A → Reply A
+  refuses : ℕ → Reply A
 
--- a value where no row applies, and a fixed empty one on a refusal
-unfoldable pub unlessRefused {ℓ} : {A : Type ℓ} → ℕ → A → A → A
-unlessRefused zero value empty = value
-unlessRefused (suc k) value empty = empty
+-- the number of a reply, 0 where it is no refusal
+abbrev pub numberIn : {A : Type 0} → Reply A → ℕ
+numberIn (gives values) = 0
+numberIn (refuses number) = number
 
--- the document's number of a writer's answer, 0 where it is no refusal
-unfoldable pub refusalOf : Written → ℕ
-refusalOf (Wrote size) = 0
-refusalOf (Unwritten number) = number
+-- what is lent is filled where the call gives values, and stays as it was where the call refuses
+abbrev pub filled : {A B : Type 0} → Reply A → B → B → B
+filled (gives values) value before = value
+filled (refuses number) value before = before
 
--- a writer's answer to the number of its rows and the length of what is to be written
-unfoldable pub writtenOf : ℕ → ℕ → Written
-writtenOf zero size = Wrote size
-writtenOf (suc k) size = Unwritten (suc k)
+-- What a call ensures of its reply and of what it leaves: of the rows that apply the smallest number is given, and all is left
+-- as it was; and where none applies the right values are given, and left is what is right.
+-- `R n` says that the row with the number n applies, `Right v l` that the values v and what is left, l, are right.
+pub data Ensured {A L : Type 0} (R : ℕ → Type 0) (Right : A → L → Type 0) (before : L) (reply : Reply A) (after : L) : Type 0 where
+  refused : {n : ℕ} → reply ≡ refuses n → after ≡ before → R n → ((m : ℕ) → R m → n ≤ m) → Ensured R Right before reply after
+  answered : {v : A} → reply ≡ gives v → Right v after → ((m : ℕ) → R m → ⊥) → Ensured R Right before reply after
+
+-- ---- the answers of readers and writers
+
+-- the document's words for a reader's answer; what it read is beside it
+abbrev pub replyOf : Outcome → Reply Unit
+replyOf Done = gives tt
+replyOf (Refused number) = refuses number
+
+-- the document's words for a writer's answer: how many bytes it wrote
+abbrev pub replyOfWritten : Written → Reply ℕ
+replyOfWritten (Wrote size) = gives size
+replyOfWritten (Unwritten number) = refuses number
 
 -- document 01: a writer or merge writes exactly the file or text at the front; what is beyond stays
 abbrev pub atFront : List ℕ → List ℕ → List ℕ
 atFront text before = text ++ drop (length text) before
 
--- what a writer leaves of an output that held `before`: `text` at the front, and on a refusal what it held
-abbrev pub leftBy : ℕ → List ℕ → List ℕ → List ℕ
-leftBy number text before = unlessRefused number (atFront text before) before
+-- what is right of a writer: a text that is asked for stands at the front, and its length is given
+pub record Fronted (Asked : List ℕ → Type 0) (before : List ℕ) (size : ℕ) (after : List ℕ) : Type 0 where
+  pub text : List ℕ
+  pub asked : Asked text
+  pub sized : size ≡ length text
+  pub left : after ≡ atFront text before
 
--- what a writer ensures, of the number of its rows, what is to be written, the output before and after, and its answer
-pub record Writes (number : ℕ) (text before after : List ℕ) (answer : Written) : Type 0 where
-  pub answered : answer ≡ writtenOf number (length text)
-  pub left : after ≡ leftBy number text before
+-- what a writer ensures whose rows are a list and that writes a given text, of the output before and after, and its answer
+pub record Writes (rows : List Row) (text before after : List ℕ) (answer : Written) : Type 0 where
+  pub ensured : Ensured (λ n. Applies n rows) (Fronted (λ t. t ≡ text) before) before (replyOfWritten answer) after

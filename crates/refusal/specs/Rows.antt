@@ -31,8 +31,12 @@ pub data Applies (n : ℕ) : List Row → Type 0 where
   here : {r : Row} {rows : List Row} → r .number ≡ n → r .applies ≡ true → Applies n (r ∷ rows)
   later : {r : Row} {rows : List Row} → Applies n rows → Applies n (r ∷ rows)
 
--- n is what the document asks for: a row with the number n applies, and no row that applies has a smaller number;
--- or n is 0 and no row applies
-pub data Given (rows : List Row) : ℕ → Type 0 where
-  refused : {n : ℕ} → Applies n rows → ((m : ℕ) → Applies m rows → n ≤ m) → Given rows n
-  accepted : ((m : ℕ) → Applies m rows → ⊥) → Given rows 0
+-- n is what the document asks for, `R n` saying that the row with the number n applies: that row applies, and no row that
+-- applies has a smaller number; or n is 0 and no row applies
+pub data Decided (R : ℕ → Type 0) : ℕ → Type 0 where
+  refused : {n : ℕ} → R n → ((m : ℕ) → R m → n ≤ m) → Decided R n
+  accepted : ((m : ℕ) → R m → ⊥) → Decided R 0
+
+-- the same of the rows of a list
+abbrev pub Given : List Row → ℕ → Type 0
+Given rows = Decided (λ n. Applies n rows)

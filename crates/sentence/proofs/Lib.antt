@@ -15,5 +15,4 @@ pub mod Puts
 pub mod WriteAll
 pub mod RoundTrips
 pub mod Nesting
-pub mod Numbered
 pub mod Examples

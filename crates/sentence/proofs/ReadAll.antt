@@ -3,17 +3,19 @@ use Prim.Native.Nat.{ℕ, zero, suc, _+_, _-_, _≤_, _<_}
 use mathlib.Core.Bool.{Bool, true, false, _||_, true≢false, or-assoc}
 use mathlib.Core.List.{List, [], _∷_, _++_, map, append-assoc, append-nil}
 use mathlib.Core.Path.{_≡_, refl, sym, ap, ap₂, _∙_}
-use native.Mathlib.Nat.{le-antisymm}
 use native.Mathlib.Omega.{arith}
 use borrow.Author.Tests.{ltb-true, ltb-false}
 use lib.Dec.{ltb}
 use lib.ListN.{length, drop, replicate, length-replicate, length-drop}
 use lib.Seq.{sets, sets-eq, drop-length}
 use Rattle.sentence.specs.Grammar.{letterByte, bodyText, Spells, Nests, someOutOfRange, outOfRange}
-use Rattle.sentence.specs.Calls.{recordOf, refusal, ReadRow, ReadAnswer}
+use Rattle.refusal.specs.declared.Outcome.{Outcome}
+use Rattle.refusal.specs.declared.Outcome.the-variants.{Done}
+use Rattle.refusal.specs.Answers.{refused, answered}
+use Rattle.refusal.proofs.Ensuring.{one-result, outcome-told}
+use Rattle.sentence.specs.Calls.{recordOf, ReadRow, Spelled, ReadAnswer}
 use Rattle.sentence.specs.Calls.ReadRow.{outside, long, range, many}
-use Rattle.sentence.specs.Calls.ReadAnswer.{refused, done}
-use Rattle.sentence.specs.Reading.{keep, keepAll, begunAt, finishedAs, Finished, Body, placesOf, Inside, Stuck, Result, Reads, PrefixResult}
+use Rattle.sentence.specs.Reading.{keep, keepAll, begunAt, refusal, finishedAs, Finished, Body, placesOf, Inside, Stuck, Result, Reads, PrefixResult}
 use Rattle.sentence.specs.Reading.PrefixResult.{prefix}
 use Rattle.sentence.specs.Reading.Result.{stopped, read, stuck}
 use Rattle.sentence.specs.declared.PrefixRead.{PrefixRead}
@@ -21,7 +23,7 @@ use Rattle.sentence.specs.declared.Progress.{Progress}
 use Rattle.sentence.specs.declared.Kind.the-variants.{State}
 use Rattle.sentence.specs.declared.Node.{Node}
 use Rattle.sentence.specs.declared.Kept.{Kept}
-use Rattle.sentence.specs.declared.Outcome.the-variants.{Done}
+use Rattle.sentence.specs.declared.Sentence.{Sentence}
 use Rattle.sentence.specs.declared.SentenceRead.{SentenceRead}
 use Rattle.sentence.proofs.Numbers.{Tested, tested}
 use Rattle.sentence.proofs.Numbers.Tested.{holds, fails}
@@ -73,10 +75,10 @@ row-low (range s e) = omega arith
 row-low (many s h) = omega arith
 
 pub answer-outside : {t : List ℕ} → ((ps : List Bool) (ns : List Node) → Spells ps ns t → ⊥) → ReadAnswer t (refusal 6)
-answer-outside f = refused (outside f) (λ m r. row-low r)
+answer-outside f = record { ensured = refused refl refl (outside f) (λ m r. row-low r) }
 
 pub answer-long : {t : List ℕ} → 400 < length t → ReadAnswer t (refusal 6)
-answer-long h = refused (long h) (λ m r. row-low r)
+answer-long h = record { ensured = refused refl refl (long h) (λ m r. row-low r) }
 
 -- a spelled text that is not too long leaves 7 and 8
 row-spelled : {t : List ℕ} {ps : List Bool} {ns : List Node} {m : ℕ} → Spells ps ns t → length t ≤ 400 → ReadRow t m → 7 ≤ m
@@ -95,23 +97,24 @@ row-ranged s h f (range s′ e) =
 row-ranged s h f (many s′ g) = (refl, rw (spelled-once s s′ .1) g)
 
 pub answer-range : {t : List ℕ} {ps : List Bool} {ns : List Node} → Spells ps ns t → length t ≤ 400 → someOutOfRange (length ps) ns ≡ true → ReadAnswer t (refusal 7)
-answer-range s h e = refused (range s e) (λ m r. row-spelled s h r)
+answer-range s h e = record { ensured = refused refl refl (range s e) (λ m r. row-spelled s h r) }
 
 pub answer-many : {t : List ℕ} {ps : List Bool} {ns : List Node} → Spells ps ns t → length t ≤ 400 → someOutOfRange (length ps) ns ≡ false → 64 < length ns → ReadAnswer t (refusal 8)
-answer-many s h e g = refused (many s g) (λ m r. omega (arith, row-ranged s h e r .0))
+answer-many s h e g = record { ensured = refused refl refl (many s g) (λ m r. omega (arith, row-ranged s h e r .0)) }
 
 pub answer-done : {t : List ℕ} {ps : List Bool} {ns : List Node} → Spells ps ns t → length t ≤ 400 → someOutOfRange (length ps) ns ≡ false → length ns ≤ 64 → ReadAnswer t (record { outcome = Done; sentence = recordOf ps ns })
-answer-done s h e g = done s (λ m r. omega (arith, row-ranged s h e r .1))
+answer-done {ps = ps} {ns} s h e g = record { ensured = answered refl (record { prefix = ps; nodes = ns; spells = s; fields = refl }) (λ m r. omega (arith, row-ranged s h e r .1)) }
 
 -- the contract leaves one answer
 pub one-answer : {t : List ℕ} {a b : SentenceRead} → ReadAnswer t a → ReadAnswer t b → a ≡ b
-one-answer (refused {n = n} r low) (refused {n = m} r′ low′) =
-    ap refusal (le-antisymm (low m r′) (low′ n r))
-one-answer (refused {n = n} r low) (done s none) = absurd (none n r)
-one-answer (done s none) (refused {n = n} r low) = absurd (none n r)
-one-answer (done s none) (done s′ none′) =
-    let one = spelled-once s s′ in
-    ap₂ (λ (p : List Bool) (n : List Node). record { outcome = Done; sentence = recordOf p n }) (one .0) (one .1)
+one-answer {t} {a} {b} x y =
+    let same = one-result one (x .ensured) (y .ensured) in
+    ap₂ (λ (o : Outcome) (s : Sentence). record { outcome = o; sentence = s }) (outcome-told (a .outcome) (b .outcome) (same .0)) (same .1)
+  where
+    one : (v v′ : Unit {0}) (s s′ : Sentence) → Spelled t s → Spelled t s′ → (v ≡ v′) × (s ≡ s′)
+    one v v′ s s′ p q =
+        let same = spelled-once (p .spells) (q .spells) in
+        (refl, p .fields ∙ ap₂ recordOf (same .0) (same .1) ∙ sym (q .fields))
 
 -- the body follows the prefix that was read
 body-after : {t : List ℕ} (ps qs : List Bool) (r : List ℕ) {ms : List Node} → t ≡ map letterByte ps ++ 46 ∷ r → Spells qs ms t → (ps ≡ qs) × (r ≡ bodyText ms)

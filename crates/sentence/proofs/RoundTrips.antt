@@ -8,16 +8,17 @@ use native.Mathlib.Omega.{arith}
 use lib.ListN.{length, take, drop, replicate, length-map, length-take}
 use lib.Seq.{take-append-seam, take-at, length-take-le}
 use Rattle.sentence.specs.Grammar.{Spells, someOutOfRange}
-use Rattle.sentence.specs.Calls.{slot, recordOf, refusal, ReadRow, ReadAnswer, prefixOf, nodesOf, WriteRow, WriteAnswer}
+use Rattle.refusal.specs.declared.Outcome.the-variants.{Done}
+use Rattle.refusal.specs.declared.Written.{Written}
+use Rattle.refusal.specs.declared.Written.the-variants.{Wrote}
+use Rattle.refusal.specs.Answers.{gives, refuses, replyOf, Ensured, refused, answered, atFront, Fronted}
+use Rattle.sentence.specs.Calls.{slot, recordOf, ReadRow, Spelled, ReadAnswer, prefixOf, nodesOf, WriteRow, WriteAnswer}
 use Rattle.sentence.specs.Calls.ReadRow.{outside, long, range, many}
 use Rattle.sentence.specs.Calls.WriteRow.{counted, lettered, unspelled, short}
 use Rattle.sentence.specs.declared.Node.{Node}
 use Rattle.sentence.specs.declared.Slot.{Slot}
 use Rattle.sentence.specs.declared.Sentence.{Sentence}
 use Rattle.sentence.specs.declared.SentenceRead.{SentenceRead}
-use Rattle.sentence.specs.declared.Outcome.the-variants.{Done}
-use Rattle.sentence.specs.declared.Written.{Written}
-use Rattle.sentence.specs.declared.Written.the-variants.{Wrote, Refused as NotWritten}
 use Rattle.sentence.proofs.Once.{spelled-once}
 use Rattle.sentence.proofs.ReadAll.{one-answer}
 use Rattle.sentence.proofs.WriteAll.{one-writing}
@@ -35,18 +36,18 @@ record-nodes : (ps : List Bool) (ns : List Node) → nodesOf (recordOf ps ns) �
 unfolding recordOf
 record-nodes ps ns = ap (map (λ (x : Slot). x .node)) (take-at (map slot ns) _ (length ns) (length-map ns slot)) ∙ map-slot ns
 
--- writing what was read gives the text that was read, where the output has room for it
-pub read-then-write : {t out after : List ℕ} {r : SentenceRead} {w : Written} → ReadAnswer t r → r .outcome ≡ Done → length t ≤ length out → WriteAnswer (r .sentence) out w after
-    → (w ≡ Wrote (length t)) × (after ≡ t ++ drop (length t) out)
+by-not : (a b : ℕ) → (a < b → ⊥) → b ≤ a
+by-not a b f = omega arith
+
+-- a record that was read can be written, where the output has room for the text
+write-back : {t : List ℕ} (out : List ℕ) {ps : List Bool} {ns : List Node} → Spells ps ns t → ((m : ℕ) → ReadRow t m → ⊥) → length t ≤ length out →
+    WriteAnswer (recordOf ps ns) out (Wrote (length t)) (atFront t out)
 unfolding recordOf
-read-then-write (ReadAnswer.refused r low) e h a = absurd (let z : _≡_ {A = ℕ} 0 1 = cc in omega arith)
-read-then-write {t} {out} (ReadAnswer.done {ps = ps} {ns = ns} p none) e h a = one-writing a (WriteAnswer.wrote spells no-row)
+write-back {t} out {ps} {ns} p none h =
+    record { ensured = answered refl (record { text = t; asked = spells; sized = refl; left = refl }) no-row }
   where
     spells : Spells (prefixOf (recordOf ps ns)) (nodesOf (recordOf ps ns)) t
     spells = subst (λ (x : List Bool). Spells x (nodesOf (recordOf ps ns)) t) (sym (record-prefix ps ns)) (subst (λ (x : List Node). Spells ps x t) (sym (record-nodes ps ns)) p)
-
-    by-not : (a b : ℕ) → (a < b → ⊥) → b ≤ a
-    by-not a b f = omega arith
 
     no-row : (m : ℕ) → WriteRow (recordOf ps ns) (length out) m → ⊥
     no-row m (counted g) = none 8 (many p g)
@@ -55,14 +56,25 @@ read-then-write {t} {out} (ReadAnswer.done {ps = ps} {ns = ns} p none) e h a = o
     no-row m (WriteRow.range f) = none 7 (range p (ap (someOutOfRange (length ps)) (sym (record-nodes ps ns)) ∙ f))
     no-row m (short q g) = omega (arith, ap length (q .text ∙ sym (spells .text)))
 
--- reading what was written gives the prefix and the nodes of the record. (Every record has four places for letters.)
-pub write-then-read : {s : Sentence} {out after : List ℕ} {n : ℕ} {r : SentenceRead} → length (s .exists) ≡ 4 → WriteAnswer s out (Wrote n) after → ReadAnswer (take n after) r
-    → r ≡ record { outcome = Done; sentence = recordOf (prefixOf s) (nodesOf s) }
-write-then-read {s} {out} {r = r} len (WriteAnswer.wrote {t} p none) a = one-answer (subst (λ (x : List ℕ). ReadAnswer x r) (take-append-seam t (drop (length t) out)) a) (ReadAnswer.done p no-row)
+-- writing what was read gives the text that was read, where the output has room for it
+pub read-then-write : {t out after : List ℕ} {r : SentenceRead} {w : Written} → ReadAnswer t r → r .outcome ≡ Done → length t ≤ length out → WriteAnswer (r .sentence) out w after
+    → (w ≡ Wrote (length t)) × (after ≡ atFront t out)
+read-then-write {t} {out} {after} {r} {w} a e h b = by (a .ensured)
   where
-    by-not : (a b : ℕ) → (a < b → ⊥) → b ≤ a
-    by-not a b f = omega arith
+    by : Ensured (ReadRow t) (λ done. Spelled t) (recordOf [] []) (replyOf (r .outcome)) (r .sentence) → (w ≡ Wrote (length t)) × (after ≡ atFront t out)
+    by (refused {n = n} f k row least) =
+        let other : gives tt ≡ refuses n = ap replyOf (sym e) ∙ f in
+        let z : _≡_ {A = ℕ} 0 1 = cc in
+        absurd (omega arith)
+    by (answered f right none) =
+        one-writing (subst (λ (s : Sentence). WriteAnswer s out w after) (right .fields) b) (write-back out (right .spells) none h)
 
+-- a text that was written can be read. (Every record has four places for letters.)
+read-back : (s : Sentence) (room : ℕ) {t : List ℕ} → length (s .exists) ≡ 4 → Spells (prefixOf s) (nodesOf s) t → ((m : ℕ) → WriteRow s room m → ⊥) →
+    ReadAnswer t (record { outcome = Done; sentence = recordOf (prefixOf s) (nodesOf s) })
+read-back s room {t} len p none =
+    record { ensured = answered refl (record { prefix = prefixOf s; nodes = nodesOf s; spells = p; fields = refl }) no-row }
+  where
     letters : length (prefixOf s) ≡ s .letters
     letters =
         let few : s .letters ≤ 4 = by-not 4 (s .letters) (λ h. none 6 (lettered h)) in
@@ -80,6 +92,21 @@ write-then-read {s} {out} {r = r} len (WriteAnswer.wrote {t} p none) a = one-ans
         let one = spelled-once p q in
         none 7 (WriteRow.range (ap (λ (i : ℕ). someOutOfRange i (nodesOf s)) (sym letters) ∙ ap₂ (λ (x : List Bool) (y : List Node). someOutOfRange (length x) y) (one .0) (one .1) ∙ e))
     no-row m (many q g) = omega (arith, count, ap length (spelled-once p q .1))
+
+-- reading what was written gives the prefix and the nodes of the record
+pub write-then-read : {s : Sentence} {out after : List ℕ} {n : ℕ} {r : SentenceRead} → length (s .exists) ≡ 4 → WriteAnswer s out (Wrote n) after → ReadAnswer (take n after) r
+    → r ≡ record { outcome = Done; sentence = recordOf (prefixOf s) (nodesOf s) }
+write-then-read {s} {out} {after} {n} {r} len b a = by (b .ensured)
+  where
+    by : Ensured (WriteRow s (length out)) (Fronted (Spells (prefixOf s) (nodesOf s)) out) out (gives n) after → r ≡ record { outcome = Done; sentence = recordOf (prefixOf s) (nodesOf s) }
+    by (refused {n = m} e k row least) =
+        let z : _≡_ {A = ℕ} 0 1 = cc in
+        absurd (omega arith)
+    by (answered {v = size} e right none) =
+        let t = right .text in
+        let same : n ≡ size = cc in
+        let front : take n after ≡ t = ap₂ (λ (k : ℕ) (l : List ℕ). take k l) (same ∙ right .sized) (right .left) ∙ take-append-seam t (drop (length t) out) in
+        one-answer (subst (λ (x : List ℕ). ReadAnswer x r) front a) (read-back s (length out) len (right .asked) none)
 
 -- that record has the letters and the nodes of the one that was written
 pub same-sentence : (ps : List Bool) (ns : List Node) → (prefixOf (recordOf ps ns) ≡ ps) × (nodesOf (recordOf ps ns) ≡ ns)

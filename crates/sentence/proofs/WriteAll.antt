@@ -11,16 +11,17 @@ use Rattle.sentence.specs.Grammar.{letterByte, bodyText, sentenceText, S
 use Rattle.sentence.specs.Grammar.Nests.{end}
 use Rattle.sentence.specs.Calls.{prefixOf, nodesOf, WriteRow, WriteAnswer}
 use Rattle.sentence.specs.Calls.WriteRow.{counted, lettered, unspelled, range, short}
-use Rattle.sentence.specs.Writing.{listed, Fit, Fits, Surveyed, Decision, Put}
+use Rattle.sentence.specs.Writing.{listed, Fit, Fits, Surveyed, Sized, Decision, Put}
 use Rattle.sentence.specs.Writing.Fit.{stopped, fit, unfit}
-use Rattle.sentence.specs.Writing.Decision.{refused, wrote}
 use Rattle.sentence.specs.declared.Kind.the-variants.{State}
 use Rattle.sentence.specs.declared.Node.{Node}
 use Rattle.sentence.specs.declared.Place.{Place}
 use Rattle.sentence.specs.declared.Sentence.{Sentence}
 use Rattle.sentence.specs.declared.Survey.{Survey}
-use Rattle.sentence.specs.declared.Written.{Written}
-use Rattle.sentence.specs.declared.Written.the-variants.{Wrote, Refused as NotWritten}
+use Rattle.refusal.specs.declared.Written.{Written}
+use Rattle.refusal.specs.declared.Written.the-variants.{Wrote, Refused as NotWritten}
+use Rattle.refusal.specs.Answers.{gives, refuses, replyOfWritten, Ensured, refused, answered, atFront, Fronted}
+use Rattle.refusal.proofs.Ensuring.{one-result, one-front, written-told}
 use Rattle.sentence.proofs.Unique.{Peeled, peel, body-append}
 use Rattle.sentence.proofs.Once.{no-nodes}
 use Rattle.sentence.proofs.Fitting.{listed-length}
@@ -34,7 +35,7 @@ row-low (range e) = omega arith
 row-low (short p h) = omega arith
 
 pub refuse : {s : Sentence} {room : ℕ} → WriteRow s room 6 → Decision s room (NotWritten 6)
-refuse r = refused r (λ m q. row-low q)
+refuse r = record { ensured = refused refl refl r (λ m q. row-low q) }
 
 -- the list does not nest
 pub refuse-unfit : (s : Sentence) (room : ℕ) (r : Place) → Fits (State ∷ []) (nodesOf s) (record { ok = true; at = 0 }) r → r .ok ≡ false → Decision s room (NotWritten 6)
@@ -130,13 +131,13 @@ row-ranged f h e (range e′) = absurd (true≢false (sym e′ ∙ e))
 row-ranged f h e (short p g) = (refl, omega (arith, ap length (p .text), f .sized))
 
 pub refuse-range : {s : Sentence} {size : ℕ} (room : ℕ) → Fine s size → size ≤ 400 → someOutOfRange (s .letters) (nodesOf s) ≡ true → Decision s room (NotWritten 7)
-refuse-range room f h e = refused (range e) (λ m q. row-fine f h q)
+refuse-range room f h e = record { ensured = refused refl refl (range e) (λ m q. row-fine f h q) }
 
 pub refuse-short : {s : Sentence} {size : ℕ} (room : ℕ) → Fine s size → size ≤ 400 → someOutOfRange (s .letters) (nodesOf s) ≡ false → room < size → Decision s room (NotWritten 14)
-refuse-short room f h e g = refused (short (f .spells) (omega (arith, f .sized))) (λ m q. omega (arith, row-ranged f h e q .0))
+refuse-short room f h e g = record { ensured = refused refl refl (short (f .spells) (omega (arith, f .sized))) (λ m q. omega (arith, row-ranged f h e q .0)) }
 
 pub decide-wrote : {s : Sentence} {size : ℕ} (room : ℕ) → Fine s size → size ≤ 400 → someOutOfRange (s .letters) (nodesOf s) ≡ false → size ≤ room → Decision s room (Wrote size)
-decide-wrote {s} room f h e g = subst (λ (n : ℕ). Decision s room (Wrote n)) (f .sized) (wrote (f .spells) (λ m q. omega (arith, row-ranged f h e q .1)))
+decide-wrote {s} room f h e g = record { ensured = answered refl (record { text = sentenceText (prefixOf s) (nodesOf s); spells = f .spells; sized = sym (f .sized) }) (λ m q. omega (arith, row-ranged f h e q .1)) }
 
 -- what a decision to write says
 pub record Cleared (s : Sentence) (room : ℕ) : Type 0 where
@@ -147,24 +148,36 @@ pub record Cleared (s : Sentence) (room : ℕ) : Type 0 where
   pub fits : length (sentenceText (prefixOf s) (nodesOf s)) ≤ room
 
 pub cleared : {s : Sentence} {room size : ℕ} {w : Written} → Decision s room w → w ≡ Wrote size → Cleared s room
-cleared (refused {n = n} r low) e = absurd (let z : _≡_ {A = ℕ} 0 1 = cc in omega arith)
-cleared {s} {room} (wrote {t} p none) e =
-    let q : Spells (prefixOf s) (nodesOf s) (sentenceText (prefixOf s) (nodesOf s)) = subst (Spells (prefixOf s) (nodesOf s)) (p .text) p in
-    record {
-      spells = q;
-      none = none;
-      few = by-not 4 (s .letters) (λ h. none 6 (lettered h));
-      room-for = by-not 64 (s .count) (λ h. none 6 (counted h));
-      fits = by-not room (length (sentenceText (prefixOf s) (nodesOf s))) (λ h. none 14 (short q h));
-    }
+cleared {s} {room} {size} {w} d h = by (d .ensured)
   where
     by-not : (a b : ℕ) → (a < b → ⊥) → b ≤ a
     by-not a b f = omega arith
 
+    by : Ensured (WriteRow s room) (λ size nothing. Sized s size) (tt {0}) (replyOfWritten w) (tt {0}) → Cleared s room
+    by (refused {n = n} e k row least) =
+        let other : gives size ≡ refuses n = ap replyOfWritten (sym h) ∙ e in
+        let z : _≡_ {A = ℕ} 0 1 = cc in
+        absurd (omega arith)
+    by (answered e right none) =
+        let q : Spells (prefixOf s) (nodesOf s) (sentenceText (prefixOf s) (nodesOf s)) = subst (Spells (prefixOf s) (nodesOf s)) (right .spells .text) (right .spells) in
+        record {
+          spells = q;
+          none = none;
+          few = by-not 4 (s .letters) (λ h. none 6 (lettered h));
+          room-for = by-not 64 (s .count) (λ h. none 6 (counted h));
+          fits = by-not room (length (sentenceText (prefixOf s) (nodesOf s))) (λ h. none 14 (short q h));
+        }
+
 -- a refusal writes nothing
 pub answer-refused : {s : Sentence} {n : ℕ} {w : Written} (out : List ℕ) → Decision s (length out) w → w ≡ NotWritten n → WriteAnswer s out (NotWritten n) out
-answer-refused {s} out (refused {n = m} r low) e = subst (λ (k : ℕ). WriteAnswer s out (NotWritten k) out) (cc e) (WriteAnswer.refused r low)
-answer-refused out (wrote p none) e = absurd (let z : _≡_ {A = ℕ} 0 1 = cc in omega arith)
+answer-refused {s} {n} {w} out d h = by (d .ensured)
+  where
+    by : Ensured (WriteRow s (length out)) (λ size nothing. Sized s size) (tt {0}) (replyOfWritten w) (tt {0}) → WriteAnswer s out (NotWritten n) out
+    by (refused e k row least) = record { ensured = refused (ap replyOfWritten (sym h) ∙ e) refl row least }
+    by (answered {v = size} e right none) =
+        let other : refuses n ≡ gives size = ap replyOfWritten (sym h) ∙ e in
+        let z : _≡_ {A = ℕ} 0 1 = cc in
+        absurd (omega arith)
 
 -- the text is at the front, and the rest is as it was
 front : (out t : List ℕ) → length t ≤ length out → sets out 0 t ≡ t ++ drop (length t) out
@@ -178,14 +191,15 @@ answer-wrote {s} {r} out after c p =
     let t = sentenceText (prefixOf s) (nodesOf s) in
     let same : map letterByte (prefixOf s) ++ 46 ∷ bodyText (nodesOf s) ≡ t = sym (append-assoc (map letterByte (prefixOf s)) (46 ∷ []) (bodyText (nodesOf s))) in
     let size : length t ≡ r = omega (arith, p .next, ap length same) in
-    subst (λ (n : ℕ). WriteAnswer s out (Wrote n) after) size
-    (subst (λ (a : List ℕ). WriteAnswer s out (Wrote (length t)) a) (sym (p .bytes ∙ ap (sets out 0) same ∙ front out t (c .fits))) (WriteAnswer.wrote (c .spells) (c .none)))
+    record {
+      ensured =
+          answered refl
+          (record { text = t; asked = c .spells; sized = sym size; left = p .bytes ∙ ap (sets out 0) same ∙ front out t (c .fits) })
+          (c .none);
+    }
 
 -- the contract leaves one answer and one output
 pub one-writing : {s : Sentence} {out : List ℕ} {v w : Written} {a b : List ℕ} → WriteAnswer s out v a → WriteAnswer s out w b → (v ≡ w) × (a ≡ b)
-one-writing (WriteAnswer.refused {n = n} r low) (WriteAnswer.refused {n = m} r′ low′) = (ap NotWritten (le-antisymm (low m r′) (low′ n r)), refl)
-one-writing (WriteAnswer.refused {n = n} r low) (WriteAnswer.wrote p none) = absurd (none n r)
-one-writing (WriteAnswer.wrote p none) (WriteAnswer.refused {n = n} r low) = absurd (none n r)
-one-writing {out = out} (WriteAnswer.wrote p none) (WriteAnswer.wrote q none′) =
-    let same = p .text ∙ sym (q .text) in
-    (ap (λ (t : List ℕ). Wrote (length t)) same, ap (λ (t : List ℕ). t ++ drop (length t) out) same)
+one-writing {v = v} {w} x y =
+    let one = one-result (one-front (λ t t′ p q. p .text ∙ sym (q .text))) (x .ensured) (y .ensured) in
+    (written-told v w (one .0), one .1)

@@ -1,24 +1,17 @@
 -- Document 01, 'Calls and refusal numbers', for read sentence and write sentence: their rows, and what the calls answer.
 use Prim.Native.Nat.{ℕ, _-_, _≤_, _<_}
 use mathlib.Core.Bool.{Bool, true, false}
-use mathlib.Core.List.{List, [], _∷_, _++_, map}
+use mathlib.Core.List.{List, [], _++_, map}
 use mathlib.Core.Path.{_≡_}
-use lib.ListN.{length, take, drop, replicate}
+use lib.ListN.{length, take, replicate}
+use Rattle.refusal.specs.declared.Written.{Written}
+use Rattle.refusal.specs.Answers.{replyOf, replyOfWritten, Fronted, Ensured}
 use Rattle.sentence.specs.Grammar.{Spells, someOutOfRange}
 use Rattle.sentence.specs.declared.Node.{Node}
 use Rattle.sentence.specs.declared.Node.the-variants.{True}
 use Rattle.sentence.specs.declared.Slot.{Slot}
 use Rattle.sentence.specs.declared.Sentence.{Sentence}
 use Rattle.sentence.specs.declared.SentenceRead.{SentenceRead}
-use Rattle.sentence.specs.declared.Written.{Written}
-use Rattle.sentence.specs.declared.Written.the-variants.{Wrote, Refused as NotWritten}
-use Rattle.sentence.specs.declared.Outcome.{Outcome}
-use Rattle.sentence.specs.declared.Outcome.the-variants.{Done, Refused}
-
--- the document's number for an outcome; 0 is no row's number
-abbrev pub numberOf : Outcome → ℕ
-numberOf Done = 0
-numberOf (Refused n) = n
 
 -- the rows of read sentence: `ReadRow t n` says that the row with the number n applies to the text t
 pub data ReadRow (t : List ℕ) : ℕ → Type 0 where
@@ -41,15 +34,16 @@ recordOf ps ns =
       nodes = map slot ns ++ replicate (64 - length ns) (slot True);
     }
 
--- a refusal carries only its number: the record is empty
-abbrev pub refusal : ℕ → SentenceRead
-refusal n = record { outcome = Refused n; sentence = recordOf [] [] }
+-- what is right of read sentence: the record of the prefix and the nodes that spell the text
+pub record Spelled (t : List ℕ) (s : Sentence) : Type 0 where
+  pub prefix : List Bool
+  pub nodes : List Node
+  pub spells : Spells prefix nodes t
+  pub fields : s ≡ recordOf prefix nodes
 
--- what read sentence answers to the text t: of the rows that apply the smallest number, with an empty record; and where
--- none applies, the prefix and the nodes that spell t
-pub data ReadAnswer (t : List ℕ) : SentenceRead → Type 0 where
-  refused : {n : ℕ} → ReadRow t n → ((m : ℕ) → ReadRow t m → n ≤ m) → ReadAnswer t (refusal n)
-  done : {ps : List Bool} {ns : List Node} → Spells ps ns t → ((m : ℕ) → ReadRow t m → ⊥) → ReadAnswer t (record { outcome = Done; sentence = recordOf ps ns })
+-- what read sentence ensures of the text t and what it answers: on a refusal, which carries only its number, the record is empty
+pub record ReadAnswer (t : List ℕ) (r : SentenceRead) : Type 0 where
+  pub ensured : Ensured (ReadRow t) (λ done. Spelled t) (recordOf [] []) (replyOf (r .outcome)) (r .sentence)
 
 -- the prefix and the node list of a record: places past the letters and past the count are no part of the sentence
 abbrev pub prefixOf : Sentence → List Bool
@@ -57,11 +51,6 @@ prefixOf s = take (s .letters) (s .exists)
 
 abbrev pub nodesOf : Sentence → List Node
 nodesOf s = map (λ (x : Slot). x .node) (take (s .count) (s .nodes))
-
--- the document's number for what write sentence answers; 0 is no row's number
-abbrev pub numberOfWritten : Written → ℕ
-numberOfWritten (Wrote n) = 0
-numberOfWritten (NotWritten n) = n
 
 -- the rows of write sentence, for a record and an output of `room` bytes
 pub data WriteRow (s : Sentence) (room : ℕ) : ℕ → Type 0 where
@@ -71,8 +60,7 @@ pub data WriteRow (s : Sentence) (room : ℕ) : ℕ → Type 0 where
   range : someOutOfRange (s .letters) (nodesOf s) ≡ true → WriteRow s room 7
   short : {t : List ℕ} → Spells (prefixOf s) (nodesOf s) t → room < length t → WriteRow s room 14
 
--- what write sentence answers, and what the output is afterwards: of the rows that apply the smallest number, the output as
--- it was; and where none applies, the text's length, the text at the front and the rest as it was
-pub data WriteAnswer (s : Sentence) (out : List ℕ) : Written → List ℕ → Type 0 where
-  refused : {n : ℕ} → WriteRow s (length out) n → ((m : ℕ) → WriteRow s (length out) m → n ≤ m) → WriteAnswer s out (NotWritten n) out
-  wrote : {t : List ℕ} → Spells (prefixOf s) (nodesOf s) t → ((m : ℕ) → WriteRow s (length out) m → ⊥) → WriteAnswer s out (Wrote (length t)) (t ++ drop (length t) out)
+-- what write sentence ensures of the record, the output before and after, and what it answers: the text that the record's prefix
+-- and nodes spell stands at the front
+pub record WriteAnswer (s : Sentence) (before : List ℕ) (w : Written) (after : List ℕ) : Type 0 where
+  pub ensured : Ensured (WriteRow s (length before)) (Fronted (Spells (prefixOf s) (nodesOf s)) before) before (replyOfWritten w) after

@@ -9,7 +9,8 @@ use lib.Dec.{ltb}
 use lib.ListN.{length, drop, replicate}
 use lib.Seq.{sets}
 use Rattle.sentence.specs.Grammar.{numberText, Nests, nodeText, Writable, kindOf, wants, bodyText, letterByte, outOfRange}
-use Rattle.sentence.specs.Calls.{slot, refusal}
+use Rattle.refusal.specs.declared.Outcome.the-variants.{Done, Refused}
+use Rattle.sentence.specs.Calls.{slot, recordOf}
 use Rattle.sentence.specs.Writing.{AllWritable}
 use Rattle.sentence.specs.declared.Kind.{Kind}
 use Rattle.sentence.specs.declared.Node.{Node}
@@ -17,7 +18,6 @@ use Rattle.sentence.specs.declared.Node.the-variants.{True}
 use Rattle.sentence.specs.declared.Slot.{Slot}
 use Rattle.sentence.specs.declared.Kept.{Kept}
 use Rattle.sentence.specs.declared.Progress.{Progress}
-use Rattle.sentence.specs.declared.Outcome.the-variants.{Done}
 use Rattle.sentence.specs.declared.SentenceRead.{SentenceRead}
 use Rattle.sentence.specs.declared.NumberRead.{NumberRead}
 use Rattle.sentence.specs.declared.NumbersRead.{NumbersRead}
@@ -122,6 +122,10 @@ placesOf ns = map slot ns ++ replicate (64 - length ns) (slot True)
 -- where the text from the place `at` on is that of so many nodes, these are their places
 abbrev pub NodesHere : List ℕ → ℕ → ℕ → List Slot → Type 0
 NodesHere t at count places = (ns : List Node) → length ns ≡ count → Body t at ns → places ≡ placesOf ns
+
+-- a refusal: the record is empty
+abbrev pub refusal : ℕ → SentenceRead
+refusal n = record { outcome = Refused n; sentence = recordOf [] [] }
 
 -- the answer for a text in the grammar, from what was kept of it and the places of its nodes: 7 before 8
 abbrev pub finishedAs : ℕ → List Bool → Kept → List Slot → SentenceRead

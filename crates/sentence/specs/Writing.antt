@@ -7,6 +7,8 @@ use mathlib.Core.Path.{_≡_}
 use lib.Dec.{leb, ltb}
 use lib.ListN.{length, take, drop}
 use lib.Seq.{sets}
+use Rattle.refusal.specs.declared.Written.{Written}
+use Rattle.refusal.specs.Answers.{replyOfWritten, Ensured}
 use Rattle.sentence.specs.Grammar.{numberText, Writable, kindOf, Nests, bodyText, someOutOfRange, Spells}
 use Rattle.sentence.specs.Calls.{WriteRow, prefixOf, nodesOf}
 use Rattle.sentence.specs.declared.Kind.{Kind}
@@ -19,8 +21,6 @@ use Rattle.sentence.specs.declared.Place.{Place}
 use Rattle.sentence.specs.declared.Survey.{Survey}
 use Rattle.sentence.specs.declared.Wants.{Wants}
 use Rattle.sentence.specs.declared.Wants.the-variants.{Nothing, One, Two}
-use Rattle.sentence.specs.declared.Written.{Written}
-use Rattle.sentence.specs.declared.Written.the-variants.{Wrote, Refused as NotWritten}
 
 -- the first `count` nodes of the places
 abbrev pub listed : List Slot → ℕ → List Node
@@ -94,10 +94,15 @@ pub record Surveyed (letters : ℕ) (l : List Node) (r : Survey) : Type 0 where
   pub fault : r .fault ≡ someOutOfRange letters l
   pub small : r .size ≤ 14 * length l
 
--- what is decided before anything is written
-pub data Decision (s : Sentence) (room : ℕ) : Written → Type 0 where
-  refused : {n : ℕ} → WriteRow s room n → ((m : ℕ) → WriteRow s room m → n ≤ m) → Decision s room (NotWritten n)
-  wrote : {t : List ℕ} → Spells (prefixOf s) (nodesOf s) t → ((m : ℕ) → WriteRow s room m → ⊥) → Decision s room (Wrote (length t))
+-- the text of a record, of so many bytes
+pub record Sized (s : Sentence) (size : ℕ) : Type 0 where
+  pub text : List ℕ
+  pub spells : Spells (prefixOf s) (nodesOf s) text
+  pub sized : size ≡ length text
+
+-- what is decided before anything is written, of an output of `room` bytes
+pub record Decision (s : Sentence) (room : ℕ) (w : Written) : Type 0 where
+  pub ensured : Ensured (WriteRow s room) (λ size nothing. Sized s size) (tt {0}) (replyOfWritten w) (tt {0})
 
 -- the bytes s are written from the place `at` on: the output then, and the place after them
 pub record Put (out : List ℕ) (at : ℕ) (s : List ℕ) (r : ℕ) (after : List ℕ) : Type 0 where

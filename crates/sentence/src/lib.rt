@@ -6,9 +6,11 @@ ghost use mathlib.Core.List.{[], _∷_, map};
 ghost use mathlib.Core.Path.{_≡_};
 ghost use lib.ListN.{length, take, drop, getD, replicate, set};
 ghost use Rattle.sentence.specs.Grammar.{numberText, nodeText, bodyText, relationByte, letterByte, Writable, kindOf, outOfRange};
-ghost use Rattle.sentence.specs.Calls.{ReadAnswer, WriteAnswer, refusal, slot};
-ghost use Rattle.sentence.specs.Reading.{begunAt, Finished, keepBad, passedTo, stoppedAt, nodeTo, NodeHere, NodesHere, Inside, Reads, NodeReads, NoDigit, Closing, NumberResult, NumbersResult, PrefixResult};
+ghost use Rattle.sentence.specs.Calls.{ReadAnswer, WriteAnswer, slot};
+ghost use Rattle.sentence.specs.Reading.{begunAt, refusal, Finished, keepBad, passedTo, stoppedAt, nodeTo, NodeHere, NodesHere, Inside, Reads, NodeReads, NoDigit, Closing, NumberResult, NumbersResult, PrefixResult};
 ghost use Rattle.sentence.specs.Writing.{listed, wantsOf, sameKind, writable, Fits, Surveyed, Decision, Put, numbersText, AllWritable};
+use refusal::Outcome;
+use refusal::Written;
 
 // The five comparisons.
 pub enum Relation {
@@ -53,12 +55,6 @@ pub struct Sentence {
     pub exists: [bool; 4],
     pub count: usize,
     pub nodes: [Slot; 64],
-}
-
-// What a call answers, beside its data.
-pub enum Outcome {
-    Done,
-    Refused(u8),
 }
 
 // What read sentence answers.
@@ -107,12 +103,6 @@ pub struct PrefixRead {
     pub letters: usize,
     pub next: usize,
     pub exists: [bool; 4],
-}
-
-// What write sentence answers: how many bytes it wrote, or the refusal's number.
-pub enum Written {
-    Wrote(usize),
-    Refused(u8),
 }
 
 // What a node wants after it: nothing, one thing, or two of one kind.

@@ -1,36 +1,54 @@
 -- The contract of verdict leaves one answer and one work area, and no refusal's number above 11.
 use Prim.Native.Nat.{ℕ, _≤_}
-use mathlib.Core.Bool.{Bool, true, false}
-use mathlib.Core.List.{List, [], _++_, map}
-use mathlib.Core.Path.{_≡_, refl, ap, ap₂}
-use native.Mathlib.Nat.{le-antisymm}
+use mathlib.Core.Bool.{Bool, true, false, true≢false}
+use mathlib.Core.List.{List, map}
+use mathlib.Core.Path.{_≡_, refl, sym, ap, ap₂, _∙_}
 use native.Mathlib.Omega.{arith}
+use Rattle.refusal.specs.Answers.{numberIn}
+use Rattle.refusal.specs.Rows.{Decided, refused, accepted}
+use Rattle.refusal.proofs.Ensuring.{one-result, number-decided}
 use Rattle.model.specs.Layout.{fieldsOf}
-use Rattle.sentence.specs.declared.Node.{Node}
 use Rattle.meaning.specs.Tree.{Formula, letterOf}
 use Rattle.meaning.specs.Meaning.{verdict}
 use Rattle.trees.proofs.Once.{sentence-once}
 use Rattle.chain.specs.Of.{chainOf}
+use Rattle.question.specs.Rows.{QuestionRow}
 use Rattle.question.proofs.Numbers.{row-few}
 use Rattle.verdict.specs.declared.Answer.{Answer}
-use Rattle.verdict.specs.declared.Answer.the-variants.{Refused}
-use Rattle.verdict.specs.Calls.{answerOf, numberOf, VerdictAnswer, refused, answered}
+use Rattle.verdict.specs.declared.Answer.the-variants.{Holds, Fails, Refused}
+use Rattle.verdict.specs.Calls.{replyOf, Judges, VerdictAnswer}
 
+-- a reply tells its answer
+reply-told : (a b : Answer) → replyOf a ≡ replyOf b → a ≡ b
+reply-told Holds Holds e = refl
+reply-told Holds Fails e = absurd (true≢false (cc e))
+reply-told Holds (Refused n) e = let z : _≡_ {A = ℕ} 0 1 = cc in absurd (omega arith)
+reply-told Fails Holds e = absurd (true≢false (sym (cc e)))
+reply-told Fails Fails e = refl
+reply-told Fails (Refused n) e = let z : _≡_ {A = ℕ} 0 1 = cc in absurd (omega arith)
+reply-told (Refused n) Holds e = let z : _≡_ {A = ℕ} 0 1 = cc in absurd (omega arith)
+reply-told (Refused n) Fails e = let z : _≡_ {A = ℕ} 0 1 = cc in absurd (omega arith)
+reply-told (Refused n) (Refused m) e = ap Refused (cc e)
+
+-- what is right is one
+one-right : {file text before : List ℕ} (v v′ : Bool) (l l′ : List ℕ) → Judges file text before v l → Judges file text before v′ l′ →
+    (v ≡ v′) × (l ≡ l′)
+one-right {file} v v′ l l′ j j′ =
+    let one = sentence-once (j .sentence .body) (j′ .sentence .body) (j .sentence .spelled) (j′ .sentence .spelled) in
+    let same = ap₂ (λ (ps : List Bool) (h : Formula). verdict (chainOf (fieldsOf file)) (map letterOf ps) h) (one .0) (one .1) in
+    (j .meant ∙ same ∙ sym (j′ .meant), j .left ∙ sym (j′ .left))
+
+-- any two results that the contract allows are equal
 pub one-verdict : {file text before after after′ : List ℕ} {a b : Answer} → VerdictAnswer file text before a after →
     VerdictAnswer file text before b after′ → (a ≡ b) × (after ≡ after′)
-one-verdict (refused {n = n} row least) (refused {n = m} row′ least′) = (ap Refused (le-antisymm (least m row′) (least′ n row)), refl)
-one-verdict (refused {n = n} row least) (answered f s none) = absurd (none n row)
-one-verdict (answered f s none) (refused {n = n} row least) = absurd (none n row)
-one-verdict {file} (answered f s none) (answered g s′ none′) =
-    let one = sentence-once f g s s′ in
-    (ap₂ (λ (ps : List Bool) (h : Formula). answerOf (verdict (chainOf (fieldsOf file)) (map letterOf ps) h)) (one .0) (one .1), refl)
+one-verdict {a = a} {b} x y =
+    let one = one-result one-right (x .ensured) (y .ensured) in
+    (reply-told a b (one .0), one .1)
 
-answered-few : (t : Bool) → numberOf (answerOf t) ≤ 11
-unfolding answerOf numberOf
-answered-few true = omega arith
-answered-few false = omega arith
-
-pub number-few : {file text before after : List ℕ} {a : Answer} → VerdictAnswer file text before a after → numberOf a ≤ 11
-unfolding numberOf
-number-few (refused row least) = row-few row
-number-few {file} (answered {ps} f s none) = answered-few (verdict (chainOf (fieldsOf file)) (map letterOf ps) f)
+-- a refusal's number is 11 or less
+pub number-few : {file text before after : List ℕ} {a : Answer} → VerdictAnswer file text before a after → numberIn (replyOf a) ≤ 11
+number-few {file} {text} {before} x = by (number-decided (x .ensured))
+  where
+    by : {room n : ℕ} → Decided (QuestionRow file text room) n → n ≤ 11
+    by (refused row least) = row-few row
+    by (accepted none) = omega arith

@@ -1,32 +1,30 @@
 -- Document 01, 'Calls and refusal numbers', for verdict: what the call answers and leaves. Its rows are those of a question.
-use Prim.Native.Nat.{ℕ, _≤_}
+use Prim.Native.Nat.{ℕ}
 use mathlib.Core.Bool.{Bool, true, false}
 use mathlib.Core.List.{List, map}
+use mathlib.Core.Path.{_≡_}
 use lib.ListN.{length}
+use Rattle.refusal.specs.Answers.{Reply, gives, refuses, Ensured}
 use Rattle.model.specs.Layout.{fieldsOf}
-use Rattle.sentence.specs.Grammar.{Spells}
-use Rattle.meaning.specs.Tree.{Formula, letterOf}
+use Rattle.meaning.specs.Tree.{letterOf}
 use Rattle.meaning.specs.Meaning.{verdict}
-use Rattle.trees.specs.Listed.{formulaNodes}
 use Rattle.chain.specs.Of.{chainOf}
-use Rattle.question.specs.Rows.{QuestionRow, cleared}
+use Rattle.question.specs.Rows.{QuestionRow, SentenceOf, cleared}
 use Rattle.verdict.specs.declared.Answer.{Answer}
 use Rattle.verdict.specs.declared.Answer.the-variants.{Holds, Fails, Refused}
 
--- the document's word for an answer that is no refusal, and the number of one that is (0 is no row's number)
-unfoldable pub answerOf : Bool → Answer
-answerOf true = Holds
-answerOf false = Fails
+-- the document's words for an answer: that the sentence holds, or does not, or the number of a refusal
+abbrev pub replyOf : Answer → Reply Bool
+replyOf Holds = gives true
+replyOf Fails = gives false
+replyOf (Refused number) = refuses number
 
-unfoldable pub numberOf : Answer → ℕ
-numberOf Holds = 0
-numberOf Fails = 0
-numberOf (Refused n) = n
+-- what is right of verdict: 'holds' exactly if the sentence holds, and the first 8,192 numbers of the area zero
+pub record Judges (file text before : List ℕ) (holds : Bool) (after : List ℕ) : Type 0 where
+  pub sentence : SentenceOf text
+  pub meant : holds ≡ verdict (chainOf (fieldsOf file)) (map letterOf (sentence .prefix)) (sentence .body)
+  pub left : after ≡ cleared 8192 before
 
--- what verdict answers, and what the work area is afterwards: of the rows that apply the smallest number, the area as it was;
--- and where none applies 'holds' exactly if the sentence holds, the first 8,192 numbers of the area zero
-pub data VerdictAnswer (file text before : List ℕ) : Answer → List ℕ → Type 0 where
-  refused : {n : ℕ} → QuestionRow file text (length before) n → ((m : ℕ) → QuestionRow file text (length before) m → n ≤ m) →
-      VerdictAnswer file text before (Refused n) before
-  answered : {ps : List Bool} (f : Formula) → Spells ps (formulaNodes f) text → ((m : ℕ) → QuestionRow file text (length before) m → ⊥) →
-      VerdictAnswer file text before (answerOf (verdict (chainOf (fieldsOf file)) (map letterOf ps) f)) (cleared 8192 before)
+-- what verdict ensures of the model file, the sentence text, the work area before and after, and what it answers
+pub record VerdictAnswer (file text before : List ℕ) (answer : Answer) (after : List ℕ) : Type 0 where
+  pub ensured : Ensured (QuestionRow file text (length before)) (Judges file text before) before (replyOf answer) after

@@ -1,8 +1,9 @@
 // Verdict: the rows of a question, then the body's truth at every tuple and the descent through the prefix.
 ghost use mathlib.Core.Path.{_≡_};
 ghost use lib.ListN.{length};
+ghost use Rattle.refusal.specs.Answers.{gives};
 ghost use Rattle.question.specs.Working.{Ready};
-ghost use Rattle.verdict.specs.Calls.{answerOf, VerdictAnswer};
+ghost use Rattle.verdict.specs.Calls.{replyOf, VerdictAnswer};
 ghost use Rattle.verdict.specs.Working.{Judged};
 use descent::holds_from;
 use evaluate::nodes::state_formula;
@@ -38,7 +39,7 @@ fn judged(m: Model, s: Sentence, area: &mut [u64]) -> bool
 
 // The document's word for a sentence that holds, or does not.
 fn answer_of(holds: bool) -> Answer
-    ensures { λ r. ⌜ r ≡ answerOf holds ⌝ }
+    ensures { λ r. ⌜ replyOf r ≡ gives holds ⌝ }
 {
     if holds { Answer::Holds } else { Answer::Fails }
 }

@@ -1,13 +1,8 @@
 -- `exports::twolsken_read_model` meets its contract, by what read model ensures.
 use borrow.Author.Needs.{needs}
-use Prim.Native.Nat.{ℕ}
-use mathlib.Core.List.{List}
-use mathlib.Core.Path.{_≡_, ap, sym, _∙_}
-use Rattle.refusal.specs.Answers.{unlessRefused}
-use Rattle.refusal.proofs.Answered.{outcome-refused, outcome-done, value-accepted}
-use Rattle.model.specs.declared.Model.{Model}
-use Rattle.model.specs.Layout.{fieldsOf}
-use Rattle.model.specs.Rows.{fileNumber, emptyModel}
+use mathlib.Core.Path.{ap, sym, _∙_}
+use Rattle.refusal.specs.Answers.{numberIn, replyOf}
+use Rattle.refusal.proofs.Ensuring.{filled-given, filled-refused}
 use Rattle.exports.specs.Records.{headOf}
 use Rattle.exports.proofs.twolsken_read_model.Statement.{statement}
 use Rattle.exports.proofs.twolsken_read_model.Tie as tie
@@ -35,32 +30,31 @@ rows-of-requires c κs = search needs
 
 returns : tie.Need-returns
 returns c =
-    let e = c .before .outcome .given .1 in
-    let start = c .before .before .before .before .before in
-    let n = fileNumber (start .args .file .now) in
-    let m = fieldsOf (start .args .file .now) in
-    let r = outcome-refused n _ (sym (c .before .before .before .read-model .ensures .answered) ∙ e) in
+    let e = ap replyOf (c .before .outcome .given .1) in
+    let read = c .before .before .before .read-model in
+    let m = read .result .model in
     record {
-      answered = sym (r .0);
-      head-left = sym (r .1 (List ℕ) (headOf m) (start .args .head .now));
-      masks-left = sym (r .1 (List ℕ) (m .masks) (start .args .masks .now));
-      rows-left = sym (r .1 (List (List ℕ)) (m .weights .rows) (start .args .rows .now));
+      read = read .result;
+      answer = read .ensures;
+      answered = sym (ap numberIn e);
+      head-left = sym (filled-refused e (headOf m) _);
+      masks-left = sym (filled-refused e (m .masks) _);
+      rows-left = sym (filled-refused e (m .weights .rows) _);
     }
 
 returns-2 : tie.Need-returns-2
 returns-2 c =
     let told = c .before .before .before .before .before .before in
     let read = told .before .before .read-model in
-    let start = told .before .before .before .before in
-    let n = fileNumber (start .args .file .now) in
-    let m = fieldsOf (start .args .file .now) in
-    let z = outcome-done n (sym (read .ensures .answered) ∙ told .enum-told .given .1) in
-    let same : read .result .model ≡ m = read .ensures .value ∙ value-accepted n z Model m emptyModel in
+    let m = read .result .model in
+    let e = ap replyOf (told .enum-told .given .1) in
     record {
-      answered = sym z;
-      head-left = ap headOf same ∙ sym (value-accepted n z (List ℕ) (headOf m) (start .args .head .now));
-      masks-left = ap (λ (x : Model). x .masks) same ∙ sym (value-accepted n z (List ℕ) (m .masks) (start .args .masks .now));
-      rows-left = c .rows-of .ensures ∙ ap (λ (x : Model). x .weights .rows) same ∙ sym (value-accepted n z (List (List ℕ)) (m .weights .rows) (start .args .rows .now));
+      read = read .result;
+      answer = read .ensures;
+      answered = sym (ap numberIn e);
+      head-left = sym (filled-given e (headOf m) _);
+      masks-left = sym (filled-given e (m .masks) _);
+      rows-left = c .rows-of .ensures ∙ sym (filled-given e (m .weights .rows) _);
     }
 
 pub twolsken-read-model-spec : {M : Type 1} → statement M

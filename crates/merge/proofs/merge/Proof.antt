@@ -1,19 +1,19 @@
 -- `merge::merge` meets its contract: the reader's number where it refuses, else that of the model's groups.
 use borrow.Author.Needs.{needs}
-use Prim.Native.Nat.{ℕ}
 use mathlib.Core.Path.{_≡_, refl, sym, ap, subst, _∙_}
 use lib.ListN.{length}
-use Rattle.refusal.specs.Rows.{first}
-use Rattle.refusal.specs.Answers.{Writes}
+use Rattle.refusal.specs.declared.Outcome.{Outcome}
+use Rattle.refusal.specs.Answers.{numberIn, replyOf, Writes}
 use Rattle.refusal.specs.declared.Written.the-variants.{Refused as Unwritten}
-use Rattle.refusal.proofs.Answered.{writes-refused, outcome-done, value-accepted}
+use Rattle.refusal.proofs.Listed.{writes-refused, rows-changed}
 use Rattle.model.specs.declared.Model.{Model}
 use Rattle.model.specs.Layout.{fieldsOf, fileOf}
-use Rattle.model.specs.Rows.{fieldsRight, rowsRight, fileNumber, emptyModel}
+use Rattle.model.specs.Rows.{fieldsRight, rowsRight, fileNumber}
+use Rattle.model.proofs.Answer.{reads-number, reads-value, reads-refusal}
 use Rattle.chain.proofs.Accepted.{fields-right, rows-right}
 use Rattle.merge.specs.Groups.{mergedModel}
-use Rattle.merge.specs.Rows.{groupRows, mergedFile}
-use Rattle.merge.proofs.Numbers.{file-refused, file-accepted, refused-number}
+use Rattle.merge.specs.Rows.{groupRows, mergeNumber, mergedFile}
+use Rattle.merge.proofs.Numbers.{group-rows, merge-rows, file-refused, file-accepted}
 use Rattle.merge.proofs.merge.Statement.{statement}
 use Rattle.merge.proofs.merge.Tie as tie
 
@@ -29,14 +29,12 @@ enum-told c = search needs
 -- an answer of the reader: the file is accepted, and the model is that of its fields
 read : (c : tie.After-enum-told) → fileNumber (c .before .before .before .before .before .before .args .file .now) ≡ 0
 read c =
-    let r = c .before .before .read-model .ensures in
-    outcome-done _ (sym (r .answered) ∙ c .enum-told .given .1)
+    sym (reads-number (c .before .before .read-model .ensures)) ∙ ap (λ (o : Outcome). numberIn (replyOf o)) (c .enum-told .given .1)
 
 fields : (c : tie.After-enum-told) →
     c .before .before .read-model .result .model ≡ fieldsOf (c .before .before .before .before .before .before .args .file .now)
 fields c =
-    let file = c .before .before .before .before .before .before .args .file .now in
-    c .before .before .read-model .ensures .value ∙ value-accepted (fileNumber file) (read c) Model (fieldsOf file) emptyModel
+    reads-value (c .before .before .read-model .ensures) (read c)
 
 merge-model-requires : tie.Need-merge-model-requires
 merge-model-requires c κs =
@@ -46,18 +44,20 @@ merge-model-requires c κs =
     (ap fieldsRight (fields e) ∙ fields-right file ok, ap rowsRight (fields e) ∙ rows-right file ok)
 
 returns : tie.Need-returns
+unfolding mergeNumber
 returns c =
     let r = c .before .before .before in
     let a = r .before .before .before .before .args in
-    let refused = refused-number _ _ (sym (r .read-model .ensures .answered) ∙ c .before .outcome .given .1) in
-    writes-refused (mergedFile (a .file .now) (a .grouping .now)) (refused .0)
-    (file-refused (a .file .now) (a .grouping .now) (length (a .out .now)) (refused .0) (refused .1))
-    (ap Unwritten (refused .2)) refl
+    let refusal = reads-refusal (r .read-model .ensures) (c .before .outcome .given .1) in
+    writes-refused (merge-rows (a .file .now) (a .grouping .now) (length (a .out .now))) (mergedFile (a .file .now) (a .grouping .now)) (refusal .0)
+    (file-refused (a .file .now) (a .grouping .now) (length (a .out .now)) (refusal .0) (refusal .1))
+    (ap Unwritten (refusal .2)) refl
 
 same-length : tie.Need-same-length
 same-length c = search needs
 
 returns-2 : tie.Need-returns-2
+unfolding mergeNumber
 returns-2 c =
     let w = c .before .before in
     let e = w .before .before in
@@ -67,8 +67,8 @@ returns-2 c =
     let room = length (a .out .now) in
     let last = w .merge-model .last .1 .1 .0 in
     let r = w .merge-model .result in
-    subst (λ (n : ℕ). Writes n (mergedFile file grouping) (a .out .now) last r) (sym (file-accepted file grouping room (read e)))
-    (subst (λ (m : Model). Writes (first (groupRows m grouping room)) (fileOf (mergedModel m grouping)) (a .out .now) last r)
+    rows-changed (group-rows (fieldsOf file) grouping room) (merge-rows file grouping room) (sym (file-accepted file grouping room (read e)))
+    (subst (λ (m : Model). Writes (groupRows m grouping room) (fileOf (mergedModel m grouping)) (a .out .now) last r)
     (fields e) (w .merge-model .ensures))
 
 pub merge-spec : {M : Type 1} → statement M

@@ -12,15 +12,16 @@ use Rattle.counting.specs.Below.{sum, every}
 use Rattle.refusal.specs.Answers.{Writes}
 use Rattle.model.specs.declared.Model.{Model}
 use Rattle.model.specs.Layout.{modelOf, fileOf}
-use Rattle.model.specs.Rows.{recordNumber}
+use Rattle.model.specs.Rows.{recordRows, recordNumber}
+use Rattle.model.proofs.Answer.{record-rows}
 use Rattle.model.proofs.Rightness as right
 use Rattle.merge.specs.Groups.{groupCount, isUsed, groupingRight, groupsAlike, mergedModel}
 use Rattle.merge.specs.Working.{pairAlike, masksOfGroups, rowsOfGroups}
 use Rattle.merge.proofs.Grouped.{as-long, all-used}
 use Rattle.merge.proofs.Merging.{few}
 use Rattle.merge.proofs.Built.{totalsOf, row-small, alike-built, model-built}
-use Rattle.merge.proofs.Numbers.{groups-12, groups-13, groups-14}
-use Rattle.refusal.proofs.Answered.{writes-refused}
+use Rattle.merge.proofs.Numbers.{group-rows, groups-12, groups-13, groups-14}
+use Rattle.refusal.proofs.Listed.{writes-refused, rows-changed}
 use Rattle.merge.proofs.merge_model.Statement.{statement}
 use Rattle.merge.proofs.merge_model.Tie as tie
 
@@ -65,7 +66,7 @@ tested c =
 returns : tie.Need-returns
 returns c =
     let a = c .before .before .before .before .before .args in
-    writes-refused (fileOf (mergedModel (a .m) (a .grouping .now))) 11
+    writes-refused (group-rows (a .m) (a .grouping .now) (length (a .out .now))) (fileOf (mergedModel (a .m) (a .grouping .now))) 11
     (groups-12 (a .m) (a .grouping .now) (length (a .out .now))
     (sym (c .before .grouping-right .ensures) ∙ not-true _ (c .if1 .taken))) refl refl
 
@@ -99,7 +100,7 @@ returns-2 : tie.Need-returns-2
 returns-2 c =
     let e = c .before .before .before .before .before .before .before in
     let a = e .before .before .before .before .before .args in
-    writes-refused (fileOf (mergedModel (a .m) (a .grouping .now))) 12
+    writes-refused (group-rows (a .m) (a .grouping .now) (length (a .out .now))) (fileOf (mergedModel (a .m) (a .grouping .now))) 12
     (groups-13 (a .m) (a .grouping .now) (length (a .out .now)) (grouped e) (sym (tested (c .before)) ∙ not-true _ (c .if2 .taken)))
     refl refl
 
@@ -141,6 +142,7 @@ built c =
     model-built (a .m) (a .grouping .now) (start .pre .0) (grouped e)
 
 returns-3 : tie.Need-returns-3
+unfolding recordNumber
 returns-3 c =
     let w = c .before .before in
     let g = w .before .before in
@@ -152,9 +154,9 @@ returns-3 c =
     let last = w .write-model .last .1 .0 in
     let r = w .write-model .result in
     let alike = sym (tested (g .before .before)) ∙ not-false _ (g .before .if2 .left) in
-    subst (λ (n : ℕ). Writes n (fileOf merged) (a .out .now) last r)
+    rows-changed (record-rows merged room) (group-rows (a .m) (a .grouping .now) room)
     (groups-14 (a .m) (a .grouping .now) room (start .pre .0) (start .pre .1) (grouped e) alike)
-    (subst (λ (m : Model). Writes (recordNumber m room) (fileOf m) (a .out .now) last r) (built g) (w .write-model .ensures))
+    (subst (λ (m : Model). Writes (recordRows m room) (fileOf m) (a .out .now) last r) (built g) (w .write-model .ensures))
 
 pub merge-model-spec : {M : Type 1} → statement M
 merge-model-spec =

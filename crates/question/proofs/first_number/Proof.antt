@@ -5,42 +5,44 @@ use mathlib.Core.Path.{_≡_, sym, ap, subst, _∙_}
 use native.Mathlib.Omega.{arith}
 use borrow.Author.Needs.{needs}
 use Rattle.model.specs.Rows.{fileNumber, Reads}
-use Rattle.sentence.specs.Calls.{numberOf}
-use Rattle.question.specs.Rows.{QuestionRow, Decided}
-use Rattle.question.proofs.Early.{gives-1, file-answered, gives-file, file-read, gives-text, text-read}
+use Rattle.model.proofs.Answer.{reads-number}
+use Rattle.refusal.specs.Answers.{numberIn, replyOf}
+use Rattle.refusal.specs.Rows.{Decided}
+use Rattle.question.specs.Rows.{QuestionRow}
+use Rattle.question.proofs.Early.{gives-1, gives-file, file-read, gives-text, text-read}
 use Rattle.question.proofs.first_number.Statement.{statement}
 use Rattle.question.proofs.first_number.Tie as tie
 
 returns : tie.Need-returns
 returns c = record { each = λ file text reads said. gives-1 (c .if1 .taken) }
 
-model-number-requires : tie.Need-model-number-requires
-model-number-requires c κs = search needs
+number-of-requires : tie.Need-number-of-requires
+number-of-requires c κs = search needs
 
 -- the reader's number is the file's
-of-file : (c : tie.After-model-number) (file : List ℕ) → Reads file (c .before .before .args .m) → fileNumber file ≡ c .model-number .result
-of-file c file reads = sym (file-answered reads) ∙ sym (c .model-number .ensures)
+of-file : (c : tie.After-number-of) (file : List ℕ) → Reads file (c .before .before .args .m) → fileNumber file ≡ c .number-of .result
+of-file c file reads = sym (reads-number reads) ∙ sym (c .number-of .ensures)
 
 returns-2 : tie.Need-returns-2
 returns-2 c = record {
   each = λ file text reads said. gives-file (c .before .before .if1 .left) (of-file (c .before) file reads) (c .if2 .taken);
 }
 
-sentence-number-requires : tie.Need-sentence-number-requires
-sentence-number-requires c κs = search needs
+number-of-requires-2 : tie.Need-number-of-requires-2
+number-of-requires-2 c κs = search needs
 
 -- the file is accepted
 free : (c : tie.Else2) (file : List ℕ) → Reads file (c .before .before .before .args .m) → fileNumber file ≡ 0
 free c file reads = let e = of-file (c .before) file reads in omega (arith, e, c .if2 .left)
 
 -- and so is the text
-said-well : (c : tie.Else3) → numberOf (c .before .before .before .before .before .args .s .outcome) ≡ 0
-said-well c = let e = c .before .sentence-number .ensures in omega (arith, e, c .if3 .left)
+said-well : (c : tie.Else3) → numberIn (replyOf (c .before .before .before .before .before .args .s .outcome)) ≡ 0
+said-well c = let e = c .before .number-of2 .ensures in omega (arith, e, c .if3 .left)
 
 returns-3 : tie.Need-returns-3
 returns-3 c = record {
   each = λ file text reads said.
-      let e = c .before .sentence-number .ensures in
+      let e = c .before .number-of2 .ensures in
       subst (Decided (QuestionRow file text _)) (sym e)
       (gives-text (c .before .before .before .before .if1 .left) (free (c .before .before) file reads) said (omega (arith, e, c .if3 .taken)));
 }
@@ -69,9 +71,9 @@ first-number-spec =
     tie.close
     (tie.spec
     returns
-    model-number-requires
+    number-of-requires
     returns-2
-    sentence-number-requires
+    number-of-requires-2
     returns-3
     late-number-requires
     returns-4)

@@ -1,9 +1,10 @@
 -- `exports::questions::twolsken_numerator` meets its contract, by what numerator ensures of its answer.
 use borrow.Author.Needs.{needs}
 use mathlib.Core.Path.{sym, ap}
-use Rattle.refusal.specs.Answers.{unlessRefused}
-use Rattle.numerator.specs.Calls.{numberOf, valuesOf}
-use Rattle.exports.proofs.Unread.{count-leaves}
+use Rattle.refusal.specs.Answers.{numberIn}
+use Rattle.numerator.specs.declared.Answer.{Answer}
+use Rattle.numerator.specs.Calls.{replyOf}
+use Rattle.exports.proofs.Theorems.{values-given, values-refused}
 use Rattle.exports.proofs.questions.twolsken_numerator.Statement.{statement}
 use Rattle.exports.proofs.questions.twolsken_numerator.Tie as tie
 
@@ -23,30 +24,28 @@ same-length : tie.Need-same-length
 same-length c = search needs
 
 returns : tie.Need-returns
-unfolding unlessRefused numberOf valuesOf
 returns c =
     let e = c .before .before .answer .given .1 in
     let call = c .before .before .before .before .before .before .numerator in
     record {
       counted = call .result;
       answer = call .ensures;
-      answered = sym (ap numberOf e);
-      value-left = sym (ap valuesOf e);
+      answered = sym (ap (λ (a : Answer). numberIn (replyOf a)) e);
+      value-left = sym (values-given (ap replyOf e) _);
     }
 
 same-length-2 : tie.Need-same-length-2
 same-length-2 c = search needs
 
 returns-2 : tie.Need-returns-2
-unfolding numberOf
 returns-2 c =
     let e = c .before .answer2 .given .1 in
     let call = c .before .before .before .before .before .numerator in
     record {
       counted = call .result;
       answer = call .ensures;
-      answered = sym (ap numberOf e);
-      value-left = sym (count-leaves (valuesOf (call .result)) _ _ (call .ensures) e);
+      answered = sym (ap (λ (a : Answer). numberIn (replyOf a)) e);
+      value-left = sym (values-refused (ap replyOf e) _);
     }
 
 pub twolsken-numerator-spec : {M : Type 1} → statement M

@@ -1,10 +1,9 @@
 -- `exports::sentences::twolsken_read_sentence` meets its contract, by what read sentence ensures.
 use borrow.Author.Needs.{needs}
-use mathlib.Core.Path.{refl, ap, sym}
-use Rattle.refusal.specs.Answers.{unlessRefused}
-use Rattle.sentence.specs.Calls.{numberOf}
+use mathlib.Core.Path.{ap, sym, _∙_}
+use Rattle.refusal.specs.Answers.{numberIn, replyOf}
+use Rattle.refusal.proofs.Ensuring.{filled-given, filled-refused}
 use Rattle.exports.specs.Sentences.{sentenceHead, letterCodes, codesOf}
-use Rattle.exports.proofs.Unread.{refusal-leaves}
 use Rattle.exports.proofs.sentences.twolsken_read_sentence.Statement.{statement}
 use Rattle.exports.proofs.sentences.twolsken_read_sentence.Tie as tie
 
@@ -28,31 +27,31 @@ codes-of-requires c κs = search needs
 
 returns : tie.Need-returns
 returns c =
-    let e = c .before .outcome .given .1 in
+    let e = ap replyOf (c .before .outcome .given .1) in
     let read = c .before .before .before .read-sentence in
-    let a = c .before .before .before .before .before .args in
     let s = read .result .sentence in
     record {
       read = read .result;
       answer = read .ensures;
-      answered = sym (ap numberOf e);
-      head-left = sym (refusal-leaves (sentenceHead s) (a .head .now) _ (read .ensures) e);
-      exists-left = sym (refusal-leaves (letterCodes (s .exists)) (a .exists .now) _ (read .ensures) e);
-      codes-left = sym (refusal-leaves (codesOf (s .nodes)) (a .codes .now) _ (read .ensures) e);
+      answered = sym (ap numberIn e);
+      head-left = sym (filled-refused e (sentenceHead s) _);
+      exists-left = sym (filled-refused e (letterCodes (s .exists)) _);
+      codes-left = sym (filled-refused e (codesOf (s .nodes)) _);
     }
 
 returns-2 : tie.Need-returns-2
-unfolding unlessRefused
 returns-2 c =
     let told = c .before .before .before .before .before .before in
     let read = told .before .before .read-sentence in
+    let s = read .result .sentence in
+    let e = ap replyOf (told .enum-told .given .1) in
     record {
       read = read .result;
       answer = read .ensures;
-      answered = sym (ap numberOf (told .enum-told .given .1));
-      head-left = refl;
-      exists-left = c .before .letter-codes .ensures;
-      codes-left = c .codes-of .ensures;
+      answered = sym (ap numberIn e);
+      head-left = sym (filled-given e (sentenceHead s) _);
+      exists-left = c .before .letter-codes .ensures ∙ sym (filled-given e (letterCodes (s .exists)) _);
+      codes-left = c .codes-of .ensures ∙ sym (filled-given e (codesOf (s .nodes)) _);
     }
 
 pub twolsken-read-sentence-spec : {M : Type 1} → statement M

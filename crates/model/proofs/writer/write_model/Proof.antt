@@ -10,10 +10,10 @@ use borrow.Author.Tests.{not-true, not-false}
 use lib.ListN.{length, length-map}
 use Rattle.refusal.specs.Answers.{atFront}
 use Rattle.refusal.specs.declared.Written.the-variants.{Wrote}
-use Rattle.refusal.proofs.Answered.{writes-refused, writes-done}
+use Rattle.refusal.proofs.Listed.{writes-refused, writes-done}
 use Rattle.model.specs.Layout.{modelOf, blocks, blocksBelow, fileOf}
-use Rattle.model.specs.Rows.{fieldsRight, rowsRight}
-use Rattle.model.proofs.Answer.{record-4, record-5, record-14, record-0}
+use Rattle.model.specs.Rows.{fieldsRight, rowsRight, recordNumber}
+use Rattle.model.proofs.Answer.{record-4, record-5, record-14, record-0, record-rows}
 use Rattle.model.proofs.Rightness.{states-few}
 use Rattle.model.proofs.Written.{length-blocks}
 use Rattle.model.proofs.writer.write_model.Statement.{statement}
@@ -30,17 +30,19 @@ adding : (c : tie.Else2) → rowsRight (c .before .before .before .before .befor
 adding c = sym (c .before .rows-right .ensures) ∙ not-false _ (c .if2 .left)
 
 returns : tie.Need-returns
+unfolding recordNumber
 returns c =
     let a = c .before .before .before .args in
-    writes-refused (fileOf (a .m)) 3 (record-4 (a .m) (length (a .out .now)) (sym (c .before .fields-right .ensures) ∙ not-true _ (c .if1 .taken))) refl refl
+    writes-refused (record-rows (a .m) (length (a .out .now))) (fileOf (a .m)) 3 (record-4 (a .m) (length (a .out .now)) (sym (c .before .fields-right .ensures) ∙ not-true _ (c .if1 .taken))) refl refl
 
 rows-right-requires : tie.Need-rows-right-requires
 rows-right-requires c κs = search needs
 
 returns-2 : tie.Need-returns-2
+unfolding recordNumber
 returns-2 c =
     let a = c .before .before .before .before .before .args in
-    writes-refused (fileOf (a .m)) 4
+    writes-refused (record-rows (a .m) (length (a .out .now))) (fileOf (a .m)) 4
     (record-5 (a .m) (length (a .out .now)) (right (c .before .before)) (sym (c .before .rows-right .ensures) ∙ not-true _ (c .if2 .taken))) refl refl
 
 cast-count : tie.Need-cast-count
@@ -56,9 +58,10 @@ mul-if3 : tie.Need-mul-if3
 mul-if3 c = search needs
 
 returns-3 : tie.Need-returns-3
+unfolding recordNumber
 returns-3 c =
     let a = c .before .before .before .before .before .before .before .args in
-    writes-refused (fileOf (a .m)) 13
+    writes-refused (record-rows (a .m) (length (a .out .now))) (fileOf (a .m)) 13
     (record-14 (a .m) (length (a .out .now)) (right (c .before .before .before .before)) (adding (c .before .before)) (c .if3 .taken)) refl refl
 
 rows-of-requires : tie.Need-rows-of-requires
@@ -82,11 +85,12 @@ same-length : tie.Need-same-length
 same-length c = c .before .before .write-blocks .kept .1 .1 .1 .1 .1 .1 .0
 
 returns-4 : tie.Need-returns-4
+unfolding recordNumber
 returns-4 c =
     let e = c .before .before .before .before .before .before .before .before in
     let a = e .before .before .before .before .before .before .before .args in
     let size = length-blocks (a .m) (blocks (a .m .n)) in
-    writes-done (fileOf (a .m))
+    writes-done (record-rows (a .m) (length (a .out .now))) (fileOf (a .m))
     (record-0 (a .m) (length (a .out .now)) (right (e .before .before .before .before)) (adding (e .before .before)) (e .if3 .left))
     (ap Wrote (sym size))
     (c .before .before .write-blocks .ensures ∙

@@ -1,0 +1,69 @@
+-- What every call's contract leaves: one reply and one content of everything lent, with the number that its rows ask for.
+use Prim.Native.Nat.{ℕ, _≤_, _<_}
+use mathlib.Core.List.{List}
+use mathlib.Core.Path.{_≡_, refl, sym, ap, subst, _∙_}
+use native.Mathlib.Nat.{le-antisymm}
+use native.Mathlib.Omega.{arith}
+use lib.ListN.{length}
+use Rattle.refusal.specs.declared.Outcome.{Outcome}
+use Rattle.refusal.specs.declared.Outcome.the-variants.{Done, Refused}
+use Rattle.refusal.specs.declared.Written.{Written}
+use Rattle.refusal.specs.declared.Written.the-variants.{Wrote, Refused as Unwritten}
+use Rattle.refusal.specs.Answers.{Reply, gives, refuses, numberIn, filled, Ensured, refused, answered, replyOf, replyOfWritten, atFront, Fronted}
+use Rattle.refusal.specs.Rows.{Decided, refused as smallest, accepted}
+
+module _ {A L : Type 0} {R : ℕ → Type 0} {Right : A → L → Type 0} {before : L} where
+  -- any two results that a contract allows are equal, where the right values and what is right to leave are
+  pub one-result : {r r′ : Reply A} {after after′ : L} →
+      ((v v′ : A) (l l′ : L) → Right v l → Right v′ l′ → (v ≡ v′) × (l ≡ l′)) → Ensured R Right before r after →
+      Ensured R Right before r′ after′ → (r ≡ r′) × (after ≡ after′)
+  one-result one (refused {n} e k row least) (refused {n = m} e′ k′ row′ least′) =
+      (e ∙ ap refuses (le-antisymm (least m row′) (least′ n row)) ∙ sym e′, k ∙ sym k′)
+  one-result one (refused {n} e k row least) (answered e′ right none) = absurd (none n row)
+  one-result one (answered e right none) (refused {n} e′ k row least) = absurd (none n row)
+  one-result one (answered e right none) (answered e′ right′ none′) =
+      let same = one _ _ _ _ right right′ in
+      (e ∙ ap gives (same .0) ∙ sym e′, same .1)
+
+  -- the number of a reply is the one that the rows ask for
+  pub number-decided : {r : Reply A} {after : L} → Ensured R Right before r after → Decided R (numberIn r)
+  number-decided (refused e k row least) = subst (Decided R) (sym (ap numberIn e)) (smallest row least)
+  number-decided (answered e right none) = subst (Decided R) (sym (ap numberIn e)) (accepted none)
+
+  -- a refusal with the number that the rows ask for
+  pub refused-as : {n : ℕ} {r : Reply A} {after : L} → Decided R n → 0 < n → r ≡ refuses n → after ≡ before → Ensured R Right before r after
+  refused-as (smallest row least) some e k = refused e k row least
+  refused-as (accepted none) some e k = absurd (omega arith)
+
+  -- where no row applies the right values are given
+  pub right-of : {r : Reply A} {after : L} → ((n : ℕ) → R n → ⊥) → Ensured R Right before r after → (v : A) × (r ≡ gives v) × Right v after
+  right-of none (refused {n} e k row least) = absurd (none n row)
+  right-of none (answered {v} e right free) = (v, e, right)
+
+-- what is lent is filled, or stays as it was
+pub filled-given : {A B : Type 0} {q : Reply A} {v : A} → q ≡ gives v → (value before : B) → filled q value before ≡ value
+filled-given {A} e value before = ap (λ (x : Reply A). filled x value before) e
+
+pub filled-refused : {A B : Type 0} {q : Reply A} {n : ℕ} → q ≡ refuses n → (value before : B) → filled q value before ≡ before
+filled-refused {A} e value before = ap (λ (x : Reply A). filled x value before) e
+
+-- what is right of a writer is one, where one text is asked for
+pub one-front : {Asked : List ℕ → Type 0} {before : List ℕ} → ((t t′ : List ℕ) → Asked t → Asked t′ → t ≡ t′) → (size size′ : ℕ)
+    (after after′ : List ℕ) → Fronted Asked before size after → Fronted Asked before size′ after′ → (size ≡ size′) × (after ≡ after′)
+one-front {before = before} one size size′ after after′ f f′ =
+    let same = one (f .text) (f′ .text) (f .asked) (f′ .asked) in
+    (f .sized ∙ ap length same ∙ sym (f′ .sized), f .left ∙ ap (λ (t : List ℕ). atFront t before) same ∙ sym (f′ .left))
+
+-- a writer's reply tells its answer
+pub written-told : (w w′ : Written) → replyOfWritten w ≡ replyOfWritten w′ → w ≡ w′
+written-told (Wrote size) (Wrote size′) e = ap Wrote (cc e)
+written-told (Wrote size) (Unwritten n) e = let z : _≡_ {A = ℕ} 0 1 = cc in absurd (omega arith)
+written-told (Unwritten n) (Wrote size) e = let z : _≡_ {A = ℕ} 0 1 = cc in absurd (omega arith)
+written-told (Unwritten n) (Unwritten n′) e = ap Unwritten (cc e)
+
+-- a reader's reply tells its answer
+pub outcome-told : (o o′ : Outcome) → replyOf o ≡ replyOf o′ → o ≡ o′
+outcome-told Done Done e = refl
+outcome-told Done (Refused n) e = let z : _≡_ {A = ℕ} 0 1 = cc in absurd (omega arith)
+outcome-told (Refused n) Done e = let z : _≡_ {A = ℕ} 0 1 = cc in absurd (omega arith)
+outcome-told (Refused n) (Refused n′) e = ap Refused (cc e)
