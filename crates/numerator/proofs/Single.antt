@@ -16,7 +16,7 @@ use Rattle.numerator.specs.declared.Answer.the-variants.{Counted, Refuse
 use Rattle.numerator.specs.Calls.{replyOf, numbered, Counts, NumeratorAnswer}
 
 -- a reply tells its answer
-reply-told : (a b : Answer) → replyOf a ≡ replyOf b → a ≡ b
+pub reply-told : (a b : Answer) → replyOf a ≡ replyOf b → a ≡ b
 reply-told (Counted t u) (Counted t′ u′) e =
     let same : _≡_ {A = ℕ × ℕ} (t, u) (t′, u′) = cc e in
     ap (λ (x : ℕ × ℕ). Counted (x .0) (x .1)) same

@@ -44,7 +44,8 @@ module _ {file text : List ℕ} {room : ℕ} (none : (n : ℕ) → QuestionRow f
       by (yes h) = absurd (none 1 (area h))
       by (no h) = omega arith
 
-  file-free : fileNumber file ≡ 0
+  -- the file is accepted
+  pub file-free : fileNumber file ≡ 0
   file-free = by (fileNumber file) refl
     where
       by : (n : ℕ) → fileNumber file ≡ n → n ≡ 0

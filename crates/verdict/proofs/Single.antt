@@ -19,7 +19,7 @@ use Rattle.verdict.specs.declared.Answer.the-variants.{Holds, Fails, Ref
 use Rattle.verdict.specs.Calls.{replyOf, Judges, VerdictAnswer}
 
 -- a reply tells its answer
-reply-told : (a b : Answer) → replyOf a ≡ replyOf b → a ≡ b
+pub reply-told : (a b : Answer) → replyOf a ≡ replyOf b → a ≡ b
 reply-told Holds Holds e = refl
 reply-told Holds Fails e = absurd (true≢false (cc e))
 reply-told Holds (Refused n) e = let z : _≡_ {A = ℕ} 0 1 = cc in absurd (omega arith)

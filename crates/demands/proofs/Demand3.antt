@@ -1,0 +1,153 @@
+-- Demand 3, of merge, verdict and numerator.
+use Prim.Native.Nat.{ℕ, _≤_, _<_}
+use mathlib.Core.Bool.{Bool, true, false, not, true≢false}
+use mathlib.Core.List.{List, map}
+use mathlib.Core.Path.{_≡_, refl, sym, ap, ap₂, subst, _∙_}
+use native.Mathlib.Decide.{decLt}
+use native.Mathlib.Nat.{le-of-eq}
+use native.Mathlib.Omega.{arith}
+use borrow.Author.Tests.{le-ltb}
+use lib.ListN.{length, take, length-map}
+use Rattle.refusal.specs.declared.Written.{Written}
+use Rattle.refusal.specs.declared.Written.the-variants.{Wrote}
+use Rattle.refusal.specs.Answers.{gives, numberIn, replyOfWritten, Writes}
+use Rattle.refusal.proofs.Ensuring.{number-decided, right-of, written-told}
+use Rattle.refusal.proofs.Laws.{first-later, first-none}
+use Rattle.refusal.proofs.Listed.{list-number}
+use Rattle.model.specs.Layout.{fieldsOf}
+use Rattle.model.specs.Rows.{fileNumber}
+use Rattle.meaning.specs.Lists.{every}
+use Rattle.meaning.specs.Chain.{tupleCount}
+use Rattle.meaning.specs.Tree.{Formula, letterOf}
+use Rattle.meaning.specs.Meaning.{numerator, denominator, verdict}
+use Rattle.meaning.specs.Size.{exceeds}
+use Rattle.meaning.specs.Merging.{Stable}
+use Rattle.trees.specs.Listed.{formulaNodes}
+use Rattle.chain.specs.Of.{chainOf}
+use Rattle.chain.proofs.Accepted.{fields-right}
+use Rattle.question.specs.Rows.{labelRight, QuestionRow, area, model, sentence, labels, size, tuples}
+use Rattle.question.proofs.Numbers.{none-of}
+use Rattle.question.proofs.Stages.{none-of-file}
+use Rattle.verdict.specs.declared.Answer as Judged
+use Rattle.verdict.specs.Calls.{VerdictAnswer, replyOf as replyJudged}
+use Rattle.verdict.proofs.Single.{reply-told as judged-told}
+use Rattle.numerator.specs.declared.Answer as Counted
+use Rattle.numerator.specs.Calls.{NumeratorRow, question, long, member, missing, NumeratorAnswer, numbered, replyOf as replyCounted}
+use Rattle.numerator.proofs.Single.{reply-told as counted-told}
+use Rattle.paths.proofs.Members.{members-inside}
+use Rattle.merge.specs.Groups.{groupOf, groupCount}
+use Rattle.merge.specs.Rows.{mergeRows, mergeNumber, mergedFile}
+use Rattle.merge.specs.Kept.{Kept}
+use Rattle.merge.proofs.Exact.{refused-13, stable-alike}
+use Rattle.merge.proofs.Grouped.{grouping-right, count-is}
+use Rattle.merge.proofs.Numbers.{merge-rows, file-accepted}
+use Rattle.merge.proofs.Theorems.{kept-written}
+use Rattle.demands.specs.Demands.{chainIn, Keeps, MergeAsked, Demand3}
+use Rattle.demands.proofs.Free.{one-sentence, none-asked, inside-members, members, tuple-inside}
+
+-- ---- what merging keeps
+
+module _ (file grouping merged : List ℕ) (accepted : fileNumber merged ≡ 0)
+    (kept : Kept (fieldsOf file) (groupOf grouping) (fieldsOf merged)) where
+  -- a question to which no row applies on the full model is one on the merged model
+  question-free : {text : List ℕ} {room room′ : ℕ} → 8192 ≤ room′ → ((n : ℕ) → QuestionRow file text room n → ⊥) →
+      (n : ℕ) → QuestionRow merged text room′ n → ⊥
+  question-free space none n (area h) = omega arith
+  question-free space none n (model a) = none-of-file merged accepted a
+  question-free space none n (sentence r) = none n (sentence r)
+  question-free space none n (labels f s e) =
+      none 9 (labels f s (ap (λ (a : ℕ). every (labelRight a) (formulaNodes f)) (sym (kept .labels)) ∙ e))
+  question-free {text} {room} space none n (size {ps} f s e) = by (exceeds f (fieldsOf file .d) (length ps)) refl
+    where
+      by : (t : Bool) → exceeds f (fieldsOf file .d) (length ps) ≡ t → ⊥
+      by true p = none 10 (size f s p)
+      by false p = true≢false (sym e ∙ kept .sizes f (length ps) p)
+  question-free {text} {room} space none n (tuples {ps} f s e) = by (decLt 1024 (tupleCount (chainIn file) (length ps)))
+    where
+      by : Dec (1024 < tupleCount (chainIn file) (length ps)) → ⊥
+      by (yes h) = none 11 (tuples f s h)
+      by (no h) = let few = kept .tuples (length ps) (omega arith) in omega (arith, few, e)
+
+  verdicts : {text before before′ after after′ : List ℕ} {a b : Judged.Answer} → 8192 ≤ length before′ → VerdictAnswer file text before a after →
+      numberIn (replyJudged a) ≡ 0 → VerdictAnswer merged text before′ b after′ → a ≡ b
+  verdicts {a = a} {b} space x free y =
+      let none = none-of (number-decided (x .ensured)) (le-of-eq free) in
+      let full = right-of none (x .ensured) in
+      let less = right-of (question-free space none) (y .ensured) in
+      let one = one-sentence (full .2 .sentence) (less .2 .sentence) in
+      let same =
+      full .2 .meant ∙
+      kept .verdicts (map letterOf (full .2 .sentence .prefix)) (full .2 .sentence .body) ∙
+      ap₂ (λ (ps : List Bool) (f : Formula). verdict (chainIn merged) (map letterOf ps) f) (one .0) (one .1) ∙
+      sym (less .2 .meant) in
+      judged-told a b (full .1 ∙ ap gives same ∙ sym (less .1))
+
+  -- so is a question about a path formula at a tuple, at the tuple of the groups
+  asked-free : {text tuple : List ℕ} {path room room′ : ℕ} → 8192 ≤ room′ → ((n : ℕ) → NumeratorRow file text tuple path room n → ⊥) →
+      (n : ℕ) → NumeratorRow merged text (map (groupOf grouping) tuple) path room′ n → ⊥
+  asked-free space none n (question r) = question-free space (λ n r. none n (question r)) n r
+  asked-free {tuple = tuple} space none n (long f s e) = none 15 (long f s (λ x. e (length-map tuple (groupOf grouping) ∙ x)))
+  asked-free {tuple = tuple} space none n (member e) =
+      let inside = members-inside (fieldsOf file .n) tuple (members none) in
+      true≢false (sym (inside-members (kept .inside (length tuple) tuple inside)) ∙ e)
+  asked-free space none n (missing f s e) = none 15 (missing f s e)
+
+  numerators : {text tuple before before′ after after′ : List ℕ} {path : ℕ} {a b : Counted.Answer} → 8192 ≤ length before′ →
+      NumeratorAnswer file text tuple path before a after → numberIn (replyCounted a) ≡ 0 →
+      NumeratorAnswer merged text (map (groupOf grouping) tuple) path before′ b after′ → a ≡ b
+  numerators {tuple = tuple} {path = path} {a} {b} space x free y =
+      let none = none-asked (number-decided (x .ensured)) free in
+      let full = right-of none (x .ensured) in
+      let less = right-of (asked-free space none) (y .ensured) in
+      let s = full .2 .sentence in
+      let one = one-sentence s (less .2 .sentence) in
+      let p = numbered (s .body) path in
+      let n = length (s .prefix) in
+      let top =
+      full .2 .top ∙
+      kept .numerators p n tuple (tuple-inside none s) ∙
+      ap₂ (λ (ps : List Bool) (f : Formula). numerator (numbered f path) (chainIn merged) (length ps) (map (groupOf grouping) tuple)) (one .0) (one .1) ∙
+      sym (less .2 .top) in
+      let bottom =
+      full .2 .bottom ∙
+      kept .denominators p n ∙
+      ap₂ (λ (ps : List Bool) (f : Formula). denominator (numbered f path) (fieldsOf merged .d) (length ps)) (one .0) (one .1) ∙
+      sym (less .2 .bottom) in
+      counted-told a b (full .1 ∙ ap gives (ap₂ (λ (a b : ℕ). (a, b)) top bottom) ∙ sym (less .1))
+
+  keeps : Keeps file grouping merged
+  keeps = record { verdicts = λ space x free y. verdicts space x free y; numerators = λ space x free y. numerators space x free y }
+
+-- ---- when merge refuses
+
+module _ {file grouping : List ℕ} {M room : ℕ} (asked : MergeAsked file grouping M room) where
+  -- a stable grouping is not refused
+  stable-free : Stable (chainIn file) (groupOf grouping) M → mergeNumber file grouping room ≡ 0
+  stable-free st =
+      let m = fieldsOf file in
+      let count = count-is (chainIn file) grouping M (asked .long) (asked .grouped) in
+      let stable = subst (λ (k : ℕ). Stable (chainIn file) (groupOf grouping) k) (sym count) st in
+      file-accepted file grouping room (asked .accepted) ∙
+      first-later 12 _ (ap not (grouping-right (chainIn file) grouping M (asked .long) (asked .grouped))) ∙
+      first-later 13 _ (ap not (stable-alike m grouping (fields-right file (asked .accepted)) stable)) ∙
+      first-later 14 _ (le-ltb room (length (mergedFile file grouping)) (asked .fits)) ∙
+      first-none
+
+pub demand-3 : {file grouping before after : List ℕ} {M : ℕ} {answer : Written} → MergeAsked file grouping M (length before) →
+    Writes (mergeRows file grouping (length before)) (mergedFile file grouping) before after answer → Demand3 file grouping M answer after
+unfolding mergeNumber
+demand-3 {file} {grouping} {before} {after} {M} {answer} asked w =
+    let room = length before in
+    let number = list-number (merge-rows file grouping room) (w .ensured) in
+    let exactly = refused-13 file grouping room (asked .accepted) M (asked .long) (asked .grouped) in
+    record {
+      refused = (
+        λ some st. let none = stable-free asked st in omega (arith, number, none, some),
+        λ differ. let here = exactly .1 differ in omega (arith, number, here),
+      );
+      written = λ size e.
+          let wrote : Writes (mergeRows file grouping room) (mergedFile file grouping) before after (Wrote size) =
+          subst (λ (x : Written). Writes (mergeRows file grouping room) (mergedFile file grouping) before after x) (written-told answer (Wrote size) e) w in
+          let kept = kept-written file grouping before after size wrote in
+          (kept .0, keeps file grouping (take size after) (kept .0) (kept .1));
+    }

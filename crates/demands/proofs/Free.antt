@@ -1,0 +1,64 @@
+-- A question to which no row applies: what its tuple is, and that there is one sentence of its text.
+use Prim.Native.Nat.{ℕ, zero, suc, _≤_, _<_}
+use mathlib.Core.Bool.{Bool, true, false, _&&_}
+use mathlib.Core.List.{List, [], _∷_}
+use mathlib.Core.Path.{_≡_, refl, subst}
+use native.Mathlib.Omega.{arith}
+use borrow.Author.Tests.{eqb-true, eqb-false, lt-ltb}
+use lib.Dec.{eqb, ltb}
+use lib.ListN.{length}
+use Rattle.counting.proofs.Laws.{and-true}
+use Rattle.refusal.specs.Rows.{Decided, refused, accepted}
+use Rattle.model.specs.Layout.{fieldsOf}
+use Rattle.meaning.specs.Lists.{every, Each, nothing, further}
+use Rattle.meaning.specs.Chain.{Inside}
+use Rattle.trees.proofs.Once.{sentence-once}
+use Rattle.paths.specs.Tuples.{membersBelow}
+use Rattle.paths.proofs.Members.{members-inside}
+use Rattle.question.specs.Rows.{QuestionRow, SentenceOf}
+use Rattle.question.proofs.Numbers.{row-some}
+use Rattle.numerator.specs.Calls.{NumeratorRow, question, long, member, missing}
+
+-- a text has one sentence
+pub one-sentence : {text : List ℕ} (s t : SentenceOf text) → (s .prefix ≡ t .prefix) × (s .body ≡ t .body)
+one-sentence s t = sentence-once (s .body) (t .body) (s .spelled) (t .spelled)
+
+-- every row of numerator has a number of 1 or more
+row-asked : {file text tuple : List ℕ} {path room n : ℕ} → NumeratorRow file text tuple path room n → 1 ≤ n
+row-asked (question row) = row-some row
+row-asked (long f s h) = omega arith
+row-asked (member h) = omega arith
+row-asked (missing f s h) = omega arith
+
+-- where the number given is 0, no row of numerator applies
+pub none-asked : {file text tuple : List ℕ} {path room n : ℕ} → Decided (NumeratorRow file text tuple path room) n → n ≡ 0 →
+    (m : ℕ) → NumeratorRow file text tuple path room m → ⊥
+none-asked (refused row least) e m r = let some = row-asked row in omega (arith, some, e)
+none-asked (accepted none) e m r = none m r
+
+-- a tuple of states has its members below N
+pub inside-members : {N n : ℕ} {s : List ℕ} → Inside N n s → membersBelow N s ≡ true
+unfolding every
+inside-members nothing = refl
+inside-members {N} (further {x = x} less rest) = and-true (lt-ltb x N less) (inside-members rest)
+
+module _ {file text tuple : List ℕ} {path room : ℕ} (none : (n : ℕ) → NumeratorRow file text tuple path room n → ⊥) where
+  -- the tuple's members are below N
+  pub members : membersBelow (fieldsOf file .n) tuple ≡ true
+  members = by (membersBelow (fieldsOf file .n) tuple) refl
+    where
+      by : (t : Bool) → membersBelow (fieldsOf file .n) tuple ≡ t → t ≡ true
+      by true e = refl
+      by false e = absurd (none 15 (member e))
+
+  -- and it has a member for each letter
+  pub as-long : (s : SentenceOf text) → length tuple ≡ length (s .prefix)
+  as-long s = by (eqb (length tuple) (length (s .prefix))) refl
+    where
+      by : (t : Bool) → eqb (length tuple) (length (s .prefix)) ≡ t → length tuple ≡ length (s .prefix)
+      by true e = eqb-true _ _ e
+      by false e = absurd (none 15 (long (s .body) (s .spelled) (eqb-false _ _ e)))
+
+  -- so it is a tuple of n states
+  pub tuple-inside : (s : SentenceOf text) → Inside (fieldsOf file .n) (length (s .prefix)) tuple
+  tuple-inside s = subst (λ (n : ℕ). Inside (fieldsOf file .n) n tuple) (as-long s) (members-inside (fieldsOf file .n) tuple members)

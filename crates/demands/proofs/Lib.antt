@@ -1,0 +1,5 @@
+-- The proofs of the three demands.
+pub mod Free
+pub mod Demand1
+pub mod Demand2
+pub mod Demand3
