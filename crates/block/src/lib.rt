@@ -1,9 +1,7 @@
 // The blocks of a model file: bytes, numbers of two bytes, and the block's check.
 ghost use mathlib.Core.Path.{_≡_};
-ghost use mathlib.Core.Bool.{_&&_};
 ghost use Prim.Native.Nat.{_+_, _*_, _%_, _<_, _≤_};
 ghost use lib.ListN.{getD, length};
-ghost use lib.Dec.{eqb};
 ghost use Rattle.block.specs.Block.{byteOf, two, checkOf, checkRight, checksRight};
 ghost use Rattle.counting.specs.Below.{sum};
 

@@ -1,4 +1,4 @@
--- The chain of an accepted file: it is sound, N is 1..32 and D is 1..65,535.
+-- The chain of an accepted file: it is sound, N is 1..32 and D is at least 1.
 use Prim.Native.Nat.{ℕ, _≤_}
 use mathlib.Core.Bool.{true}
 use mathlib.Core.List.{List}
@@ -18,7 +18,7 @@ module _ (file : List ℕ) (ok : fileNumber file ≡ 0) where
   pub rows-right : rowsRight (fieldsOf file) ≡ true
   rows-right = accepted file ok .sums
 
-  -- N is 1..32, D is 1..65,535
+  -- N is 1..32, D is at least 1
   pub states-some : 1 ≤ chainOf (fieldsOf file) .N
   states-some = right.states-some (fieldsOf file) fields-right
 
@@ -27,9 +27,6 @@ module _ (file : List ℕ) (ok : fileNumber file ≡ 0) where
 
   pub total-some : 1 ≤ chainOf (fieldsOf file) .D
   total-some = right.total-some (fieldsOf file) fields-right
-
-  pub total-small : chainOf (fieldsOf file) .D ≤ 65535
-  total-small = right.total-few (fieldsOf file) fields-right
 
   -- every state's weights add up to D
   pub sound : Sound (chainOf (fieldsOf file))

@@ -1,11 +1,10 @@
 -- Laws of `sum`, `every` and `table`, each said once over the function or the test. Those that end in `-more` are for the
 -- next turn of a loop that counts up.
 use Prim.Native.Nat.{ℕ, zero, suc, _+_, _-_, _≤_, _<_}
-use mathlib.Core.Bool.{Bool, true, false, _&&_, not, true≢false}
+use mathlib.Core.Bool.{Bool, true, false, _&&_, true≢false}
 use mathlib.Core.List.{List, [], _∷_, _++_, append-assoc, append-nil}
 use mathlib.Core.Path.{_≡_, refl, sym, ap, ap₂, subst, _∙_}
 use native.Mathlib.Numerals.{add-one}
-use native.Mathlib.Nat.{le-of-lt, suc-mul, mul-le-mul-left, add-zero}
 use native.Mathlib.Omega.{arith}
 use native.Mathlib.Decide.{decLt}
 use borrow.Rule.Slice.PartMut.{putMid}
@@ -132,10 +131,6 @@ module _ {n : ℕ} {test : ℕ → Bool} where
 -- ---- tables
 
 module _ {A : Type 0} where
-  pub table-none : (f : ℕ → A) → table 0 f ≡ []
-  unfolding table
-  table-none f = refl
-
   pub length-table : (n : ℕ) (f : ℕ → A) → length (table n f) ≡ n
   unfolding table
   length-table zero f = refl

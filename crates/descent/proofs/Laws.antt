@@ -1,5 +1,5 @@
 -- A letter ranges over all states: one state decides it, or all of them do; and the letters that are left.
-use Prim.Native.Nat.{ℕ, zero, suc, _+_, _-_, _*_, _^_, _≤_, _<_}
+use Prim.Native.Nat.{ℕ, suc, _+_, _-_, _*_, _^_, _≤_, _<_}
 use mathlib.Core.Bool.{Bool, true, false, cond, not, true≢false, false≢true}
 use mathlib.Core.List.{List, [], _∷_, _++_, map, append-nil, append-assoc}
 use mathlib.Core.Path.{_≡_, refl, sym, ap, subst, _∙_, fun-ext}
@@ -18,7 +18,7 @@ use Rattle.meaning.specs.Tree.{Letter, forAll, exists, letterOf}
 use Rattle.meaning.specs.Meaning.{ranges, ranged}
 use Rattle.meaning.proofs.Tests.{every-means, every-same, thereIs-same, thereIs-found, thereIs-from, below-member, below-has}
 use Rattle.meaning.proofs.Numbers.{numberOf, number-below, tuple-number}
-use Rattle.descent.specs.Descent.{metAt, descended, lettersFrom, DescentReady}
+use Rattle.descent.specs.Descent.{metAt, descended, lettersFrom}
 
 -- a state that decides: met for `E`, not met for `A`
 pub decided : (e : Bool) (test : ℕ → Bool) (N s : ℕ) → s < N → test s ≡ e → ranges (letterOf e) test (below N) ≡ e

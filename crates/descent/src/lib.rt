@@ -1,9 +1,7 @@
 // The quantifier descent: fixes one variable and calls itself with one letter fewer.
 ghost use mathlib.Core.Path.{_≡_};
 ghost use Prim.Native.Nat.{_<_};
-ghost use lib.ListN.{length, getD};
-ghost use mathlib.Core.Bool.{not};
-ghost use lib.Dec.{eqb};
+ghost use lib.ListN.{length};
 ghost use Rattle.descent.specs.Descent.{metAt, descended, lettersFrom, DescentReady};
 
 // The truth at a place of the layer.

@@ -12,8 +12,7 @@ use Rattle.sentence.specs.declared.Node.{Node}
 use Rattle.sentence.specs.declared.Node.the-variants.{Probability, Constant, Sum as SumNode}
 use Rattle.sentence.specs.declared.Node.the-variants.{Difference as DifferenceNode, Product as ProductNode}
 use Rattle.meaning.specs.Chain.{Chain}
-use Rattle.meaning.specs.Tree.{Expression, probability, product}
-use Rattle.meaning.specs.Meaning.{denominator}
+use Rattle.meaning.specs.Tree.{Expression, probability}
 use Rattle.meaning.specs.Size.{size, addS, mulS, exceedsIn, exceedsFrom, largeSize}
 use Rattle.meaning.proofs.Bounds.{size-fits}
 use Rattle.meaning.proofs.Tests.{or-left}

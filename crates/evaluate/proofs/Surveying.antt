@@ -15,7 +15,7 @@ use Rattle.sentence.specs.declared.Wants.the-variants.{Nothing, One, Two}
 use Rattle.sentence.specs.Writing.{wantsOf}
 use Rattle.meaning.specs.Tree.{Formula, Expression, PathFormula}
 use Rattle.trees.specs.Need.{paired, need, needIn, needFrom}
-use Rattle.trees.specs.Standing.{nodeAt, FormulaAt, ExpressionAt, PathAt}
+use Rattle.trees.specs.Standing.{nodeAt, FormulaAt, ExpressionAt}
 use Rattle.trees.specs.Wanted.{operandCount}
 use Rattle.trees.proofs.Cases.{FormulaCase, ExpressionCase, PathCase, formula-case, expression-case, path-case}
 use Rattle.trees.proofs.Cases.{formula-place, expression-place, path-place}

@@ -1,13 +1,13 @@
 -- What evaluating a tree's nodes asks and leaves: the front layer of the work area holds, at every tuple, the meaning's
 -- own function of the tree that stands at the place.
 use Prim.Native.Nat.{ℕ, _+_, _*_, _^_, _≤_, _<_}
-use mathlib.Core.Bool.{Bool, false}
+use mathlib.Core.Bool.{false}
 use mathlib.Core.List.{List}
 use mathlib.Core.Path.{_≡_}
 use lib.Dec.{eqb}
 use lib.ListN.{length, getD, drop}
 use Rattle.sentence.specs.declared.Slot.{Slot}
-use Rattle.meaning.specs.Chain.{Chain, Tuple}
+use Rattle.meaning.specs.Chain.{Chain}
 use Rattle.meaning.specs.Tree.{Formula, Expression, PathFormula}
 use Rattle.meaning.specs.Meaning.{holds, hasLabel, numerator, denominator}
 use Rattle.meaning.specs.Size.{size, exceeds, exceedsIn, exceedsFrom}

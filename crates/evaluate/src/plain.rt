@@ -1,8 +1,7 @@
 // What evaluation does at one node, beside its operands.
 ghost use mathlib.Core.Path.{_≡_};
-ghost use Prim.Native.Nat.{_+_, _-_, _*_, _^_, _≤_, _<_};
-ghost use lib.ListN.{length, getD};
-ghost use Rattle.layers.specs.Layers.{Written, Kept, bitAt};
+ghost use Prim.Native.Nat.{_+_, _-_, _≤_, _<_};
+ghost use lib.ListN.{length};
 ghost use Rattle.fractions.specs.Operations.{relationOf};
 ghost use Rattle.evaluate.specs.Evaluation.{Swapped, LabelReady, LabelDone};
 ghost use Rattle.trees.specs.Listed.{unspelled};

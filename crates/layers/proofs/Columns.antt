@@ -1,5 +1,5 @@
 -- One column is stepped from its first place on, and one column after another.
-use Prim.Native.Nat.{ℕ, _+_, _*_, _-_, _/_, _%_, _^_, _≤_, _<_}
+use Prim.Native.Nat.{ℕ, _+_, _*_, _-_, _/_, _%_, _≤_, _<_}
 use mathlib.Core.List.{List}
 use mathlib.Core.Path.{_≡_, refl, sym, ap, ap₂, subst, _∙_}
 use native.Mathlib.Decide.{decLt}
@@ -8,7 +8,6 @@ use native.Mathlib.Omega.{arith}
 use lib.Arith.{digits-div, digits-mod, digits-lt}
 use lib.ListN.{length, getD, set, length-set}
 use lib.Seq.{getD-set-same, getD-set-other}
-use Rattle.counting.specs.Below.{sum}
 use Rattle.counting.proofs.Laws.{sum-same}
 use Rattle.layers.specs.Columns.{weightIn, stepped, ColumnIn, ColumnFits, ColumnStepped, start, LayerFits, LayerStepped}
 use Rattle.layers.proofs.Sums.{sum-bounded}

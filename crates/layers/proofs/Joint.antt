@@ -10,13 +10,12 @@ use Rattle.counting.specs.Below.{sum}
 use Rattle.counting.proofs.Laws.{sum-same}
 use Rattle.meaning.specs.Lists.{below, total}
 use Rattle.meaning.specs.Chain.{Chain, Sound, Tuple, Inside}
-use Rattle.meaning.proofs.Steps.{step}
 use Rattle.meaning.proofs.Single.{stepOne, stepFrom, stepOne-at, stepFrom-joint}
 use Rattle.meaning.proofs.Numbers.{tupleOf, tuple-inside, each-length}
 use Rattle.layers.specs.Layers.{Layer, Kept}
-use Rattle.layers.specs.Columns.{weightIn, stepped, start, LayerFits, LayerStepped}
+use Rattle.layers.specs.Columns.{weightIn, start, LayerFits, LayerStepped}
 use Rattle.layers.specs.Steps.{Holds, Sizes, StepFits, Stepped}
-use Rattle.layers.proofs.Columns.{columnOf, startOf, start-split, start-column, place-below, column-below}
+use Rattle.layers.proofs.Columns.{columnOf, start-split, start-column, place-below, column-below}
 use Rattle.layers.proofs.Places.{pow-some, pow-place, state-at, tuple-moved}
 use Rattle.layers.proofs.Sums.{sum-bounded, sum-total}
 

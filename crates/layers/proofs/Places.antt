@@ -1,16 +1,15 @@
 -- Where the tuples stand in a layer: the state of a variable at a tuple's number, and the number of the tuple in which
 -- the variable has another state.
-use Prim.Native.Nat.{ℕ, zero, suc, _+_, _*_, _-_, _/_, _%_, _^_, _≤_, _<_}
-use mathlib.Core.List.{List, [], _∷_}
-use mathlib.Core.Path.{_≡_, refl, sym, ap, ap₂, subst, _∙_}
-use native.Mathlib.Nat.{pow-succ', mod-lt, mod-eq-of-lt, div-lt-iff-lt-mul, mul-comm, mul-assoc, mod-mod-of-dvd}
-use native.Mathlib.Nat.{suc-sub-suc, not-suc-le-zero, add-comm, dvd-mul-left, div-add-mod', one-le-pow, pow-suc}
+use Prim.Native.Nat.{ℕ, zero, suc, _+_, _*_, _-_, _/_, _%_, _^_, _<_}
+use mathlib.Core.Path.{_≡_, sym, ap, _∙_}
+use native.Mathlib.Nat.{pow-succ', mod-lt, mod-eq-of-lt, div-lt-iff-lt-mul, mod-mod-of-dvd}
+use native.Mathlib.Nat.{suc-sub-suc, not-suc-le-zero, dvd-mul-left, one-le-pow, pow-suc}
 use native.Mathlib.Numerals.{sub-one}
 use native.Mathlib.Omega.{arith}
-use lib.Arith.{digits-div, digits-mod, digits-lt, mod-mul}
-use lib.ListN.{length, getD, set, length-set}
+use lib.Arith.{digits-div, mod-mul}
+use lib.ListN.{length, getD, set}
 use lib.Pow.{pow-add}
-use Rattle.meaning.specs.Lists.{Each, nothing, further}
+use Rattle.meaning.specs.Lists.{nothing, further}
 use Rattle.meaning.specs.Chain.{Tuple, Inside}
 use Rattle.meaning.proofs.Numbers.{numberOf, tupleOf, each-length, tuple-inside, number-tuple, tuple-number, number-set}
 

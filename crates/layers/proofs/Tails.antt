@@ -1,10 +1,10 @@
 -- A tail of the work area is lent, `&mut work[a..]`, and comes back: what lies before it has stayed.
 use Prim.Native.Nat.{ℕ, _+_, _-_, _≤_, _<_}
-use mathlib.Core.List.{List, [], _++_, append-nil}
-use mathlib.Core.Path.{_≡_, refl, sym, ap, _∙_}
+use mathlib.Core.List.{List, _++_, append-nil}
+use mathlib.Core.Path.{_≡_, sym, ap, _∙_}
 use native.Mathlib.Nat.{le-of-eq}
 use native.Mathlib.Omega.{arith}
-use lib.ListN.{length, getD, take, drop, length-append, length-take, length-drop, List·getD-append}
+use lib.ListN.{length, getD, take, drop, length-drop, List·getD-append}
 use lib.Seq.{take-all, drop-at, getD-take, getD-drop, length-take-le, drop-length, drop-drop}
 use borrow.Rule.Slice.PartMut.{same-len-mid}
 

@@ -1,8 +1,8 @@
 -- What the plain layers mean: each holds the truth of its formula at every tuple, where those of the parts did.
-use Prim.Native.Nat.{ℕ, suc, _+_, _-_, _/_, _%_, _^_, _<_}
+use Prim.Native.Nat.{ℕ, suc, _-_, _/_, _%_, _^_, _<_}
 use mathlib.Core.Bool.{Bool, true, false, cond, not, _&&_}
 use mathlib.Core.List.{List}
-use mathlib.Core.Path.{_≡_, refl, sym, ap, ap₂, subst, _∙_}
+use mathlib.Core.Path.{_≡_, refl, sym, ap, ap₂, _∙_}
 use native.Mathlib.Nat.{mod-lt}
 use native.Mathlib.Omega.{arith}
 use borrow.Author.Tests.{eqb-true, eqb-false}

@@ -1,8 +1,8 @@
 -- An until by layers: what one turn makes of the third layer, and what stands there after l turns.
-use Prim.Native.Nat.{ℕ, zero, suc, _+_, _*_, _-_, _^_, _≤_, _<_}
+use Prim.Native.Nat.{ℕ, suc, _+_, _*_, _-_, _^_, _≤_, _<_}
 use mathlib.Core.Bool.{Bool, true, false, cond, not, _&&_}
 use mathlib.Core.List.{List}
-use mathlib.Core.Path.{_≡_, refl, sym, ap, ap₂, subst, _∙_}
+use mathlib.Core.Path.{_≡_, refl, sym, ap, subst, _∙_}
 use native.Mathlib.Nat.{le-trans, le-of-eq, mul-le-mul-left, mul-zero, mul-suc, pow-zero, pow-le-pow-right}
 use native.Mathlib.Numerals.{add-one}
 use native.Mathlib.Omega.{arith}
@@ -17,8 +17,8 @@ use Rattle.meaning.proofs.Runs.{tuples-inside}
 use Rattle.meaning.proofs.Steps.{step, step-constant}
 use Rattle.meaning.proofs.Sums.{total-le}
 use Rattle.meaning.proofs.Until.{layer, until-layer}
-use Rattle.layers.specs.Layers.{Layer, truth, Kept}
-use Rattle.layers.specs.Steps.{Holds, Sizes, StepFits, Stepped}
+use Rattle.layers.specs.Layers.{Layer, truth}
+use Rattle.layers.specs.Steps.{Holds, Stepped}
 use Rattle.layers.specs.Untils.{WrittenAt, choice, choiceAt, TurnFits, Turned, UntilFits, UntilTaken}
 use Rattle.layers.proofs.Tails.{Back, back-at}
 use Rattle.layers.proofs.Written.{kept-at, kept-from}

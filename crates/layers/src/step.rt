@@ -1,8 +1,8 @@
 // A joint step of a layer in place, one variable after another: n × N products a tuple, or n times as many as a row has
 // weights that are not 0, where each has few.
 ghost use mathlib.Core.Path.{_≡_};
-ghost use Prim.Native.Nat.{ℕ, _+_, _*_, _^_, _≤_, _<_};
-ghost use lib.ListN.{length, getD};
+ghost use Prim.Native.Nat.{_*_, _<_};
+ghost use lib.ListN.{length};
 ghost use Rattle.layers.specs.Sparse.{RowsNamed};
 ghost use Rattle.layers.specs.Columns.{ColumnIn, ColumnRead, ColumnFits, ColumnStepped, LayerFits, LayerStepped};
 ghost use Rattle.layers.specs.Steps.{StepFits, Stepped};

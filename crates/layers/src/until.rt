@@ -1,7 +1,7 @@
 // The numerator of an until at all tuples: by steps left, one joint step and one choice a layer.
 ghost use mathlib.Core.Path.{_≡_};
 ghost use mathlib.Core.Logic.{_⊎_};
-ghost use Prim.Native.Nat.{ℕ, _+_, _*_, _^_, _≤_, _<_};
+ghost use Prim.Native.Nat.{_+_, _*_, _^_, _≤_, _<_};
 ghost use lib.ListN.{length, getD};
 ghost use Rattle.layers.specs.Sparse.{RowsNamed};
 ghost use Rattle.layers.specs.Untils.{WrittenAt, choice, choiceAt, TurnFits, Turned, UntilFits, UntilTaken};

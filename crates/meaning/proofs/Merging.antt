@@ -20,7 +20,6 @@ use Rattle.meaning.specs.Tree.{Expression, probability, constant, sum, d
 use Rattle.meaning.specs.Tree.{PathFormula, next, until, Letter, forAll, exists}
 use Rattle.meaning.specs.Meaning.{denominator, hasLabel, addF, subF, mulF, compared, holds, value, numerator}
 use Rattle.meaning.specs.Meaning.{ranges, ranged, verdict}
-use Rattle.meaning.specs.Size.{exceeds}
 use Rattle.meaning.specs.Merging.{weightInto, Grouping, Stable, Merged, member, merged}
 use Rattle.meaning.proofs.Sums.{total-same, total-le, total-member, total-zero}
 use Rattle.meaning.proofs.Sums.{total-scale, total-scale-right, total-swap, total-below}
@@ -259,10 +258,6 @@ module _ (c : Chain) (group : ℕ → ℕ) (m : Chain) (merge : Merged c group m
   verdict-merged sound letters body =
       ranged-merged letters (holds body c (length letters)) (holds body m (length letters))
       (λ s i. holds-merged sound body (length letters) i)
-
-  -- and the size rule refuses it on both or on neither
-  pub exceeds-merged : (body : Formula) (n : ℕ) → exceeds body (c .D) n ≡ exceeds body (m .D) n
-  exceeds-merged body n = ap (λ D. exceeds body D n) (sym (merge .sameD))
 
   -- what has a merged chain is stable
   pub merged-stable : Stable c group (m .N)

@@ -1,6 +1,6 @@
 -- A list of nodes that nests is the list of a tree: one thing after another, a node and what it wants. Assumes nothing.
 use mathlib.Core.List.{List, [], _∷_, _++_, append-assoc, append-nil}
-use mathlib.Core.Path.{_≡_, refl, sym, ap, subst, _∙_}
+use mathlib.Core.Path.{_≡_, refl, ap, subst, _∙_}
 use Rattle.sentence.specs.Grammar.{kindOf, wants, Nests}
 use Rattle.sentence.specs.Grammar.Nests.{end, node}
 use Rattle.sentence.specs.declared.Kind.{Kind}

@@ -1,9 +1,9 @@
 -- How many layers a tree needs: at least 1, and at most 7 where it has at most 64 nodes. Assumes nothing.
-use Prim.Native.Nat.{ℕ, zero, suc, max, _+_, _-_, _*_, _^_, _≤_, _<_}
+use Prim.Native.Nat.{ℕ, suc, max, _+_, _*_, _^_, _≤_}
 use mathlib.Core.Bool.{Bool, true, false, cond}
-use mathlib.Core.List.{List, _∷_, _++_}
-use mathlib.Core.Path.{_≡_, refl, sym, ap, subst, _∙_}
-use native.Mathlib.Decide.{decLt, decLe}
+use mathlib.Core.List.{List, _++_}
+use mathlib.Core.Path.{_≡_, refl, sym, subst}
+use native.Mathlib.Decide.{decLe}
 use native.Mathlib.Omega.{arith}
 use borrow.Author.Tests.{eqb-true}
 use lib.Dec.{eqb}
@@ -98,14 +98,6 @@ seven k l p h = by (decLe k 7)
     by : Dec (k ≤ 7) → k ≤ 7
     by (yes y) = y
     by (no n) = let eight : 8 ≤ k = omega arith in let m : 2 ^ 8 ≤ 2 ^ k = pow-mono eight in absurd (omega (arith, p .1, m))
-
--- the number of layers takes twice the nodes for each more
-pub halved : (k l : ℕ) → Allowed k l → 2 ^ (k - 1) ≤ l + 1
-halved zero l p = absurd (omega (arith, p .0))
-halved (suc k) l p =
-    let e : suc k - 1 ≡ k = omega arith in
-    let h : 2 ^ k ≤ l + 1 = omega (arith, twice k, p .1) in
-    subst (λ (x : ℕ). 2 ^ x ≤ l + 1) (sym e) h
 
 pub need-seven : (f : Formula) → length (formulaNodes f) ≤ 64 → need f ≤ 7
 need-seven f h = seven (need f) (length (formulaNodes f)) (need-allowed f) h

@@ -3,7 +3,7 @@ use Prim.Native.Nat.{ℕ, zero, suc, _+_, _-_, _≤_, _<_}
 use mathlib.Core.Bool.{Bool, true, false, cond, true≢false}
 use mathlib.Core.List.{List, [], _∷_, _++_}
 use mathlib.Core.Path.{_≡_, refl, sym, ap, subst, _∙_}
-use native.Mathlib.Decide.{decLt, decLe, ℕ-discrete}
+use native.Mathlib.Decide.{decLt, ℕ-discrete}
 use native.Mathlib.Numerals.{add-one}
 use native.Mathlib.Omega.{arith}
 use lib.ListN.{length, getD}
@@ -13,7 +13,7 @@ use Rattle.sentence.specs.declared.Node.{Node}
 use Rattle.meaning.specs.Tree.{Formula, always, labelled, negation, both, compare, pathsOf}
 use Rattle.meaning.specs.Tree.{Expression, probability, constant, sum, difference, product, pathsIn}
 use Rattle.meaning.specs.Tree.{PathFormula, next, until, pathsFrom}
-use Rattle.trees.specs.Listed.{relationOf, formulaNodes, expressionNodes, pathNodes}
+use Rattle.trees.specs.Listed.{formulaNodes, expressionNodes, pathNodes}
 use Rattle.trees.specs.Standing.{nodeAt, PathAt}
 use Rattle.trees.specs.Numbered.{startsPath, pathsBelow}
 use Rattle.trees.proofs.Stretch.{Stretch, split, path-stands, record-stretch}

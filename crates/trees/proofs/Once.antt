@@ -3,8 +3,6 @@ use Prim.Native.Nat.{ℕ}
 use mathlib.Core.Bool.{Bool}
 use mathlib.Core.List.{List, [], _∷_, _++_, append-assoc}
 use mathlib.Core.Path.{_≡_, refl, sym, ap, ap₂, subst, _∙_}
-use Rattle.sentence.specs.declared.Relation.the-variants.{Less, AtMost, Equal, AtLeast, Greater}
-use Rattle.sentence.specs.declared.Relation as Spelled
 use Rattle.sentence.specs.declared.Node.{Node}
 use Rattle.sentence.specs.declared.Node.the-variants.{True, Label, Not, And, Compare, Probability, Constant, Sum, Difference, Product, Next, Until}
 use Rattle.sentence.specs.Grammar.{Spells}

@@ -1,7 +1,7 @@
 -- `block::weighed` meets its contract. The invariant: the total is the sum so far, which is small.
 use borrow.Author.Needs.{needs}
 use Prim.Native.Nat.{_+_, _*_, _-_, _≤_}
-use mathlib.Core.Path.{_≡_, sym, _∙_}
+use mathlib.Core.Path.{_≡_, sym}
 use native.Mathlib.Omega.{arith}
 use Rattle.counting.specs.Below.{sum}
 use Rattle.counting.proofs.Laws.{sum-none, sum-more}

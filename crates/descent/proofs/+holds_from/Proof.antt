@@ -4,7 +4,6 @@ use borrow.Author.Needs.{needs}
 use borrow.Author.Tests.{not-true, not-false}
 use Prim.Native.Nat.{ℕ, _+_, _-_, _*_, _≤_, _<_}
 use mathlib.Core.Bool.{Bool, true, false, not}
-use mathlib.Core.List.{List}
 use mathlib.Core.Logic.{⊎-elim}
 use mathlib.Core.Path.{_≡_, refl, ap, sym, _∙_}
 use native.Mathlib.Omega.{arith}
@@ -117,7 +116,6 @@ holds-from-returns-2 t c =
     let h = c .before .before in
     let l = h .before .before in
     let start = l .before .before .before in
-    let e = getD (start .args .t1) (start .args .i) false in
     sym (decided true _ (start .args .states) (l .loop .s) (h .before .loop-test .taken) (sym (h .holds-from .ensures) ∙ c .if3 .taken)) ∙
     tested t start true (sym (c .before .if2 .taken) ∙ l .loop .inv .1) (l .before .if1 .left)
 

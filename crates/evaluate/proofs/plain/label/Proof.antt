@@ -1,18 +1,14 @@
 -- `evaluate::plain::label` meets its contract: a variable's stride is N to the number of variables after it.
 use borrow.Author.Needs.{needs}
-use Prim.Native.Nat.{ℕ, suc, _+_, _-_, _*_, _^_, _≤_, _<_}
-use mathlib.Core.List.{List}
-use mathlib.Core.Path.{_≡_, refl, sym, ap, subst, _∙_}
-use native.Mathlib.Nat.{le-trans, le-of-eq, pow-le-pow-right, one-mul}
+use Prim.Native.Nat.{ℕ, suc, _-_, _^_, _≤_}
+use mathlib.Core.Path.{_≡_, sym, ap, subst, _∙_}
+use native.Mathlib.Nat.{pow-le-pow-right, one-mul}
 use native.Mathlib.Omega.{arith}
-use lib.Dec.{eqb}
-use Rattle.meaning.specs.Chain.{Chain}
 use Rattle.meaning.specs.Meaning.{hasLabel}
-use Rattle.layers.specs.Layers.{Layer, truth, bitAt, Written}
+use Rattle.layers.specs.Layers.{Layer, truth}
 use Rattle.layers.specs.Steps.{Sizes}
 use Rattle.layers.proofs.Truth.{labelled-layer}
 use Rattle.layers.proofs.Places.{pow-some}
-use Rattle.evaluate.specs.Evaluation.{LabelReady}
 use Rattle.evaluate.proofs.plain.label.Statement.{statement}
 use Rattle.evaluate.proofs.plain.label.Tie as tie
 

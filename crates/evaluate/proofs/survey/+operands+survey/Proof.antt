@@ -1,6 +1,6 @@
 -- `operands` and `survey` meet their contracts, by what the node wants. The measure is the number of places left, counted twice.
 use borrow.Author.Needs.{needs}
-use mathlib.Core.Path.{_≡_, refl, sym, ap, _∙_}
+use mathlib.Core.Path.{refl, sym, _∙_}
 use Rattle.evaluate.proofs.Surveying.{surveyed-past, surveyed-two, surveyed-none, surveyed-one, surveyed-both}
 use Prim.Native.Nat.{ℕ, _+_, _-_, _*_, _<_}
 use borrow.Fn.Kinds.{In}

@@ -1,6 +1,6 @@
 -- `layers::plain::labelled` meets its contract: the bits are written from the front.
 use borrow.Author.Needs.{needs}
-use Prim.Native.Nat.{_-_, _/_, _%_, _<_}
+use Prim.Native.Nat.{_-_, _/_, _%_}
 use native.Mathlib.Nat.{mod-lt}
 use native.Mathlib.Omega.{arith}
 use Rattle.layers.specs.Layers.{bitAt}

@@ -1,7 +1,5 @@
 -- `layers::plain::other` meets its contract, by the test.
-use borrow.Author.Needs.{needs}
 use borrow.Author.Tests.{eq-eqb, ne-eqb}
-use mathlib.Core.Path.{sym}
 use Rattle.layers.proofs.plain.other.Statement.{statement}
 use Rattle.layers.proofs.plain.other.Tie as tie
 

@@ -1,5 +1,4 @@
 -- `layers::plain::where_met` meets its contract, by the test.
-use borrow.Author.Needs.{needs}
 use borrow.Author.Tests.{eq-eqb, ne-eqb}
 use Rattle.layers.proofs.plain.where_met.Statement.{statement}
 use Rattle.layers.proofs.plain.where_met.Tie as tie

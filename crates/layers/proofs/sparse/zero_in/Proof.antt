@@ -1,7 +1,6 @@
 -- `layers::sparse::zero_in` meets its contract.
 use borrow.Author.Needs.{needs}
 use Prim.Native.Nat.{_-_, _≤_}
-use native.Mathlib.Omega.{arith}
 use Rattle.layers.proofs.sparse.zero_in.Statement.{statement}
 use Rattle.layers.proofs.sparse.zero_in.Tie as tie
 

@@ -1,7 +1,7 @@
 -- `layers::step::read_column` meets its contract: the column is filled from the front.
 use borrow.Author.Needs.{needs}
 use Prim.Native.Nat.{ℕ, _+_, _*_, _-_, _≤_}
-use mathlib.Core.Path.{_≡_, refl, ap}
+use mathlib.Core.Path.{_≡_, ap}
 use native.Mathlib.Omega.{arith}
 use lib.ListN.{getD}
 use Rattle.counting.proofs.Laws.{Filled, filled-none, filled-next}

@@ -1,6 +1,6 @@
 -- `layers::until::choose` meets its contract: what is read has not been written yet.
 use borrow.Author.Needs.{needs}
-use Prim.Native.Nat.{ℕ, _+_, _-_}
+use Prim.Native.Nat.{_+_, _-_}
 use mathlib.Core.Path.{_∙_}
 use native.Mathlib.Omega.{arith}
 use Rattle.layers.specs.Untils.{choiceAt}

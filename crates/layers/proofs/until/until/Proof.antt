@@ -1,8 +1,8 @@
 -- `layers::until::until` meets its contract: the invariant is the layer with so many steps left.
 use borrow.Author.Needs.{needs}
-use Prim.Native.Nat.{ℕ, _+_, _*_, _-_, _^_, _≤_}
+use Prim.Native.Nat.{_-_}
 use mathlib.Core.Logic.{inl, inr}
-use mathlib.Core.Path.{_≡_, refl, sym, subst, _∙_}
+use mathlib.Core.Path.{refl, _∙_}
 use native.Mathlib.Omega.{arith}
 use Rattle.layers.proofs.Untils.{Untiling, untiling-none, untiling-next, untiling-all}
 use Rattle.layers.proofs.Untils.{next-power, power-fits, turn-fits}
@@ -71,10 +71,7 @@ loop-again c =
 
 add-copy-2 : tie.Need-add-copy-2 Inv-loop μ-loop
 add-copy-2 c =
-    let at-loop = c .before in
-    let start = at-loop .before .before .before .before .before .before .before .before in
-    let copied = at-loop .before .before .before .copy .ensures in
-    let fits = copied-fits (start .pre) copied in
+    let start = c .before .before .before .before .before .before .before .before .before in
     omega (arith, start .pre .room)
 
 copy-requires-2 : tie.Need-copy-requires-2 Inv-loop μ-loop
@@ -82,7 +79,6 @@ copy-requires-2 c κs =
     let at-loop = c .before .before in
     let start = at-loop .before .before .before .before .before .before .before .before in
     let copied = at-loop .before .before .before .copy .ensures in
-    let fits = copied-fits (start .pre) copied in
     let room = start .pre .room in
     let long = at-loop .loop .inv .long in
     let first = copied .long in
@@ -91,9 +87,7 @@ copy-requires-2 c κs =
 same-length : tie.Need-same-length Inv-loop μ-loop
 same-length c =
     let at-loop = c .before .before .before .before .before in
-    let start = at-loop .before .before .before .before .before .before .before .before in
     let copied = at-loop .before .before .before .copy .ensures in
-    let fits = copied-fits (start .pre) copied in
     c .before .before .copy2 .ensures .long ∙ at-loop .loop .inv .long ∙ copied .long
 
 returns : tie.Need-returns Inv-loop μ-loop
