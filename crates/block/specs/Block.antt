@@ -10,16 +10,19 @@ use Rattle.counting.specs.Below.{sum, every}
 abbrev pub byteOf : List ℕ → ℕ → ℕ → ℕ
 byteOf file i j = getD file (512 * i + j) 0
 
--- all numbers are low byte first: the low and the high byte of a number of two bytes, and the number of two and of four
+-- all numbers are low byte first: the low byte of a number of two bytes
 abbrev pub lowByte : ℕ → ℕ
 lowByte x = x % 256
 
+-- and its high byte
 abbrev pub highByte : ℕ → ℕ
 highByte x = x / 256 % 256
 
+-- the number of two bytes
 abbrev pub two : ℕ → ℕ → ℕ
 two low high = low + 256 * high
 
+-- the number of four bytes
 abbrev pub four : ℕ → ℕ → ℕ → ℕ → ℕ
 four a b c d = two a b + 65536 * two c d
 

@@ -1,1 +1,2 @@
+-- The blocks of a model file.
 pub mod Block

@@ -12,22 +12,26 @@ use Rattle.chain.specs.Of.{chainOf}
 use Rattle.chain.proofs.Right.{sound-right}
 
 module _ (file : List ℕ) (ok : fileNumber file ≡ 0) where
+  -- its fields are right
   pub fields-right : fieldsRight (fieldsOf file) ≡ true
   fields-right = right.laid-fields file (fieldsOf file) (accepted file ok .laid)
 
+  -- every state's row adds up to D
   pub rows-right : rowsRight (fieldsOf file) ≡ true
   rows-right = accepted file ok .sums
 
-  -- N is 1..32, D is at least 1
+  -- N is at least 1
   pub states-some : 1 ≤ chainOf (fieldsOf file) .N
   states-some = right.states-some (fieldsOf file) fields-right
 
+  -- and at most 32
   pub states-few : chainOf (fieldsOf file) .N ≤ 32
   states-few = right.states-few (fieldsOf file) fields-right
 
+  -- D is at least 1
   pub total-some : 1 ≤ chainOf (fieldsOf file) .D
   total-some = right.total-some (fieldsOf file) fields-right
 
-  -- every state's weights add up to D
+  -- so the chain is sound
   pub sound : Sound (chainOf (fieldsOf file))
   sound = sound-right (fieldsOf file) fields-right rows-right

@@ -27,6 +27,7 @@ half-bit : (x l : ℕ) → bit l (x / 2) ≡ bit (suc l) x
 half-bit x l =
     ap (λ (q : ℕ). eqb (q % 2) 1) (div-div-eq-div-mul x 2 (2 ^ l) ∙ ap (λ (p : ℕ). x / p) (sym (pow-succ' 2 l)))
 
+-- numbers below 2^k whose bits are equal are one number
 pub bits-same : (k x y : ℕ) → x < 2 ^ k → y < 2 ^ k → ((l : ℕ) → bit l x ≡ bit l y) → x ≡ y
 bits-same zero x y p q h = omega arith
 bits-same (suc k) x y p q h =

@@ -21,10 +21,11 @@ not-second true e = e
 not-second false e = refl
 
 module _ (m : Model) (fields : fieldsRight m ≡ true) where
-  -- columns from N on are zero, and so are rows
+  -- columns from N on are zero
   pub column-zero : (s t : ℕ) → s < 32 → t < 32 → m .n ≤ t → weightOf m s t ≡ 0
   column-zero s t l k past = weight-past m fields s t l k (not-second (ltb s (m .n)) (le-ltb t (m .n) past))
 
+  -- and so are rows
   pub row-zero : (s t : ℕ) → s < 32 → t < 32 → m .n ≤ s → weightOf m s t ≡ 0
   row-zero s t l k past = weight-past m fields s t l k (ap (λ (b : Bool). b && ltb t (m .n)) (le-ltb s (m .n) past))
 

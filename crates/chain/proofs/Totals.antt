@@ -9,6 +9,7 @@ use Rattle.counting.proofs.Laws.{sum-more}
 use Rattle.meaning.specs.Lists.{below, total}
 use Rattle.meaning.proofs.Sums.{total-below}
 
+-- a total over the states is a sum over them
 pub total-sum : (n : ℕ) (f : ℕ → ℕ) → total f (below n) ≡ sum n f
 unfolding total below sum
 total-sum zero f = refl
@@ -24,6 +25,7 @@ sum-past n (suc k) f h =
     ap₂ (λ (a b : ℕ). a + b) (sum-past n k f (λ t l u. h t l (omega arith))) (h (n + k) (omega arith) (omega arith)) ∙
     add-zero (sum n f)
 
+-- a sum of which all terms from n on are zero
 pub sum-first : (n m : ℕ) (f : ℕ → ℕ) → n ≤ m → ((t : ℕ) → n ≤ t → t < m → f t ≡ 0) → sum m f ≡ sum n f
 sum-first n m f l h =
     let e : m ≡ n + (m - n) = omega arith in

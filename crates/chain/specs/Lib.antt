@@ -1,1 +1,2 @@
+-- The chain of a model.
 pub mod Of

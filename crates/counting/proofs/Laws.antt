@@ -24,10 +24,12 @@ below-next {P} {n} h last k l = go (decLt k n)
 
 -- ---- sums
 
+-- a sum of no terms
 pub sum-none : (f : ℕ → ℕ) → sum 0 f ≡ 0
 unfolding sum
 sum-none f = refl
 
+-- one term more
 pub sum-more : (n : ℕ) (f : ℕ → ℕ) → sum (n + 1) f ≡ sum n f + f n
 unfolding sum
 sum-more n f = ap (λ (k : ℕ). sum k f) (add-one n)
@@ -56,32 +58,38 @@ term-le-sum (suc n) f k l = below-next {P = λ k. f k ≤ sum n f + f n}
 
 -- ---- tests
 
+-- no number fails the test where there is none
 pub every-none : (test : ℕ → Bool) → every 0 test ≡ true
 unfolding every
 every-none test = refl
 
+-- two tests that are met
 pub and-true : {a b : Bool} → a ≡ true → b ≡ true → (a && b) ≡ true
 and-true p q = ap₂ (λ (a b : Bool). a && b) p q
 
+-- of two that are met the first is
 pub left-of : (a b : Bool) → (a && b) ≡ true → a ≡ true
 left-of true b e = refl
 left-of false b e = e
 
+-- and the second is
 pub right-of : (a b : Bool) → (a && b) ≡ true → b ≡ true
 right-of true b e = e
 right-of false b e = absurd (true≢false (sym e))
 
+-- one number more meets the test
 pub every-more : (n : ℕ) (test : ℕ → Bool) → every n test ≡ true → test n ≡ true → every (n + 1) test ≡ true
 unfolding every
 every-more n test h last = ap (λ (k : ℕ). every k test) (add-one n) ∙ and-true h last
 
--- what `every` says, both ways
+-- each number below n meets the test that every one meets
 pub every-at : (n : ℕ) (test : ℕ → Bool) → every n test ≡ true → (k : ℕ) → k < n → test k ≡ true
 unfolding every
 every-at zero test h k l = absurd (omega arith)
 every-at (suc n) test h k l =
     below-next (every-at n test (left-of (every n test) (test n) h)) (right-of (every n test) (test n) h) k l
 
+-- every number meets the test that each meets
 pub every-all : (n : ℕ) (test : ℕ → Bool) → ((k : ℕ) → k < n → test k ≡ true) → every n test ≡ true
 unfolding every
 every-all zero test h = refl
@@ -101,6 +109,7 @@ same-truth false false f g = refl
 pub every-but : (n : ℕ) (test : ℕ → Bool) (k : ℕ) → k < n → test k ≡ false → every n test ≡ false
 every-but n test k l e = is-not-true (every n test) (λ h. true≢false (sym (every-at n test h k l) ∙ e))
 
+-- tests that agree below n have one answer
 pub every-same : (n : ℕ) {p q : ℕ → Bool} → ((k : ℕ) → k < n → p k ≡ q k) → every n p ≡ every n q
 unfolding every
 every-same zero h = refl
@@ -114,28 +123,34 @@ pub record Passed (n : ℕ) (test : ℕ → Bool) (i : ℕ) : Type 0 where
   pub met : every i test ≡ true
 
 module _ {n : ℕ} {test : ℕ → Bool} where
+  -- before the first turn
   pub passed-none : Passed n test 0
   passed-none = record { upTo = omega arith; met = every-none test }
 
+  -- one turn more, where the test is met
   pub passed-next : {i : ℕ} → Passed n test i → i < n → test i ≡ true → Passed n test (i + 1)
   passed-next {i} h less e = record { upTo = omega arith; met = every-more i test (h .met) e }
 
+  -- after the last turn every number has met the test
   pub passed-all : {i : ℕ} → Passed n test i → n ≤ i → true ≡ every n test
   passed-all {i} h done =
       let e : i ≡ n = omega arith in
       sym (rw e at (h .met))
 
+  -- where one fails, not every number meets it
   pub failed-at : {i : ℕ} → Passed n test i → i < n → test i ≡ false → false ≡ every n test
   failed-at {i} h less e = sym (every-but n test i less e)
 
 -- ---- tables
 
 module _ {A : Type 0} where
+  -- a table of n entries is n long
   pub length-table : (n : ℕ) (f : ℕ → A) → length (table n f) ≡ n
   unfolding table
   length-table zero f = refl
   length-table (suc n) f = length-append (table n f) (f n ∷ []) ∙ ap (λ (k : ℕ). k + 1) (length-table n f) ∙ add-one n
 
+  -- entry k of a table is f k
   pub table-at : (n : ℕ) (f : ℕ → A) (d : A) (k : ℕ) → k < n → getD (table n f) k d ≡ f k
   unfolding table
   table-at zero f d k l = absurd (omega arith)
@@ -150,6 +165,7 @@ module _ {A : Type 0} where
   table-is n f d l e h =
       ext-getD d l (table n f) (e ∙ sym (length-table n f)) (λ k less. h k (omega arith) ∙ sym (table-at n f d k (omega arith)))
 
+  -- tables of functions that agree below n are one
   pub table-same : (n : ℕ) (f g : ℕ → A) (d : A) → ((k : ℕ) → k < n → f k ≡ g k) → table n f ≡ table n g
   table-same n f g d h = table-is n g d (table n f) (length-table n f) (λ k l. table-at n f d k l ∙ h k l)
 
@@ -162,9 +178,11 @@ pub record Filled {A : Type 0} (n : ℕ) (f : ℕ → A) (d : A) (i : ℕ) (l : 
   pub each : (k : ℕ) → k < i → getD l k d ≡ f k
 
 module _ {A : Type 0} {n : ℕ} {f : ℕ → A} {d : A} where
+  -- before the first turn
   pub filled-none : {l : List A} → length l ≡ n → Filled n f d 0 l
   filled-none e = record { upTo = omega arith; long = e; each = λ k less. absurd (omega arith) }
 
+  -- one store more
   pub filled-next : {i : ℕ} {l : List A} {v : A} → Filled n f d i l → i < n → v ≡ f i → Filled n f d (i + 1) (set l i v)
   filled-next {i} {l} {v} h less e = record {
     upTo = omega arith;
@@ -177,6 +195,7 @@ module _ {A : Type 0} {n : ℕ} {f : ℕ → A} {d : A} where
         k (omega arith);
   }
 
+  -- after the last turn the list is the table
   pub filled-all : {i : ℕ} {l : List A} → Filled n f d i l → n ≤ i → l ≡ table n f
   filled-all {i} {l} h done = table-is n f d l (h .long) (λ k less. h .each k (omega arith))
 
@@ -200,10 +219,12 @@ pub record Fronted {A : Type 0} (n : ℕ) (f : ℕ → A) (before : List A) (i :
   pub held : now ≡ table i f ++ drop i before
 
 module _ {A : Type 0} {n : ℕ} {f : ℕ → A} {before : List A} where
+  -- before the first turn
   pub fronted-none : Fronted n f before 0 before
   unfolding table
   fronted-none = record { upTo = omega arith; long = refl; held = refl }
 
+  -- one store more
   pub fronted-next : {i : ℕ} {now : List A} {v : A} → Fronted n f before i now → i < n → n ≤ length before → v ≡ f i →
       Fronted n f before (i + 1) (set now i v)
   fronted-next {i} {now} {v} h less room e = record {
@@ -212,6 +233,7 @@ module _ {A : Type 0} {n : ℕ} {f : ℕ → A} {before : List A} where
     held = ap (λ (l : List A). set l i v) (h .held) ∙ front-more f before i v (omega arith) e;
   }
 
+  -- after the last turn the table stands before the rest
   pub fronted-all : {i : ℕ} {now : List A} → Fronted n f before i now → n ≤ i → now ≡ table n f ++ drop n before
   fronted-all {i} {now} h done =
       let e : i ≡ n = omega arith in

@@ -1,1 +1,2 @@
+-- Sums, tests and tables over the numbers below n.
 pub mod Below

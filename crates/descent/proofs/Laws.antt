@@ -54,11 +54,12 @@ letters-none flags count i h room =
     let past : length (take count flags) ≤ i = omega arith in
     ap (map letterOf) (drop-of-length-le (take count flags) past)
 
--- what the descent answers at the end, and one letter before
+-- what the descent answers where no letter is left: the truth at the place
 pub descended-none : (N base : ℕ) (letters : List Letter) (w : List ℕ) → letters ≡ [] → descended N letters base w ≡ metAt w base
 unfolding descended
 descended-none N base letters w e = ap (λ (l : List Letter). descended N l base w) e
 
+-- and where one is: it ranges over all states
 pub descended-more : (N base : ℕ) (letter : Letter) (letters rest : List Letter) (w : List ℕ) → letters ≡ letter ∷ rest →
     descended N letters base w ≡ ranges letter (λ s. descended N rest (base * N + s) w) (below N)
 unfolding descended
@@ -76,6 +77,7 @@ room-more N i count base s size l h room =
     let grown = mul-le-mul-right (N ^ k) less in
     omega arith
 
+-- where all variables are fixed, the place lies in the layer
 pub place-inside : (N i count base size : ℕ) → count ≤ i → (base + 1) * N ^ (count - i) ≤ size → base < size
 place-inside N i count base size h room =
     let none : count - i ≡ 0 = omega arith in
@@ -83,6 +85,7 @@ place-inside N i count base size h room =
     let whole : (base + 1) * N ^ (count - i) ≡ (base + 1) * 1 = ap (λ (x : ℕ). (base + 1) * x) power in
     omega arith
 
+-- the place of one state more lies in the layer too
 pub place-more : (N i count base s size : ℕ) → i < count → s < N → (base + 1) * N ^ (count - i) ≤ size → base * N + s < size
 place-more N i count base s size l h room =
     let k = count - (i + 1) in

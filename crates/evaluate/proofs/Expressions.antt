@@ -66,6 +66,7 @@ OperationCase nodes at op f q =
 -- ---- what the operands are evaluated with
 module _ {nodes : List Slot} {g : Setting} {masks : List ℕ} {rows : List (List ℕ)} {at : ℕ} {w : List ℕ}
     (ready : ExpressionReady nodes g masks rows at w) where
+  -- there is a place for the node
   pub expression-inside : at < 64
   expression-inside = expression-place nodes at (ready .stands)
 
@@ -75,6 +76,7 @@ module _ {nodes : List Slot} {g : Setting} {masks : List ℕ} {rows : List (List
       let p = room-of (g .tuples) (needIn-some (ready .expression)) (ready .room) in
       omega arith
 
+  -- what the path of a probability asks
   pub probability-ready : nodeAt nodes at ≡ Probability → PathReady nodes g masks rows (at + 1) w
   unfolding exceedsIn needIn size
   probability-ready e =
@@ -123,12 +125,15 @@ module _ {nodes : List Slot} {g : Setting} {masks : List ℕ} {rows : List (List
         fits = fits;
       }
 
+  -- what the expressions of a sum ask
   pub sum-ready : nodeAt nodes at ≡ SumNode → CombinedReady Sum nodes g masks rows (at + 1) w
   sum-ready e = operation-ready Sum (expression-case nodes at SumNode e (ready .stands))
 
+  -- those of a difference
   pub difference-ready : nodeAt nodes at ≡ DifferenceNode → CombinedReady Difference nodes g masks rows (at + 1) w
   difference-ready e = operation-ready Difference (expression-case nodes at DifferenceNode e (ready .stands))
 
+  -- those of a product
   pub product-ready : nodeAt nodes at ≡ ProductNode → CombinedReady Product nodes g masks rows (at + 1) w
   product-ready e = operation-ready Product (expression-case nodes at ProductNode e (ready .stands))
 
@@ -136,7 +141,7 @@ module _ {nodes : List Slot} {g : Setting} {masks : List ℕ} {rows : List (List
 module _ {op : Operation} {nodes : List Slot} {g : Setting} {masks : List ℕ} {rows : List (List ℕ)} {at : ℕ}
     {mid : List ℕ} {two : ValuedTwo}
     (done : ExpressionsDone nodes g masks rows at mid two) where
-  -- what combining asks, and that the denominators' product fits
+  -- what combining asks
   pub combining-ready : {w : List ℕ} → CombinedReady op nodes g masks rows at w → length mid ≡ length w →
       CombineFits op (two .first) (two .second) (g .tuples) mid
   combining-ready ready long =
@@ -151,6 +156,7 @@ module _ {op : Operation} {nodes : List Slot} {g : Setting} {masks : List ℕ} {
       subst (λ (d : ℕ). CombineFits op d (two .second) (g .tuples) mid) (sym (h .1))
       (subst (λ (d : ℕ). CombineFits op (size (r .first) (c .D) n .d) d (g .tuples) mid) (sym (h .2)) m)
 
+  -- the denominators' product is at most 2^62
   pub bottoms-small : {w : List ℕ} → CombinedReady op nodes g masks rows at w → two .first * two .second ≤ 2 ^ 62
   bottoms-small ready =
       let r = ready .two in
@@ -161,6 +167,7 @@ module _ {op : Operation} {nodes : List Slot} {g : Setting} {masks : List ℕ} {
       le-trans (le-of-eq (ap₂ _*_ (h .1) (h .2) ∙ sym (operation-bottom op (r .first) (r .second) (c .D) n)))
       (size-fits (expressionOf op (r .first) (r .second)) (c .D) n (ready .fits) .0)
 
+  -- what the operation leaves
   pub combined-done : {after : List ℕ} → Written (g .tuples) (combinedAt op (two .first) (two .second) (g .tuples) mid)
       mid after →
       CombinedDone op nodes g masks rows at after (record { next = two .next; bottom = two .first * two .second })
@@ -192,6 +199,7 @@ module _ {nodes : List Slot} {g : Setting} {masks : List ℕ} {rows : List (List
         fits;
   }
 
+  -- a probability
   pub probability-done : nodeAt nodes at ≡ Probability → {after : List ℕ} {r : Valued} →
       PathDone nodes g masks rows (at + 1) after r → ExpressionDone nodes g masks rows at after r
   unfolding exceedsIn size
@@ -207,6 +215,7 @@ module _ {nodes : List Slot} {g : Setting} {masks : List ℕ} {rows : List (List
             (probability-layer (it .0) c (h .2)),
       ))
 
+  -- a constant
   pub constant-done : (a b : ℕ) → nodeAt nodes at ≡ Constant a b → {before after : List ℕ} →
       Written (g .tuples) (λ k. a) before after →
       ExpressionDone nodes g masks rows at after (record { next = at + 1; bottom = b })
@@ -235,14 +244,17 @@ module _ {nodes : List Slot} {g : Setting} {masks : List ℕ} {rows : List (List
       ))
 
   module _ {after : List ℕ} {r : Valued} where
+    -- a sum
     pub sum-done : nodeAt nodes at ≡ SumNode → CombinedDone Sum nodes g masks rows (at + 1) after r →
         ExpressionDone nodes g masks rows at after r
     sum-done e done = operation-done Sum SumNode e (λ a q it. it) done
 
+    -- a difference
     pub difference-done : nodeAt nodes at ≡ DifferenceNode →
         CombinedDone Difference nodes g masks rows (at + 1) after r → ExpressionDone nodes g masks rows at after r
     difference-done e done = operation-done Difference DifferenceNode e (λ a q it. it) done
 
+    -- a product
     pub product-done : nodeAt nodes at ≡ ProductNode → CombinedDone Product nodes g masks rows (at + 1) after r →
         ExpressionDone nodes g masks rows at after r
     product-done e done = operation-done Product ProductNode e (λ a q it. it) done

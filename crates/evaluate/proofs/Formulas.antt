@@ -42,12 +42,14 @@ unspelled-spelled equal = refl
 unspelled-spelled atLeast = refl
 unspelled-spelled greater = refl
 
+-- so the relation that the code found for a comparison's node is the comparison's
 pub relation-is : (x : Compared.Relation) {r : Spelled.Relation} (e : Relation) → relationOf x ≡ unspelled r →
     r ≡ listed.relationOf e → relationOf x ≡ e
 relation-is x e p q = p ∙ ap unspelled q ∙ unspelled-spelled e
 
 module _ {nodes : List Slot} {g : Setting} {masks : List ℕ} {rows : List (List ℕ)} {at : ℕ} {w : List ℕ}
     (ready : FormulaReady nodes g masks rows at w) where
+  -- there is a place for the node
   pub formula-inside : at < 64
   formula-inside = formula-place nodes at (ready .stands)
 
@@ -57,6 +59,7 @@ module _ {nodes : List Slot} {g : Setting} {masks : List ℕ} {rows : List (List
       let p = room-of (g .tuples) (need-some (ready .formula)) (ready .room) in
       omega arith
 
+  -- what a label asks
   pub label-ready : (l i : ℕ) → nodeAt nodes at ≡ Label l i → LabelReady g masks l i w
   label-ready l i e =
       let it = formula-case nodes at (Label l i) e (ready .stands) in
@@ -70,6 +73,7 @@ module _ {nodes : List Slot} {g : Setting} {masks : List ℕ} {rows : List (List
         room = formula-room;
       }
 
+  -- what the formula of a not asks
   pub not-ready : nodeAt nodes at ≡ Not → FormulaReady nodes g masks rows (at + 1) w
   unfolding exceeds need
   not-ready e =
@@ -86,6 +90,7 @@ module _ {nodes : List Slot} {g : Setting} {masks : List ℕ} {rows : List (List
         room = subst (λ (f : Formula). need f * g .tuples ≤ length w) (it .1) (ready .room);
       }
 
+  -- what the formulas of an and ask
   pub and-ready : nodeAt nodes at ≡ And → FormulasReady nodes g masks rows (at + 1) w
   unfolding exceeds need
   and-ready e =
@@ -108,6 +113,7 @@ module _ {nodes : List Slot} {g : Setting} {masks : List ℕ} {rows : List (List
         room = subst (λ (f : Formula). need f * g .tuples ≤ length w) (it .3) (ready .room);
       }
 
+  -- what the expressions of a comparison ask
   pub compare-ready : (r : Spelled.Relation) → nodeAt nodes at ≡ Compare r →
       ExpressionsReady nodes g masks rows (at + 1) w
   unfolding need
@@ -166,6 +172,7 @@ module _ {nodes : List Slot} {g : Setting} {masks : List ℕ} {rows : List (List
     each = λ c f q fixed stands fits. h c f q fixed (formula-case nodes at n e stands) fits;
   }
 
+  -- `true`
   pub true-done : nodeAt nodes at ≡ True → {before after : List ℕ} → Written (g .tuples) (λ k. 1) before after →
       FormulaDone nodes g masks rows at after (at + 1)
   unfolding holds
@@ -176,6 +183,7 @@ module _ {nodes : List Slot} {g : Setting} {masks : List ℕ} {rows : List (List
             (sym (it .0)) (always-layer (tuple-count fixed) written),
       ))
 
+  -- a label
   pub label-done : (l i : ℕ) → nodeAt nodes at ≡ Label l i → {after : List ℕ} → LabelDone g masks l i after →
       FormulaDone nodes g masks rows at after (at + 1)
   unfolding holds
@@ -187,6 +195,7 @@ module _ {nodes : List Slot} {g : Setting} {masks : List ℕ} {rows : List (List
             (to-chain fixed (done .each c (fixed .labels l))),
       ))
 
+  -- not
   pub not-done : nodeAt nodes at ≡ Not → {mid after : List ℕ} {r : ℕ} → FormulaDone nodes g masks rows (at + 1) mid r →
       Written (g .tuples) (negatedAt mid) mid after → FormulaDone nodes g masks rows at after r
   unfolding holds exceeds
@@ -199,6 +208,7 @@ module _ {nodes : List Slot} {g : Setting} {masks : List ℕ} {rows : List (List
             (negated-layer (tuple-count fixed) (λ t. holds (it .0) c n t) (h .1) written),
       ))
 
+  -- and
   pub and-done : nodeAt nodes at ≡ And → {mid after : List ℕ} {r : ℕ} → FormulasDone nodes g masks rows (at + 1) mid r →
       Written (g .tuples) (bothAt (g .tuples) mid) mid after → FormulaDone nodes g masks rows at after r
   unfolding holds exceeds
@@ -215,6 +225,7 @@ module _ {nodes : List Slot} {g : Setting} {masks : List ℕ} {rows : List (List
             written),
       ))
 
+  -- a comparison
   pub compare-done : (r : Spelled.Relation) → nodeAt nodes at ≡ Compare r → {mid after : List ℕ} {two : ValuedTwo} →
       ExpressionsDone nodes g masks rows (at + 1) mid two →
       (x : Compared.Relation) → relationOf x ≡ unspelled r →

@@ -19,29 +19,32 @@ paired-case a b P same other = go (eqb a b) refl
     go true e = same (eqb-true a b e)
     go false e = other (eqb-false a b e)
 
--- it is no smaller than either need
+-- it is no smaller than the first need
 pub paired-first : (a b : ℕ) → a ≤ paired a b
 paired-first a b = paired-case a b (λ x. a ≤ x) (λ e. omega arith) (λ e. omega arith)
 
+-- nor than the second
 pub paired-second : (a b : ℕ) → b ≤ paired a b
 paired-second a b = paired-case a b (λ x. b ≤ x) (λ e. omega arith) (λ e. omega arith)
 
--- and larger than the smaller one
+-- it is larger than the second, where that is the smaller one
 pub paired-smaller : (a b : ℕ) → b ≤ a → b + 1 ≤ paired a b
 paired-smaller a b h = paired-case a b (λ x. b + 1 ≤ x) (λ e. omega arith) (λ e. omega arith)
 
+-- and than the first, where that is
 pub paired-smaller-first : (a b : ℕ) → a < b → a + 1 ≤ paired a b
 paired-smaller-first a b h =
     let p = paired-second a b in
     omega (arith, h)
 
+-- two operands need two layers
 pub paired-two : (a b : ℕ) → 1 ≤ a → 1 ≤ b → 2 ≤ paired a b
 paired-two a b p q = paired-case a b (λ x. 2 ≤ x) (λ e. omega arith) (λ e. omega arith)
 
--- every node needs a layer
 mutual
   unfolding need needIn needFrom
 
+  -- every state formula needs a layer
   pub need-some : (f : Formula) → 1 ≤ need f
   need-some always = omega arith
   need-some (labelled l i) = omega arith
@@ -49,6 +52,7 @@ mutual
   need-some (both f g) = le-trans (need-some f) (paired-first (need f) (need g))
   need-some (compare r a b) = le-trans (needIn-some a) (paired-first (needIn a) (needIn b))
 
+  -- every expression
   pub needIn-some : (a : Expression) → 1 ≤ needIn a
   needIn-some (probability w) = needFrom-some w
   needIn-some (constant a b) = omega arith
@@ -56,6 +60,7 @@ mutual
   needIn-some (difference a b) = le-trans (needIn-some a) (paired-first (needIn a) (needIn b))
   needIn-some (product a b) = le-trans (needIn-some a) (paired-first (needIn a) (needIn b))
 
+  -- every path
   pub needFrom-some : (w : PathFormula) → 1 ≤ needFrom w
   needFrom-some (next f) = need-some f
   needFrom-some (until k1 k2 f g) = omega arith

@@ -43,17 +43,19 @@ two-room {a} {b} T p q room =
 
 module _ {N n T : ℕ} (whole : T ≡ N ^ n) {f h : Tuple → ℕ} {mid lent after : List ℕ} (back : Back T mid lent after)
     (one : Layer N n f mid) (two : Layer N n h lent) where
-  -- the first in the front layer, the second lent the tail
+  -- one is in the front layer, and the other was lent the tail: the front layer stays
   pub front-stays : Layer N n f after
   front-stays = record { at = λ k l. back .low k (omega arith) ∙ one .at k l }
 
+  -- and the second layer holds the other
   pub tail-comes : Layer N n h (drop T after)
   tail-comes = subst (λ (w : List ℕ). Layer N n h w) (sym (back .tail)) two
 
-  -- and then exchanged
+  -- and then they are exchanged: the front layer holds the other
   pub front-crossed : {last : List ℕ} → Swapped T after last → Layer N n h last
   front-crossed s = front-swapped (λ k l. omega arith) s h tail-comes
 
+  -- and the second layer the one
   pub tail-crossed : {last : List ℕ} → Swapped T after last → Layer N n f (drop T last)
   tail-crossed s = next-swapped (λ k l. omega arith) s f front-stays
 
@@ -82,6 +84,7 @@ module _ {Tree : Type 0} (At : ℕ → Tree → ℕ → Type 0) {at : ℕ} {one 
 -- ---- two state formulas
 module _ {nodes : List Slot} {g : Setting} {masks : List ℕ} {rows : List (List ℕ)} {at : ℕ} {w : List ℕ}
     (ready : FormulasReady nodes g masks rows at w) where
+  -- there is a place for the first node
   pub formulas-inside : at < 64
   formulas-inside = formula-place nodes at (ready .stands)
 
@@ -102,6 +105,7 @@ module _ {nodes : List Slot} {g : Setting} {masks : List ℕ} {rows : List (List
     room = room;
   }
 
+  -- the first may be evaluated in all of the work area
   pub first-formula-whole : FormulaReady nodes g masks rows at w
   first-formula-whole = first-formula (room-of (g .tuples) (paired-first (need (ready .first)) (need (ready .second)))
       (ready .room))
@@ -121,17 +125,20 @@ module _ {nodes : List Slot} {g : Setting} {masks : List ℕ} {rows : List (List
       room = room;
     }
 
+    -- so may the second
     pub second-formula-whole : FormulaReady nodes g masks rows (one .next) w
     second-formula-whole = second-formula (room-of (g .tuples)
         (paired-second (need (ready .first)) (need (ready .second))) (ready .room))
 
     module _ {two : Extent} (s′ : Surveyed nodes (one .next) two) (mid : List ℕ) (same : length mid ≡ length w) where
+      -- the second past the front layer, where it needs no more layers
       pub second-formula-past : two .layers ≤ one .layers →
           FormulaReady nodes g masks rows (one .next) (take (length mid - g .tuples) (drop (g .tuples) mid))
       second-formula-past h =
           second-formula (second-past (FormulaAt nodes) need (s .formula) (s′ .formula) (ready .stands) (ready .follows)
           (g .tuples) (ready .room) mid same h)
 
+      -- the first past the front layer, where it needs fewer
       pub first-formula-past : one .layers < two .layers →
           FormulaReady nodes g masks rows at (take (length mid - g .tuples) (drop (g .tuples) mid))
       first-formula-past h =
@@ -141,6 +148,7 @@ module _ {nodes : List Slot} {g : Setting} {masks : List ℕ} {rows : List (List
 module _ {nodes : List Slot} {g : Setting} {masks : List ℕ} {rows : List (List ℕ)} {at : ℕ} {one : Extent}
     (s : Surveyed nodes at one)
     {mid lent after : List ℕ} {r1 r2 : ℕ} (back : Back (g .tuples) mid lent after) where
+  -- both, where the first was evaluated first
   pub formulas-in-order : FormulaDone nodes g masks rows at mid r1 →
       FormulaDone nodes g masks rows (one .next) lent r2 → FormulasDone nodes g masks rows at after r2
   formulas-in-order first second = record {
@@ -150,6 +158,7 @@ module _ {nodes : List Slot} {g : Setting} {masks : List ℕ} {rows : List (List
         (b .0, front-stays (tuple-count fixed) back (a .1) (b .1), tail-comes (tuple-count fixed) back (a .1) (b .1));
   }
 
+  -- both, where the second was evaluated first and the layers then exchanged
   pub formulas-crossed : {last : List ℕ} → FormulaDone nodes g masks rows (one .next) mid r1 →
       FormulaDone nodes g masks rows at lent r2 →
       Swapped (g .tuples) after last → FormulasDone nodes g masks rows at last r1
@@ -166,6 +175,7 @@ module _ {nodes : List Slot} {g : Setting} {masks : List ℕ} {rows : List (List
 -- ---- two expressions
 module _ {nodes : List Slot} {g : Setting} {masks : List ℕ} {rows : List (List ℕ)} {at : ℕ} {w : List ℕ}
     (ready : ExpressionsReady nodes g masks rows at w) where
+  -- there is a place for the first node
   pub expressions-inside : at < 64
   expressions-inside = expression-place nodes at (ready .stands)
 
@@ -187,6 +197,7 @@ module _ {nodes : List Slot} {g : Setting} {masks : List ℕ} {rows : List (List
     room = room;
   }
 
+  -- the first may be evaluated in all of the work area
   pub first-expression-whole : ExpressionReady nodes g masks rows at w
   first-expression-whole = first-expression
       (room-of (g .tuples) (paired-first (needIn (ready .first)) (needIn (ready .second))) (ready .room))
@@ -206,17 +217,20 @@ module _ {nodes : List Slot} {g : Setting} {masks : List ℕ} {rows : List (List
       room = room;
     }
 
+    -- so may the second
     pub second-expression-whole : ExpressionReady nodes g masks rows (one .next) w
     second-expression-whole = second-expression
         (room-of (g .tuples) (paired-second (needIn (ready .first)) (needIn (ready .second))) (ready .room))
 
     module _ {two : Extent} (s′ : Surveyed nodes (one .next) two) (mid : List ℕ) (same : length mid ≡ length w) where
+      -- the second past the front layer, where it needs no more layers
       pub second-expression-past : two .layers ≤ one .layers →
           ExpressionReady nodes g masks rows (one .next) (take (length mid - g .tuples) (drop (g .tuples) mid))
       second-expression-past h =
           second-expression (second-past (ExpressionAt nodes) needIn (s .expression) (s′ .expression) (ready .stands)
           (ready .follows) (g .tuples) (ready .room) mid same h)
 
+      -- the first past the front layer, where it needs fewer
       pub first-expression-past : one .layers < two .layers →
           ExpressionReady nodes g masks rows at (take (length mid - g .tuples) (drop (g .tuples) mid))
       first-expression-past h =
@@ -226,6 +240,7 @@ module _ {nodes : List Slot} {g : Setting} {masks : List ℕ} {rows : List (List
 module _ {nodes : List Slot} {g : Setting} {masks : List ℕ} {rows : List (List ℕ)} {at : ℕ} {one : Extent}
     (s : Surveyed nodes at one)
     {mid lent after : List ℕ} {r1 r2 : Valued} (back : Back (g .tuples) mid lent after) where
+  -- both, where the first was evaluated first
   pub expressions-in-order : ExpressionDone nodes g masks rows at mid r1 →
       ExpressionDone nodes g masks rows (one .next) lent r2 →
       ExpressionsDone nodes g masks rows at after (record { next = r2 .next; first = r1 .bottom; second = r2 .bottom })
@@ -241,6 +256,7 @@ module _ {nodes : List Slot} {g : Setting} {masks : List ℕ} {rows : List (List
         );
   }
 
+  -- both, where the second was evaluated first and the layers then exchanged
   pub expressions-crossed : {last : List ℕ} → ExpressionDone nodes g masks rows (one .next) mid r1 →
       ExpressionDone nodes g masks rows at lent r2 →
       Swapped (g .tuples) after last → ExpressionsDone nodes g masks rows at last

@@ -33,9 +33,11 @@ use Rattle.evaluate.proofs.Fixing.{to-chain, to-setting, tuple-count}
 
 module _ {nodes : List Slot} {g : Setting} {masks : List ℕ} {rows : List (List ℕ)} {at : ℕ} {w : List ℕ}
     (ready : PathReady nodes g masks rows at w) where
+  -- there is a place for the node
   pub path-inside : at < 64
   path-inside = path-place nodes at (ready .stands)
 
+  -- there is room for its own layer
   pub path-room : g .tuples ≤ length w
   path-room =
       let p = room-of (g .tuples) (needFrom-some (ready .path)) (ready .room) in
@@ -48,6 +50,7 @@ module _ {nodes : List Slot} {g : Setting} {masks : List ℕ} {rows : List (List
       (subst (λ (p : PathFormula). denominator p (ready .chain .D) (g .variables) ≤ 2 ^ 62) e (ready .small))
 
   module _ (e : nodeAt nodes at ≡ Next) where
+    -- what the formula of a next asks
     pub next-ready : FormulaReady nodes g masks rows (at + 1) w
     unfolding exceedsFrom needFrom
     next-ready =
@@ -103,6 +106,7 @@ module _ {nodes : List Slot} {g : Setting} {masks : List ℕ} {rows : List (List
         }
 
   module _ (k1 k2 : ℕ) (e : nodeAt nodes at ≡ Until k1 k2) where
+    -- what the formulas of an until ask
     pub until-ready : FormulasReady nodes g masks rows (at + 1) w
     unfolding exceedsFrom needFrom
     until-ready =
@@ -135,9 +139,11 @@ module _ {nodes : List Slot} {g : Setting} {masks : List ℕ} {rows : List (List
         let range = subst (λ (p : PathFormula). RangedFrom (g .variables) p) (it .3) (ready .ranged) in
         (range .0, range .1)
 
+    -- n × k2, the number of the denominator's factors, is at most 240
     pub until-times : g .variables * k2 ≤ 240
     until-times = mul-le-mul (ready .few) (window .1)
 
+    -- the denominator's factors
     pub until-scales : (1 ≤ g .d) × (1 * g .d ^ (g .variables * k2) ≤ 2 ^ 62)
     unfolding denominator
     until-scales =
@@ -191,6 +197,7 @@ module _ {nodes : List Slot} {g : Setting} {masks : List ℕ} {rows : List (List
       PathDone nodes g masks rows at after r
   path-done n e h = record { each = λ c p q fixed stands fits. h c p q fixed (path-case nodes at n e stands) fits }
 
+  -- next
   pub next-done : nodeAt nodes at ≡ Next → {mid after : List ℕ} {r b : ℕ} →
       FormulaDone nodes g masks rows (at + 1) mid r →
       Stepped rows (g .states) (g .variables) (g .tuples) mid after → b ≡ 1 * g .d ^ g .variables →
@@ -208,6 +215,7 @@ module _ {nodes : List Slot} {g : Setting} {masks : List ℕ} {rows : List (List
             (to-chain fixed (next-layer (fixed .held) (it .0) (to-setting fixed (h .1)) stepped)),
       ))
 
+  -- until
   pub until-done : (k1 k2 : ℕ) → nodeAt nodes at ≡ Until k1 k2 → {mid after : List ℕ} {r b : ℕ} →
       FormulasDone nodes g masks rows (at + 1) mid r →
       UntilTaken rows (g .states) (g .variables) (g .tuples) (g .d) k1 k2 mid after →

@@ -168,6 +168,7 @@ surveyed-until slots at t r room s e k k1 k2 n = by-node slots at r (Until k1 k2
 
 -- ---- by what the node wants
 module _ (slots : List Slot) (at : ℕ) (r : Extent) (room : at < 64) where
+  -- a node that wants nothing
   pub surveyed-none : r .next ≡ at + 1 → r .layers ≡ 1 → wantsOf (nodeAt slots at) ≡ Nothing → Surveyed slots at r
   surveyed-none e k w = by (nodeAt slots at) refl (ap operandCount w)
     where
@@ -185,6 +186,7 @@ module _ (slots : List Slot) (at : ℕ) (r : Extent) (room : at < 64) where
       by Next n h = absurd (omega arith)
       by (Until k1 k2) n h = absurd (omega arith)
 
+  -- a node that wants one thing
   pub surveyed-one : {k : Kind} → Surveyed slots (at + 1) r → wantsOf (nodeAt slots at) ≡ One k → Surveyed slots at r
   surveyed-one s w = by (nodeAt slots at) refl (ap operandCount w)
     where
@@ -202,6 +204,7 @@ module _ (slots : List Slot) (at : ℕ) (r : Extent) (room : at < 64) where
       by Next n h = surveyed-next slots at r room s n
       by (Until k1 k2) n h = absurd (omega arith)
 
+  -- a node that wants two
   pub surveyed-both : {k : Kind} {t : Extent} → SurveyedTwo slots (at + 1) t → r .next ≡ t .next →
       r .layers ≡ layersOfTwo (nodeAt slots at) (t .layers) → wantsOf (nodeAt slots at) ≡ Two k → Surveyed slots at r
   surveyed-both {t = t} s e l w = by (nodeAt slots at) refl (ap operandCount w) l

@@ -19,6 +19,7 @@ pub record Swapping (T : ℕ) (before : List ℕ) (i : ℕ) (after : List ℕ) :
   pub ahead : (j : ℕ) → i ≤ j → j < T → getD after j 0 ≡ getD before j 0
   pub beyond : (j : ℕ) → i ≤ j → getD after (T + j) 0 ≡ getD before (T + j) 0
 
+-- before the first turn
 pub swapping-none : {T : ℕ} {before : List ℕ} → Swapping T before 0 before
 swapping-none = record {
   upTo = omega arith;
@@ -55,6 +56,7 @@ module _ {T : ℕ} {before after : List ℕ} {i : ℕ} (h : Swapping T before i 
       getD-set-same (set after i (getD after (T + i) 0)) (T + i) (getD after i 0) 0 (omega arith) ∙
       h .ahead i (omega arith) less
 
+  -- one pair more
   pub swapping-next : Swapping T before (i + 1) (set (set after i (getD after (T + i) 0)) (T + i) (getD after i 0))
   unfolding now
   swapping-next = record {
@@ -79,6 +81,7 @@ module _ {T : ℕ} {before after : List ℕ} {i : ℕ} (h : Swapping T before i 
           let e : i ≡ j = omega arith in
           subst (λ (j : ℕ). getD now (T + j) 0 ≡ getD before j 0) e there
 
+-- after the last turn the layers have changed places
 pub swapping-all : {T i : ℕ} {before after : List ℕ} → Swapping T before i after → T ≤ i → Swapped T before after
 swapping-all h done = record {
   long = h .long;
@@ -89,8 +92,10 @@ swapping-all h done = record {
 
 -- what the layers hold has changed places with them
 module _ {N n T : ℕ} {before after : List ℕ} (few : (k : ℕ) → k < N ^ n → k < T) (s : Swapped T before after) where
+  -- what the second layer held is in the front one
   pub front-swapped : (f : Tuple → ℕ) → Layer N n f (drop T before) → Layer N n f after
   front-swapped f h = record { at = λ k l. s .first k (few k l) ∙ sym (getD-drop T before k 0) ∙ h .at k l }
 
+  -- what the front layer held is in the second
   pub next-swapped : (f : Tuple → ℕ) → Layer N n f before → Layer N n f (drop T after)
   next-swapped f h = record { at = λ k l. getD-drop T after k 0 ∙ s .second k (few k l) ∙ h .at k l }

@@ -22,7 +22,7 @@ use Rattle.evaluate.specs.declared.Setting.{Setting}
 use Rattle.evaluate.specs.declared.Valued.{Valued}
 use Rattle.evaluate.specs.declared.ValuedTwo.{ValuedTwo}
 
--- the first two layers have changed places, and no other number has changed
+-- the first two layers have changed places
 pub record Swapped (T : ℕ) (before after : List ℕ) : Type 0 where
   pub long : length after ≡ length before
   pub first : (k : ℕ) → k < T → getD after k 0 ≡ getD before (T + k) 0
@@ -38,6 +38,7 @@ pub record Fixed (c : Chain) (masks : List ℕ) (rows : List (List ℕ)) (g : Se
 
 -- ---- a label
 
+-- the label letter and the variable are in their ranges, and there is room for a layer
 pub record LabelReady (g : Setting) (masks : List ℕ) (l variable : ℕ) (w : List ℕ) : Type 0 where
   pub letter : l < 16
   pub some : 1 ≤ variable
@@ -46,13 +47,16 @@ pub record LabelReady (g : Setting) (masks : List ℕ) (l variable : ℕ) (w : L
   pub sizes : Sizes (g .states) (g .variables) (g .tuples)
   pub room : g .tuples ≤ length w
 
+-- the front layer holds the truth of the label, on whatever chain has the masks' labels
 pub record LabelDone (g : Setting) (masks : List ℕ) (l variable : ℕ) (after : List ℕ) : Type 0 where
   pub each : (c : Chain) → ((s : ℕ) → s < g .states → c .label l s ≡ eqb (bitAt masks l s) 1) →
       Layer (g .states) (g .variables) (truth (hasLabel c l variable)) after
 
+-- ---- a node
+
 module _ (nodes : List Slot) (g : Setting) (masks : List ℕ) (rows : List (List ℕ)) where
-  -- a tree of each kind stands at the place; its numbers are in their ranges, the size rule does not refuse it, and
-  -- there is room for the layers that it needs
+  -- a state formula stands at the place; its numbers are in their ranges, the size rule does not refuse it, and there is
+  -- room for the layers that it needs
   pub record FormulaReady (at : ℕ) (w : List ℕ) : Type 0 where
     pub chain : Chain
     pub fixed : Fixed chain masks rows g
@@ -64,6 +68,7 @@ module _ (nodes : List Slot) (g : Setting) (masks : List ℕ) (rows : List (List
     pub fits : exceeds formula (chain .D) (g .variables) ≡ false
     pub room : need formula * g .tuples ≤ length w
 
+  -- an expression stands there, likewise
   pub record ExpressionReady (at : ℕ) (w : List ℕ) : Type 0 where
     pub chain : Chain
     pub fixed : Fixed chain masks rows g
@@ -75,6 +80,7 @@ module _ (nodes : List Slot) (g : Setting) (masks : List ℕ) (rows : List (List
     pub fits : exceedsIn expression (chain .D) (g .variables) ≡ false
     pub room : needIn expression * g .tuples ≤ length w
 
+  -- a path stands there, likewise, and its denominator is at most 2^62
   pub record PathReady (at : ℕ) (w : List ℕ) : Type 0 where
     pub chain : Chain
     pub fixed : Fixed chain masks rows g
@@ -87,7 +93,7 @@ module _ (nodes : List Slot) (g : Setting) (masks : List ℕ) (rows : List (List
     pub small : denominator path (chain .D) (g .variables) ≤ 2 ^ 62
     pub room : needFrom path * g .tuples ≤ length w
 
-  -- two of a kind, one after another
+  -- two state formulas, one after another
   pub record FormulasReady (at : ℕ) (w : List ℕ) : Type 0 where
     pub chain : Chain
     pub fixed : Fixed chain masks rows g
@@ -103,6 +109,7 @@ module _ (nodes : List Slot) (g : Setting) (masks : List ℕ) (rows : List (List
     pub fits′ : exceeds second (chain .D) (g .variables) ≡ false
     pub room : paired (need first) (need second) * g .tuples ≤ length w
 
+  -- two expressions, one after another
   pub record ExpressionsReady (at : ℕ) (w : List ℕ) : Type 0 where
     pub chain : Chain
     pub fixed : Fixed chain masks rows g
@@ -118,24 +125,28 @@ module _ (nodes : List Slot) (g : Setting) (masks : List ℕ) (rows : List (List
     pub fits′ : exceedsIn second (chain .D) (g .variables) ≡ false
     pub room : paired (needIn first) (needIn second) * g .tuples ≤ length w
 
-  -- what is left, of whatever tree stands there and of whatever chain is held
+  -- Of whatever tree stands there and of whatever chain is held. A state formula: the place after it, and its truth in the
+  -- front layer
   pub record FormulaDone (at : ℕ) (after : List ℕ) (r : ℕ) : Type 0 where
     pub each : (c : Chain) (f : Formula) (q : ℕ) → Fixed c masks rows g → FormulaAt nodes at f q →
         exceeds f (c .D) (g .variables) ≡ false →
         (r ≡ q) × Layer (c .N) (g .variables) (truth (λ t. holds f c (g .variables) t)) after
 
+  -- an expression: the place after it, its denominator, and its numerators in the front layer
   pub record ExpressionDone (at : ℕ) (after : List ℕ) (r : Valued) : Type 0 where
     pub each : (c : Chain) (a : Expression) (q : ℕ) → Fixed c masks rows g → ExpressionAt nodes at a q →
         exceedsIn a (c .D) (g .variables) ≡ false →
         (r .next ≡ q) × (r .bottom ≡ size a (c .D) (g .variables) .d) ×
         Layer (c .N) (g .variables) (numerators a c (g .variables)) after
 
+  -- a path, likewise
   pub record PathDone (at : ℕ) (after : List ℕ) (r : Valued) : Type 0 where
     pub each : (c : Chain) (w : PathFormula) (q : ℕ) → Fixed c masks rows g → PathAt nodes at w q →
         exceedsFrom w (c .D) (g .variables) ≡ false →
         (r .next ≡ q) × (r .bottom ≡ denominator w (c .D) (g .variables)) ×
         Layer (c .N) (g .variables) (numerator w c (g .variables)) after
 
+  -- two state formulas: the place after both, and their truths in the first two layers
   pub record FormulasDone (at : ℕ) (after : List ℕ) (r : ℕ) : Type 0 where
     pub each : (c : Chain) (f h : Formula) (m q : ℕ) → Fixed c masks rows g → FormulaAt nodes at f m →
         FormulaAt nodes m h q →
@@ -143,6 +154,7 @@ module _ (nodes : List Slot) (g : Setting) (masks : List ℕ) (rows : List (List
         (r ≡ q) × Layer (c .N) (g .variables) (truth (λ t. holds f c (g .variables) t)) after ×
         Layer (c .N) (g .variables) (truth (λ t. holds h c (g .variables) t)) (drop (g .tuples) after)
 
+  -- two expressions: the place after both, their denominators, and their numerators in the first two layers
   pub record ExpressionsDone (at : ℕ) (after : List ℕ) (r : ValuedTwo) : Type 0 where
     pub each : (c : Chain) (a b : Expression) (m q : ℕ) → Fixed c masks rows g → ExpressionAt nodes at a m →
         ExpressionAt nodes m b q →
@@ -151,12 +163,15 @@ module _ (nodes : List Slot) (g : Setting) (masks : List ℕ) (rows : List (List
         Layer (c .N) (g .variables) (numerators a c (g .variables)) after ×
         Layer (c .N) (g .variables) (numerators b c (g .variables)) (drop (g .tuples) after)
 
--- two expressions and what an operation makes of them
+-- ---- two expressions and what an operation makes of them
+
 module _ (op : Operation) (nodes : List Slot) (g : Setting) (masks : List ℕ) (rows : List (List ℕ)) where
+  -- they stand one after another, and the size rule does not refuse what is made of them
   pub record CombinedReady (at : ℕ) (w : List ℕ) : Type 0 where
     pub two : ExpressionsReady nodes g masks rows at w
     pub fits : exceedsIn (expressionOf op (two .first) (two .second)) (two .chain .D) (g .variables) ≡ false
 
+  -- the place after both, the denominator of what is made of them, and its numerators in the front layer
   pub record CombinedDone (at : ℕ) (after : List ℕ) (r : Valued) : Type 0 where
     pub each : (c : Chain) (a b : Expression) (m q : ℕ) → Fixed c masks rows g → ExpressionAt nodes at a m →
         ExpressionAt nodes m b q →

@@ -35,6 +35,7 @@ pub record ColumnStepping (rows : List (List ℕ)) (N stride at : ℕ) (before :
   pub same : (k : ℕ) → ((t : ℕ) → t < s → k ≡ at + t * stride → ⊥) → getD after k 0 ≡ getD before k 0
 
 module _ {rows : List (List ℕ)} {N stride at : ℕ} {before : List ℕ} where
+  -- before the first turn
   pub column-none : ColumnStepping rows N stride at before 0 before
   column-none = record {
     upTo = omega arith;
@@ -69,6 +70,7 @@ module _ {rows : List (List ℕ)} {N stride at : ℕ} {before : List ℕ} where
           (λ (x : ℕ). getD (set after (at + s * stride) v) (at + x * stride) 0 ≡ stepped rows N stride before at x) p
           (getD-set-same after (at + s * stride) v 0 room ∙ e)
 
+  -- one state more
   pub column-next : {s place v : ℕ} {after : List ℕ} → ColumnFits rows N stride at before →
       ColumnStepping rows N stride at before s after → s < N → place ≡ at + s * stride →
       v ≡ stepped rows N stride before at s → ColumnStepping rows N stride at before (s + 1) (set after place v)
@@ -76,6 +78,7 @@ module _ {rows : List (List ℕ)} {N stride at : ℕ} {before : List ℕ} where
       subst (λ (x : ℕ). ColumnStepping rows N stride at before (s + 1) (set after x v)) (sym there)
       (column-next-at fits h less e)
 
+  -- after the last turn the column has been stepped
   pub column-all : {s : ℕ} {after : List ℕ} → ColumnStepping rows N stride at before s after → N ≤ s →
       ColumnStepped rows N stride at before after
   column-all h done = record {
@@ -86,10 +89,11 @@ module _ {rows : List (List ℕ)} {N stride at : ℕ} {before : List ℕ} where
 
 -- ---- the columns of a layer
 
--- the number of the column in which place k stands, and where column j starts
+-- the number of the column in which place k stands
 abbrev pub columnOf : (N stride k : ℕ) → ℕ
 columnOf N stride k = k / stride / N * stride + k % stride
 
+-- where column j starts
 abbrev pub startOf : (N stride j : ℕ) → ℕ
 startOf N stride j = j / stride * (stride * N) + j % stride
 
@@ -103,6 +107,7 @@ module _ (N stride : ℕ) (some : 1 ≤ N) (apart : 1 ≤ stride) where
       ap (λ (x : ℕ). x * stride) (sym q) in
       omega arith
 
+  -- the two starts of a column are one
   pub start-column : (k : ℕ) → startOf N stride (columnOf N stride k) ≡ start N stride k
   start-column k =
       ap₂ (λ (x y : ℕ). x * (stride * N) + y)
@@ -119,18 +124,21 @@ module _ (N stride : ℕ) (some : 1 ≤ N) (apart : 1 ≤ stride) where
     place-mod : (startOf N stride j + s * stride) % stride ≡ j % stride
     place-mod = ap (λ (x : ℕ). x % stride) place ∙ digits-mod (j / stride * N + s) (mod-lt j apart)
 
+    -- it stands in column j
     pub place-column : columnOf N stride (startOf N stride j + s * stride) ≡ j
     place-column =
         ap₂ (λ (x y : ℕ). x / N * stride + y) place-div place-mod ∙
         ap (λ (x : ℕ). x * stride + j % stride) (digits-div (j / stride) less) ∙
         div-add-mod' j stride
 
+    -- it lies in the layer where the column does
     pub place-below : (above : ℕ) → j < above * stride → startOf N stride j + s * stride < above * N * stride
     place-below above l =
         let q : j / stride < above = div-lt-iff-lt-mul apart .1 l in
         let r = digits-lt (digits-lt q less) (mod-lt j apart) in
         omega arith
 
+  -- a place of the layer stands in one of its columns
   pub column-below : (above k : ℕ) → k < above * N * stride → columnOf N stride k < above * stride
   column-below above k l =
       let p : k / stride < above * N = div-lt-iff-lt-mul apart .1 l in
@@ -160,14 +168,17 @@ module _ {N stride : ℕ} (some : 1 ≤ N) (apart : 1 ≤ stride) where
         passed = sym (p .1) ∙ ap (λ (x : ℕ). x % stride) (sym e);
       }
 
+  -- the same from equal numbers
   pub counted-as : {j at within at′ within′ : ℕ} → Counted N stride j at within → at′ ≡ at → within′ ≡ within →
       Counted N stride j at′ within′
   counted-as h e f = record { begins = e ∙ h .begins; passed = f ∙ h .passed }
 
+  -- column 0 starts at place 0
   pub counted-none : Counted N stride 0 0 0
   counted-none = counted-at 0 0 apart (omega arith) (omega arith)
 
   module _ {j at within : ℕ} (h : Counted N stride j at within) where
+    -- the next column of the same row of columns starts one place on
     pub counted-more : (within + 1 ≡ stride → ⊥) → Counted N stride (j + 1) (at + 1) (within + 1)
     counted-more more =
         let p = div-add-mod' j stride in
@@ -176,6 +187,7 @@ module _ {N stride : ℕ} (some : 1 ≤ N) (apart : 1 ≤ stride) where
         let begins = h .begins in
         counted-at (j / stride) (within + 1) (omega arith) (omega arith) (omega arith)
 
+    -- past the last column of a row the next starts where the next row does
     pub counted-row : within + 1 ≡ stride → Counted N stride (j + 1) (at + 1 + (stride * N - stride)) 0
     counted-row last =
         let p = div-add-mod' j stride in
@@ -194,6 +206,7 @@ pub record LayerStepping (rows : List (List ℕ)) (N stride T : ℕ) (before : L
   pub past : (k : ℕ) → T ≤ k → getD after k 0 ≡ getD before k 0
 
 module _ {rows : List (List ℕ)} {N stride T : ℕ} {before : List ℕ} where
+  -- before the first turn
   pub layer-none : LayerStepping rows N stride T before 0 before
   layer-none = record {
     long = refl;
@@ -275,6 +288,7 @@ module _ {rows : List (List ℕ)} {N stride T : ℕ} {before : List ℕ} where
               sum-same N (λ t m. ap (λ (x : ℕ). weightIn rows s t * x) (fresh t m)) ∙
               ap (λ (x : ℕ). stepped rows N stride before x s) (sym begins)
 
+  -- after the last turn every column has been stepped
   pub layer-all : {j : ℕ} {after : List ℕ} → (fits : LayerFits rows N stride T before) →
       LayerStepping rows N stride T before j after → fits .above * stride ≤ j →
       LayerStepped rows N stride T before after

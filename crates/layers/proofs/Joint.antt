@@ -38,9 +38,10 @@ place-in N stride above k t some apart l m =
     let p = place-below N stride some apart (columnOf N stride k) t m above c in
     omega arith
 
--- a layer in which one variable has been stepped
+-- ---- a layer in which one variable has been stepped
 module _ {rows : List (List ℕ)} {N T : ℕ} {before after : List ℕ} (n i : ℕ) (some : 1 ≤ N) (whole : T ≡ N ^ n)
     (less : i < n) (h : LayerStepped rows N (N ^ (n - suc i)) T before after) where
+  -- the layer of any function is that of the function stepped by the variable
   pub one-layer : (c : Chain) → Holds c rows N → (f : Tuple → ℕ) → Layer N n f before → Layer N n (stepOne c i f) after
   one-layer c held f layer = record { at = here }
     where
@@ -97,6 +98,7 @@ pub record Stepping (rows : List (List ℕ)) (N n T : ℕ) (before : List ℕ) (
   pub kept : Kept T before after
 
 module _ {rows : List (List ℕ)} {N n T : ℕ} {before : List ℕ} where
+  -- before the first turn
   pub stepping-none : Stepping rows N n T before 0 1 before
   unfolding stepFrom
   stepping-none = record {
@@ -144,6 +146,7 @@ module _ {rows : List (List ℕ)} {N n T : ℕ} {before : List ℕ} where
         let e : stride * N ≡ N ^ suc m = ap (λ (x : ℕ). x * N) (h .strided) ∙ sym (pow-suc N m) in
         omega (arith, fits .sizes .whole, pow-le-pow-right (fits .sizes .some) {i = suc m} {j = n} less)
 
+    -- one variable more
     pub stepping-next : {now : List ℕ} → LayerStepped rows N stride T after now →
         Stepping rows N n T before (m + 1) (stride * N) now
     unfolding stepFrom
@@ -172,6 +175,7 @@ module _ {rows : List (List ℕ)} {N n T : ℕ} {before : List ℕ} where
         placed : LayerStepped rows N (N ^ (n - suc (n - suc m))) T after now
         placed = subst (λ (x : ℕ). LayerStepped rows N x T after now) at-stride one
 
+  -- after the last turn the joint step has been made
   pub stepping-all : {m stride : ℕ} {after : List ℕ} → Sizes N n T → Stepping rows N n T before m stride after → n ≤ m →
       Stepped rows N n T before after
   stepping-all {m} sizes h done = record {

@@ -19,12 +19,14 @@ two-more i f =
     let e : sum (i + 2) f ≡ sum (i + 1 + 1) f = ap (λ (x : ℕ). sum x f) (omega arith) in
     omega arith
 
+-- a sum of two terms
 pub two-first : (f : ℕ → ℕ) → sum 2 f ≡ f 0 + f (0 + 1)
 two-first f =
     let p = two-more 0 f in
     let q = sum-none f in
     omega arith
 
+-- a sum with the next two terms is at most the whole
 pub two-le : (n i : ℕ) (f : ℕ → ℕ) → i + 1 < n → sum i f + (f i + f (i + 1)) ≤ sum n f
 two-le n i f less =
     let p = sum-more i f in
@@ -99,6 +101,7 @@ module _ {row : List ℕ} {t count : ℕ} {places : List ℕ} (h : Naming row t 
               let q = ap (λ (x : ℕ). getD (set places count v) x 0) p in
               omega (arith, here)
 
+  -- where at most seven weights are not 0, a sum over the places is one over the row
   pub naming-named : count ≤ 7 → Named row t count places
   naming-named few = record {
     inside = h .inside;

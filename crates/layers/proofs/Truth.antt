@@ -32,9 +32,11 @@ module _ {N n T : ℕ} (whole : T ≡ N ^ n) {before after : List ℕ} where
       ((k : ℕ) → k < N ^ n → f k ≡ g (tupleOf N n k)) → Layer N n g after
   written-layer h same = record { at = λ k l. h .each k (omega arith) ∙ same k l }
 
+  -- ones are the truth of `true`
   pub always-layer : Written T (λ k. 1) before after → Layer N n (truth (λ s. true)) after
   always-layer h = written-layer h (λ k l. refl)
 
+  -- bits of the masks are the truth of a label
   pub labelled-layer : (c : Chain) (masks : List ℕ) (l i stride : ℕ) → 0 < N → i < n → stride ≡ N ^ (n - suc i) →
       ((s : ℕ) → s < N → c .label l s ≡ eqb (bitAt masks l s) 1) →
       Written T (λ k. bitAt masks l (k / stride % N)) before after → Layer N n (truth (hasLabel c l (suc i))) after
@@ -52,6 +54,7 @@ module _ {N n T : ℕ} (whole : T ≡ N ^ n) {before after : List ℕ} where
           (sym (labels s (mod-lt (k / stride) some)) ∙ ap (λ (x : ℕ). c .label l x) state ∙
           sym (hasLabel-at c l i (tupleOf N n k) inside))
 
+  -- not
   pub negated-layer : (p : Tuple → Bool) → Layer N n (truth p) before →
       Written T (negatedAt before) before after → Layer N n (truth (λ s. not (p s))) after
   negated-layer p h w = written-layer w
@@ -61,6 +64,7 @@ module _ {N n T : ℕ} (whole : T ≡ N ^ n) {before after : List ℕ} where
       turned true = refl
       turned false = refl
 
+  -- and
   pub both-layer : (p q : Tuple → Bool) → Layer N n (truth p) before → Layer N n (truth q) (drop T before) →
       Written T (bothAt T before) before after →
       Layer N n (truth (λ s. p s && q s)) after

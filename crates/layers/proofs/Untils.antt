@@ -136,10 +136,11 @@ module _ {rows : List (List ℕ)} {N n T d k1 k2 : ℕ} {before : List ℕ} (fit
 
   module _ {all left : ℕ} {after : List ℕ} (h : Untiling rows N n T d k1 k2 before all left after)
       (less : left < k2) where
-    -- the next denominator is at most 2^62
+    -- the next denominator
     pub next-power : all * d ^ n ≡ d ^ (n * suc left)
     next-power = ap (λ (x : ℕ). x * d ^ n) (h .power) ∙ power-more d n left
 
+    -- and it is at most 2^62
     pub power-fits : d ^ (n * suc left) ≤ 2 ^ 62
     power-fits =
         le-trans (pow-le-pow-right (fits .weighed) {i = n * suc left} {j = n * k2} (mul-le-mul-left n less))
@@ -164,6 +165,7 @@ module _ {rows : List (List ℕ)} {N n T d k1 k2 : ℕ} {before : List ℕ} (fit
       };
     }
 
+    -- one turn more
     pub untiling-next : {more : ℕ} {now : List ℕ} → more ≡ all * d ^ n →
         Turned rows N n T (leb k1 (k2 - (left + 1))) more after now →
         Untiling rows N n T d k1 k2 before more (left + 1) now
@@ -224,6 +226,7 @@ module _ {rows : List (List ℕ)} {N n T d k1 k2 : ℕ} {before : List ℕ} (fit
             (choice-le (leb k1 (k2 - (left + 1))) more (getD after k 0) (getD after (T + k) 0)
             (step c n f (tupleOf N n k)) (d ^ (n * (left + 1))) (le-of-eq power) (omega arith))
 
+  -- after the last turn the third layer, copied to the front, is the numerator
   pub untiling-all : {all left : ℕ} {after now : List ℕ} → Untiling rows N n T d k1 k2 before all left after →
       k2 ≤ left →
       WrittenAt 0 T (λ k. getD after (T + T + k) 0) after now → UntilTaken rows N n T d k1 k2 before now
@@ -247,6 +250,7 @@ module _ {rows : List (List ℕ)} {N n T d k1 k2 : ℕ} {before : List ℕ} (fit
 -- the copy that comes first: all that the until asks and says of the list before it holds of the list after it
 module _ {rows : List (List ℕ)} {N n T d k1 k2 : ℕ} {entry before : List ℕ} (fits : UntilFits rows N n T d k1 k2 entry)
     (copied : WrittenAt (T + T) T (λ k. getD entry (T + k) 0) entry before) where
+  -- what the until asks
   pub copied-fits : UntilFits rows N n T d k1 k2 before
   copied-fits = record {
     chain = fits .chain;
@@ -260,9 +264,11 @@ module _ {rows : List (List ℕ)} {N n T d k1 k2 : ℕ} {entry before : List ℕ
     fits = fits .fits;
   }
 
+  -- the third layer is the second
   pub copied-same : (k : ℕ) → k < T → getD before (T + T + k) 0 ≡ getD before (T + k) 0
   copied-same k l = copied .each k l ∙ sym (copied .low (T + k) (omega arith))
 
+  -- what the until says
   pub copied-taken : {after : List ℕ} → UntilTaken rows N n T d k1 k2 before after →
       UntilTaken rows N n T d k1 k2 entry after
   copied-taken h = record {

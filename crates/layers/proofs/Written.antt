@@ -40,6 +40,7 @@ pub record Writing (base count : ℕ) (f : ℕ → ℕ) (before : List ℕ) (i :
   pub high : (k : ℕ) → base + i ≤ k → getD after k 0 ≡ getD before k 0
 
 module _ {base count : ℕ} {f : ℕ → ℕ} {before : List ℕ} where
+  -- before the first turn
   pub writing-none : base + count ≤ length before → Writing base count f before 0 before
   writing-none room = record {
     upTo = omega arith;
@@ -50,6 +51,7 @@ module _ {base count : ℕ} {f : ℕ → ℕ} {before : List ℕ} where
     high = λ k l. refl;
   }
 
+  -- one number more
   pub writing-next : {i at v : ℕ} {after : List ℕ} → Writing base count f before i after → i < count → at ≡ base + i →
       v ≡ f i → Writing base count f before (i + 1) (set after at v)
   writing-next {i} {at} {v} {after} h less place e = record {
@@ -69,6 +71,7 @@ module _ {base count : ℕ} {f : ℕ → ℕ} {before : List ℕ} where
           let room : at < length after = omega (arith, h .long, h .room) in
           subst (λ (x : ℕ). getD (set after at v) x 0 ≡ f k) q (getD-set-same after at v 0 room ∙ e ∙ ap f p)
 
+  -- after the last turn all are written
   pub writing-at-all : {i : ℕ} {after : List ℕ} → Writing base count f before i after → count ≤ i →
       WrittenAt base count f before after
   writing-at-all {i} h done = record {

@@ -87,6 +87,7 @@ own-size (difference a b) D n e =
     or-right (exceedsIn a D n || exceedsIn b D n) (largeSize (size (difference a b) D n)) e
 own-size (product a b) D n e = or-right (exceedsIn a D n || exceedsIn b D n) (largeSize (size (product a b) D n)) e
 
+-- so d and m are at most 2^62
 pub size-fits : (a : Expression) (D n : ℕ) → exceedsIn a D n ≡ false →
     (size a D n .d ≤ 2 ^ 62) × (size a D n .m ≤ 2 ^ 62)
 unfolding largeSize
@@ -100,11 +101,12 @@ cross-fits r a b D n e =
     two-fit (size a D n .m * size b D n .d) (size b D n .m * size a D n .d)
     (or-right (exceedsIn a D n || exceedsIn b D n) (largeCross (size a D n) (size b D n)) e)
 
--- so no expression's numerator and no comparison's cross product is above 2^62 in size
+-- so the numerator of an expression that the rule does not refuse is at most 2^62 in size
 pub top-fits : (a : Expression) (c : Chain) → Sound c → (n : ℕ) → exceedsIn a (c .D) n ≡ false →
     {s : Tuple} → Inside (c .N) n s → natAbs (value a c n s .top) ≤ 2 ^ 62
 top-fits a c sound n e i = le-trans (value-within a c sound n i .top) (size-fits a (c .D) n e .1)
 
+-- so a comparison that the rule does not refuse is decided by cross products of at most 2^62 in size
 pub cross-products-fit : (r : Relation) (a b : Expression) (c : Chain) → Sound c → (n : ℕ) →
     exceeds (compare r a b) (c .D) n ≡ false → {s : Tuple} → Inside (c .N) n s →
     (natAbs (value a c n s .top *ℤ pos (value b c n s .bottom)) ≤ 2 ^ 62) ×

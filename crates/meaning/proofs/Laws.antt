@@ -30,15 +30,17 @@ truth : (b : Bool) → (b ≡ true) ↔ T b
 truth true = (λ e. tt, λ t. refl)
 truth false = (λ e. absurd (false≢true e), λ t. absurd t)
 
--- the relations mean the order of whole numbers: `<` and `L`; `G` and `>` are `L` and `<` with the sides exchanged
+-- the relations mean the order of whole numbers: `<` is less
 pub less-means : (a b : ℤ) → (related less a b ≡ true) ↔ (a <ℤ b)
 unfolding related
 less-means a b = (λ e. ltZ-yes (truth (ltZ a b) .0 e), λ h. truth (ltZ a b) .1 (h .lt))
 
+-- `L` is at most
 pub atMost-means : (a b : ℤ) → (related atMost a b ≡ true) ↔ (a ≤ℤ b)
 unfolding related
 atMost-means a b = (λ e. leZ-yes (truth (leZ a b) .0 e), λ h. truth (leZ a b) .1 (h .le))
 
+-- `G` and `>` are `L` and `<` with the sides exchanged
 pub exchanged : (a b : ℤ) → (related atLeast a b ≡ related atMost b a) × (related greater a b ≡ related less b a)
 unfolding related
 exchanged a b = (refl, refl)

@@ -51,6 +51,7 @@ leZ-both (pos a) (negsuc b) p q = absurd (false≢true p)
 leZ-both (negsuc a) (pos b) p q = absurd (false≢true q)
 leZ-both (negsuc a) (negsuc b) p q = ap negsuc (le-antisymm (leb-true a b q) (leb-true b a p))
 
+-- each number is at most itself
 pub leZ-self : (a : ℤ) → leZ a a ≡ true
 leZ-self (pos a) = le-leb a a (le-refl a)
 leZ-self (negsuc a) = le-leb a a (le-refl a)

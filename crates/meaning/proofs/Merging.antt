@@ -27,7 +27,7 @@ use Rattle.meaning.proofs.Tests.{same-answer, every-means, thereIs-foun
 use Rattle.meaning.proofs.Steps.{step, step-same, step-none, step-first, next-step}
 use Rattle.meaning.proofs.Until.{table, until-table}
 
--- of the terms for the numbers below M only that for g counts: nothing where g is none of them, else that term
+-- of the terms for the numbers below M only that for g counts: nothing where g is none of them
 pick-none : (f : ℕ → ℕ) (g M : ℕ) → M ≤ g → total (λ h. cond (eqb g h) (f h) 0) (below M) ≡ 0
 pick-none f g M l =
     total-same _ (λ h. 0) (below M)
@@ -36,6 +36,7 @@ pick-none f g M l =
     ap (λ b. cond b (f h) 0) (ne-eqb g h (λ e. omega arith))) ∙
     total-zero (below M)
 
+-- else that term
 pub pick : (f : ℕ → ℕ) (g M : ℕ) → g < M → total (λ h. cond (eqb g h) (f h) 0) (below M) ≡ f g
 pick f g zero l = absurd (not-suc-le-zero l)
 pick f g (suc M) l = total-below (λ h. cond (eqb g h) (f h) 0) M ∙ last (ℕ-discrete g M) (pick f g M)

@@ -50,7 +50,7 @@ module _ (N : ℕ) where
           omega arith
       split (suc x) e = omega arith
 
-  -- the tuple with a number below T is inside, and has that number
+  -- the tuple with a number below T is inside
   pub tuple-inside : (n k : ℕ) → k < N ^ n → Inside N n (tupleOf N n k)
   unfolding tupleOf
   tuple-inside zero k h = nothing
@@ -60,6 +60,7 @@ module _ (N : ℕ) where
       let l : k < N * N ^ n = omega arith in
       further (div-lt-iff-lt-mul p .1 l) (tuple-inside n (k % N ^ n) (mod-lt k p))
 
+  -- and has that number
   pub number-tuple : (n k : ℕ) → k < N ^ n → numberOf N (tupleOf N n k) ≡ k
   unfolding tupleOf numberOf
   number-tuple zero k h =

@@ -55,7 +55,7 @@ module _ {A : Type 0} where
       (distinct-append d e (λ y m. apart y (List·Memᴰ·tail m)))
 
 module _ {A : Type 0} where
-  -- the lists of n members from xs are just the lists of n members that have what the members of xs have
+  -- a list of n members from xs has n members that have what the members of xs have
   pub lists-member : (P : A → Type 0) (xs : List A) → ((x : A) → List·Memᴰ x xs → P x) →
       (n : ℕ) {l : List A} → List·Memᴰ l (lists xs n) → Each P n l
   unfolding lists
@@ -65,6 +65,7 @@ module _ {A : Type 0} where
       let q = Memᴰ·of-map (λ l. r .0 ∷ l) (lists xs n) (r .2) in
       subst (Each P (suc n)) (q .2) (further (h (r .0) (r .1)) (lists-member P xs h n (q .1)))
 
+  -- and every list of n such members is among them
   pub lists-has : (P : A → Type 0) (xs : List A) → ((x : A) → P x → List·Memᴰ x xs) →
       {n : ℕ} {l : List A} → Each P n l → List·Memᴰ l (lists xs n)
   unfolding lists
@@ -107,20 +108,22 @@ below-distinct (suc n) =
     omega arith)
 
 module _ (c : Chain) (n : ℕ) where
-  -- the tuples are just the lists of n states, none twice
+  -- a tuple is a list of n states
   pub tuples-inside : {s : Tuple} → List·Memᴰ s (tuples c n) → Inside (c .N) n s
   unfolding tuples
   tuples-inside m = lists-member (λ t. t < c .N) (below (c .N)) (λ t w. below-member (c .N) w) n m
 
+  -- every list of n states is among the tuples
   pub tuples-has : {s : Tuple} → Inside (c .N) n s → List·Memᴰ s (tuples c n)
   unfolding tuples
   tuples-has h = lists-has (λ t. t < c .N) (below (c .N)) (λ t w. below-has (c .N) w) h
 
+  -- none stands there twice
   pub tuples-distinct : Distinct (tuples c n)
   unfolding tuples
   tuples-distinct = lists-distinct (below-distinct (c .N)) n
 
-  -- the runs of k steps from s are just s followed by k tuples
+  -- a run of k steps from s is s followed by k tuples
   pub runs-member : (k : ℕ) (s : Tuple) {r : Run} → List·Memᴰ r (runs c n k s) →
       (rest : Run) × (s ∷ rest ≡ r) × Each (Inside (c .N) n) k rest
   unfolding runs
@@ -128,6 +131,7 @@ module _ (c : Chain) (n : ℕ) where
       let q = Memᴰ·of-map (λ r. s ∷ r) (lists (tuples c n) k) m in
       (q .0, q .2, lists-member (Inside (c .N) n) (tuples c n) (λ t w. tuples-inside w) k (q .1))
 
+  -- every such list is among the runs
   pub runs-has : (k : ℕ) (s : Tuple) {rest : Run} → Each (Inside (c .N) n) k rest → List·Memᴰ (s ∷ rest) (runs c n k s)
   unfolding runs
   runs-has k s h = Memᴰ·map (λ r. s ∷ r) (lists-has (Inside (c .N) n) (tuples c n) (λ t w. tuples-has w) h)

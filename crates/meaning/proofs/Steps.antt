@@ -101,11 +101,12 @@ module _ (c : Chain) (sound : Sound c) where
       step-same c n _ (λ t. c .D ^ (n * k)) (λ t m. runs-total n k m) s ∙
       step-denominator n k i
 
--- the runs taken weigh no more than all
+-- a run that is taken weighs no more than it does
 taken-le : (b : Bool) (x : ℕ) → cond b x 0 ≤ x
 taken-le true x = omega arith
 taken-le false x = omega arith
 
+-- the runs taken weigh no more than all: at most D^(n × k)
 pub takenWeight-le : (c : Chain) → Sound c → (n k : ℕ) (takes : Run → Bool) {s : Tuple} → Inside (c .N) n s →
     takenWeight c n k takes s ≤ c .D ^ (n * k)
 unfolding takenWeight

@@ -17,15 +17,17 @@ same-answer true b f g = sym (f refl)
 same-answer false true f g = g refl
 same-answer false false f g = refl
 
--- what `&&` means
+-- of two tests that are met the first is
 pub and-left : (a b : Bool) → (a && b) ≡ true → a ≡ true
 and-left true b e = refl
 and-left false b e = e
 
+-- and the second is
 pub and-right : (a b : Bool) → (a && b) ≡ true → b ≡ true
 and-right true b e = e
 and-right false b e = absurd (false≢true e)
 
+-- two tests that are met
 pub and-both : {a b : Bool} → a ≡ true → b ≡ true → (a && b) ≡ true
 and-both {a = a} {b = b} p q = ap₂ _&&_ p q
 
@@ -45,7 +47,7 @@ module _ {A : Type 0} where
         λ h. and-both (h x (List·Memᴰ·head refl)) (r .1 (λ y m. h y (List·Memᴰ·tail m))),
       )
 
-  -- `thereIs` is true exactly if there is a member that meets the test
+  -- where `thereIs` is true, there is a member that meets the test
   pub thereIs-found : (test : A → Bool) (xs : List A) → thereIs test xs ≡ true →
       (x : A) × List·Memᴰ x xs × (test x ≡ true)
   unfolding thereIs
@@ -60,6 +62,7 @@ module _ {A : Type 0} where
           let r = later e in
           (r .0, List·Memᴰ·tail (r .1), r .2)
 
+  -- and where there is one, it is true
   pub thereIs-from : (test : A → Bool) (xs : List A) (x : A) → List·Memᴰ x xs → test x ≡ true → thereIs test xs ≡ true
   unfolding thereIs
   thereIs-from test xs x (List·Memᴰ·head {x = y} {xs = ys} e) p = ap (λ b. b || thereIs test ys) (ap test (sym e) ∙ p)
@@ -73,6 +76,7 @@ module _ {A : Type 0} where
   every-same p q (x ∷ xs) h =
       ap₂ _&&_ (h x (List·Memᴰ·head refl)) (every-same p q xs (λ y m. h y (List·Memᴰ·tail m)))
 
+  -- the same of `thereIs`
   pub thereIs-same : (p q : A → Bool) (xs : List A) → ((x : A) → List·Memᴰ x xs → p x ≡ q x) →
       thereIs p xs ≡ thereIs q xs
   unfolding thereIs
@@ -95,16 +99,18 @@ module _ {A B : Type 0} where
   every-map test g [] = refl
   every-map test g (x ∷ xs) = ap (λ b. test (g x) && b) (every-map test g xs)
 
+  -- the same of `thereIs`
   pub thereIs-map : (test : B → Bool) (g : A → B) (xs : List A) → thereIs test (map g xs) ≡ thereIs (λ x. test (g x)) xs
   unfolding thereIs
   thereIs-map test g [] = refl
   thereIs-map test g (x ∷ xs) = ap (λ b. test (g x) || b) (thereIs-map test g xs)
 
--- neither of two tests was met
+-- of two tests of which none is met the first is not
 pub or-left : (a b : Bool) → (a || b) ≡ false → a ≡ false
 or-left true b e = e
 or-left false b e = refl
 
+-- nor is the second
 pub or-right : (a b : Bool) → (a || b) ≡ false → b ≡ false
 or-right true b e = absurd (true≢false e)
 or-right false b e = e
@@ -115,7 +121,7 @@ and-front true true x y = refl
 and-front true false x y = sym (and-false x)
 and-front false b x y = sym (and-false x)
 
--- the members of `below n` are the numbers below n
+-- the members of `below n` are below n
 pub below-member : (n : ℕ) {i : ℕ} → List·Memᴰ i (below n) → i < n
 unfolding below
 below-member zero m = absurd (List·Memᴰ·not-nil m)
@@ -129,6 +135,7 @@ below-member (suc n) m =
     omega arith)
     (List·Memᴰ·append-cases (below n) m)
 
+-- and every number below n is one
 pub below-has : (n : ℕ) {i : ℕ} → i < n → List·Memᴰ i (below n)
 unfolding below
 below-has zero h = absurd (not-suc-le-zero h)
@@ -145,12 +152,13 @@ below-front zero = refl
 below-front (suc n) =
     ap (λ l. l ++ (suc n ∷ [])) (below-front n) ∙ ap (λ l. 0 ∷ l) (sym (map-append suc (below n) (n ∷ [])))
 
--- so a test of all of them is one of 0 and one of those after it
+-- so all of them meet a test exactly if 0 does and those after it do
 pub every-below : (test : ℕ → Bool) (n : ℕ) →
     every test (below (suc n)) ≡ (test 0 && every (λ i. test (suc i)) (below n))
 unfolding every
 every-below test n = ap (every test) (below-front n) ∙ ap (λ b. test 0 && b) (every-map test suc (below n))
 
+-- some of them meets it exactly if 0 does or one of those after it
 pub thereIs-below : (test : ℕ → Bool) (n : ℕ) →
     thereIs test (below (suc n)) ≡ (test 0 || thereIs (λ i. test (suc i)) (below n))
 unfolding thereIs

@@ -206,12 +206,13 @@ module _ (c : Chain) (n : ℕ) (first second : Tuple → Bool) (k1 k2 : ℕ) whe
       ap (λ k. table c n first second k k2 s) (omega arith) ∙
       sym (layer-table k2 (omega arith) s)
 
--- a path's numerator, as it is computed: one step for next, k2 layers for until
+-- the numerator of next, as it is computed: one step
 pub numerator-next : (f : Formula) (c : Chain) (n : ℕ) (s : Tuple) →
     numerator (next f) c n s ≡ step c n (λ t. cond (holds f c n t) 1 0) s
 unfolding numerator
 numerator-next f c n s = next-step (λ t. holds f c n t) c n s
 
+-- and that of until: k2 layers
 pub numerator-until : (k1 k2 : ℕ) (f g : Formula) (c : Chain) → Sound c → (n : ℕ) {s : Tuple} → Inside (c .N) n s →
     numerator (until k1 k2 f g) c n s ≡ layer c n (λ t. holds f c n t) (λ t. holds g c n t) k1 k2 k2 s
 unfolding numerator

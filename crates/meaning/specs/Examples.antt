@@ -52,18 +52,20 @@ met (rows c weights) =
     eqb (c .N) (length weights) &&
     every (λ s. every (λ t. eqb (c .weight s t) (getD (getD weights s []) t 0)) (below (c .N))) (below (c .N))
 
--- `a1`, `a2`
+-- `a1`: the state of variable 1 has label 0
 a1 : Formula
 a1 = labelled 0 1
 
+-- `a2`: that of variable 2 has it
 a2 : Formula
 a2 = labelled 0 2
 
--- `PXa1`, `PXa2`
+-- `PXa1`
 Xa1 : Expression
 unfolding a1
 Xa1 = probability (next a1)
 
+-- `PXa2`
 Xa2 : Expression
 unfolding a2
 Xa2 = probability (next a2)

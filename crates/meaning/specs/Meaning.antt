@@ -51,13 +51,15 @@ pub record Fraction : Type 0 where
   pub top : ℤ
   pub bottom : ℕ
 
--- sum, difference and product, over the product of the denominators; a difference keeps its sign
+-- the sum of two fractions, over the product of their denominators
 unfoldable pub addF : Fraction → Fraction → Fraction
 addF x y = record { top = x .top *ℤ pos (y .bottom) +ℤ y .top *ℤ pos (x .bottom); bottom = x .bottom * y .bottom }
 
+-- their difference, over the same; it keeps its sign
 unfoldable pub subF : Fraction → Fraction → Fraction
 subF x y = record { top = x .top *ℤ pos (y .bottom) -ℤ y .top *ℤ pos (x .bottom); bottom = x .bottom * y .bottom }
 
+-- their product, over the same
 unfoldable pub mulF : Fraction → Fraction → Fraction
 mulF x y = record { top = x .top *ℤ y .top; bottom = x .bottom * y .bottom }
 
@@ -73,8 +75,9 @@ related greater a b = ltZ b a
 unfoldable pub compared : Relation → Fraction → Fraction → Bool
 compared r x y = related r (x .top *ℤ pos (y .bottom)) (y .top *ℤ pos (x .bottom))
 
--- A formula is met at a tuple of n states; the value of an expression there; the numerator of a path there.
+-- state formulas, expressions and paths contain one another, so what they mean at a tuple is said of all three at once
 unfoldable mutual
+  -- the state formula is met at a tuple of n states
   pub holds : Formula → Chain → ℕ → Tuple → Bool
   holds always c n s = true
   holds (labelled l i) c n s = hasLabel c l i s
@@ -82,6 +85,7 @@ unfoldable mutual
   holds (both f g) c n s = holds f c n s && holds g c n s
   holds (compare r a b) c n s = compared r (value a c n s) (value b c n s)
 
+  -- the value of an expression there
   pub value : Expression → Chain → ℕ → Tuple → Fraction
   value (probability p) c n s = record { top = pos (numerator p c n s); bottom = denominator p (c .D) n }
   value (constant a b) c n s = record { top = pos a; bottom = b }
@@ -89,6 +93,7 @@ unfoldable mutual
   value (difference a b) c n s = subF (value a c n s) (value b c n s)
   value (product a b) c n s = mulF (value a c n s) (value b c n s)
 
+  -- the numerator of a path there: the total weight of the runs taken that start at the tuple
   pub numerator : PathFormula → Chain → ℕ → Tuple → ℕ
   numerator (next f) c n s = takenWeight c n 1 (nextTakes (λ t. holds f c n t)) s
   numerator (until k1 k2 f g) c n s =

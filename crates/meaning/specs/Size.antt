@@ -12,14 +12,15 @@ pub record Size : Type 0 where
   pub d : ℕ
   pub m : ℕ
 
--- sum and difference: d1 × d2 and m1 × d2 + m2 × d1; product: d1 × d2 and m1 × m2
+-- sum and difference: d = d1 × d2, m = m1 × d2 + m2 × d1
 unfoldable pub addS : Size → Size → Size
 addS x y = record { d = x .d * y .d; m = x .m * y .d + y .m * x .d }
 
+-- product: d = d1 × d2, m = m1 × m2
 unfoldable pub mulS : Size → Size → Size
 mulS x y = record { d = x .d * y .d; m = x .m * y .m }
 
--- P: d = m = its denominator; constant a/b: d = b, m = a
+-- each expression's d and m. P: d = m = its denominator; constant a/b: d = b, m = a
 unfoldable pub size : Expression → (D n : ℕ) → Size
 size (probability p) D n = record { d = denominator p D n; m = denominator p D n }
 size (constant a b) D n = record { d = b; m = a }
@@ -39,8 +40,9 @@ largeSize x = tooLarge (x .d) || tooLarge (x .m)
 unfoldable pub largeCross : Size → Size → Bool
 largeCross x y = tooLarge (x .m * y .d) || tooLarge (y .m * x .d)
 
--- some d, some m, or some comparison's m1 × d2 or m2 × d1 is above 2^62: exactly then refusal 10 is given
+-- some d, some m, or some comparison's m1 × d2 or m2 × d1 is above 2^62
 unfoldable mutual
+  -- in a state formula; of the body: exactly then refusal 10 is given
   pub exceeds : Formula → (D n : ℕ) → Bool
   exceeds always D n = false
   exceeds (labelled l i) D n = false
@@ -48,6 +50,7 @@ unfoldable mutual
   exceeds (both f g) D n = exceeds f D n || exceeds g D n
   exceeds (compare r a b) D n = exceedsIn a D n || exceedsIn b D n || largeCross (size a D n) (size b D n)
 
+  -- in an expression, itself among them
   pub exceedsIn : Expression → (D n : ℕ) → Bool
   exceedsIn (probability p) D n = exceedsFrom p D n || largeSize (size (probability p) D n)
   exceedsIn (constant a b) D n = largeSize (size (constant a b) D n)
@@ -55,6 +58,7 @@ unfoldable mutual
   exceedsIn (difference a b) D n = exceedsIn a D n || exceedsIn b D n || largeSize (size (difference a b) D n)
   exceedsIn (product a b) D n = exceedsIn a D n || exceedsIn b D n || largeSize (size (product a b) D n)
 
+  -- in the formulas of a path
   pub exceedsFrom : PathFormula → (D n : ℕ) → Bool
   exceedsFrom (next f) D n = exceeds f D n
   exceedsFrom (until k1 k2 f g) D n = exceeds f D n || exceeds g D n

@@ -40,6 +40,7 @@ letterOf false = forAll
 
 -- the path formulas in written order: a path stands before those within it
 unfoldable mutual
+  -- those of a state formula; of the body: all, numbered from 0
   pub pathsOf : Formula → List PathFormula
   pathsOf always = []
   pathsOf (labelled l i) = []
@@ -47,6 +48,7 @@ unfoldable mutual
   pathsOf (both f g) = pathsOf f ++ pathsOf g
   pathsOf (compare r a b) = pathsIn a ++ pathsIn b
 
+  -- those of an expression
   pub pathsIn : Expression → List PathFormula
   pathsIn (probability p) = pathsFrom p
   pathsIn (constant a b) = []
@@ -54,6 +56,7 @@ unfoldable mutual
   pathsIn (difference a b) = pathsIn a ++ pathsIn b
   pathsIn (product a b) = pathsIn a ++ pathsIn b
 
+  -- a path and those of its formulas
   pub pathsFrom : PathFormula → List PathFormula
   pathsFrom (next f) = next f ∷ pathsOf f
   pathsFrom (until k1 k2 f g) = until k1 k2 f g ∷ (pathsOf f ++ pathsOf g)

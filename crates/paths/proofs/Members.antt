@@ -34,6 +34,7 @@ pub record Tested (N : ℕ) (s : List ℕ) (i : ℕ) : Type 0 where
   pub rest : membersBelow N (drop i s) ≡ membersBelow N s
 
 module _ {N : ℕ} {s : List ℕ} where
+  -- before the first turn
   pub tested-none : Tested N s 0
   tested-none = record { upTo = omega arith; rest = refl }
 
@@ -42,12 +43,15 @@ module _ {N : ℕ} {s : List ℕ} where
   turn {i} h l t e =
       ap (λ (b : Bool). b && membersBelow N (drop (i + 1) s)) (sym e) ∙ ap (membersBelow N) (sym (left-more s i l)) ∙ h .rest
 
+  -- one member more is a state
   pub tested-next : {i : ℕ} → Tested N s i → i < length s → ltb (getD s i 0) N ≡ true → Tested N s (i + 1)
   tested-next {i} h l e = record { upTo = omega arith; rest = turn h l true e }
 
+  -- where one is none, the answer is no
   pub tested-not : {i : ℕ} → Tested N s i → i < length s → ltb (getD s i 0) N ≡ false → false ≡ membersBelow N s
   tested-not h l e = turn h l false e
 
+  -- after the last turn the answer is yes
   pub tested-all : {i : ℕ} → Tested N s i → length s ≤ i → true ≡ membersBelow N s
   unfolding every
   tested-all {i} h done = ap (membersBelow N) (sym (drop-of-length-le s done)) ∙ h .rest
@@ -71,9 +75,11 @@ some-state nothing l = absurd (omega arith)
 some-state (further h i) l = omega arith
 
 module _ {N : ℕ} {s : List ℕ} where
+  -- before the first turn
   pub counted-none : Counted N s 0 0
   counted-none = record { upTo = omega arith; number = omega arith }
 
+  -- one member more
   pub counted-next : {i place : ℕ} → Counted N s i place → i < length s → Counted N s (i + 1) (place * N + getD s i 0)
   unfolding numberOf
   counted-next {i} {place} h l =
@@ -84,6 +90,7 @@ module _ {N : ℕ} {s : List ℕ} where
       let power : place * N ^ suc (length left) ≡ place * (N * N ^ length left) = ap (λ (k : ℕ). place * k) (pow-succ' N (length left)) in
       record { upTo = omega arith; number = omega arith }
 
+  -- after the last turn it is the tuple's number
   pub counted-all : {i place : ℕ} → Counted N s i place → length s ≤ i → place ≡ numberOf N s
   unfolding numberOf
   counted-all {i} {place} h done =
@@ -104,6 +111,7 @@ module _ {N : ℕ} {s : List ℕ} where
       let number = h .number in
       omega arith
 
+  -- which is the tuple's place
   pub counted-place : {i place : ℕ} → Counted N s i place → length s ≤ i → membersBelow N s ≡ true → TuplePlace N s place
   counted-place {i} {place} h done e =
       let inside = members-inside N s e in
@@ -113,12 +121,13 @@ module _ {N : ℕ} {s : List ℕ} where
         same = ap (tupleOf N (length s)) number ∙ tuple-number N inside;
       }
 
--- one turn's product and sum fit
+-- one turn's product fits
 pub product-fits : {x N : ℕ} → x < 1048576 → N ≤ 32 → Fits w64 (x * N)
 product-fits {x} h few =
     let scaled = mul-le-mul-left x few in
     record { fits = omega arith }
 
+-- with the member
 pub sum-fits : {x N y : ℕ} → x < 1048576 → N ≤ 32 → y < 1048576 → Fits w64 (x * N + y)
 sum-fits {x} h few less =
     let scaled = mul-le-mul-left x few in
@@ -126,10 +135,11 @@ sum-fits {x} h few less =
 
 -- ---- a tuple that is one of the sentence's
 
--- it is as long as there are letters, and its number can be computed
+-- it is as long as there are letters
 pub right-long : (n N : ℕ) (s : List ℕ) → tupleRight n N s ≡ true → length s ≡ n
 right-long n N s e = eqb-true (length s) n (and-left (eqb (length s) n) (membersBelow N s) e)
 
+-- and its number can be computed
 pub right-ready : (n N : ℕ) (s : List ℕ) → tupleRight n N s ≡ true → n ≤ 4 → N ≤ 32 → TupleReady N s
 right-ready n N s e letters states =
     let long = right-long n N s e in

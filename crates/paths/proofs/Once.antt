@@ -32,6 +32,7 @@ module _ (nodes : List Slot) where
       let same : pathsBelow nodes (p + 1 + (q - (p + 1))) ≡ pathsBelow nodes q = ap (pathsBelow nodes) (omega arith) in
       omega arith
 
+-- the contract of `path_place` allows one place
 pub path-place-once : {nodes : List Slot} {count path r q : ℕ} → PathPlace nodes count path r → PathPlace nodes count path q → r ≡ q
 path-place-once {nodes} {count} {path} {r} {q} (here l s e) (here m t g) = by (decLt r q) (decLt q r)
   where
@@ -43,6 +44,7 @@ path-place-once {nodes} {count} {path} {r} (here l s e) (none g) = let h = past 
 path-place-once {nodes} {count} {path} {q = q} (none g) (here l s e) = let h = past nodes q count l s in absurd (omega arith)
 path-place-once (none g) (none h) = refl
 
+-- and that of `tuple_place` one number
 pub tuple-place-once : {N r q : ℕ} {s : List ℕ} → TuplePlace N s r → TuplePlace N s q → r ≡ q
 tuple-place-once {N} {r} {q} {s} h k =
     sym (number-tuple N (length s) r (h .inside)) ∙ ap (numberOf N) (h .same ∙ sym (k .same)) ∙ number-tuple N (length s) q (k .inside)

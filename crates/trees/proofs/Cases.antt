@@ -77,17 +77,19 @@ module _ (slots : List Slot) (p : ℕ) where
   own-path (next-at {q = q} {f = f} h e w) = subst (λ (n : Node). PathCase n (next f) q) (sym e) (f, refl, w)
   own-path (until-at {q = q} {r = r} {k1 = k1} {k2 = k2} {f = f} {g = g} h e v w) = subst (λ (n : Node). PathCase n (until k1 k2 f g) r) (sym e) (f, g, q, refl, v, w)
 
-  -- by the node that the code found there
+  -- a state formula, by the node that the code found there
   pub formula-case : {f : Formula} {q : ℕ} (n : Node) → nodeAt slots p ≡ n → FormulaAt slots p f q → FormulaCase n f q
   formula-case {f} {q} n e w = subst (λ (n : Node). FormulaCase n f q) e (own-formula w)
 
+  -- an expression
   pub expression-case : {f : Expression} {q : ℕ} (n : Node) → nodeAt slots p ≡ n → ExpressionAt slots p f q → ExpressionCase n f q
   expression-case {f} {q} n e w = subst (λ (n : Node). ExpressionCase n f q) e (own-expression w)
 
+  -- a path
   pub path-case : {f : PathFormula} {q : ℕ} (n : Node) → nodeAt slots p ≡ n → PathAt slots p f q → PathCase n f q
   path-case {f} {q} n e w = subst (λ (n : Node). PathCase n f q) e (own-path w)
 
-  -- there is a place for the node
+  -- there is a place for the node of a state formula
   pub formula-place : {f : Formula} {q : ℕ} → FormulaAt slots p f q → p < 64
   formula-place (always-at h e) = h
   formula-place (labelled-at h e) = h
@@ -95,6 +97,7 @@ module _ (slots : List Slot) (p : ℕ) where
   formula-place (both-at h e v w) = h
   formula-place (compare-at h e v w) = h
 
+  -- of an expression
   pub expression-place : {f : Expression} {q : ℕ} → ExpressionAt slots p f q → p < 64
   expression-place (probability-at h e v) = h
   expression-place (constant-at h e) = h
@@ -102,6 +105,7 @@ module _ (slots : List Slot) (p : ℕ) where
   expression-place (difference-at h e v w) = h
   expression-place (product-at h e v w) = h
 
+  -- of a path
   pub path-place : {f : PathFormula} {q : ℕ} → PathAt slots p f q → p < 64
   path-place (next-at h e w) = h
   path-place (until-at h e v w) = h

@@ -15,12 +15,13 @@ use Rattle.meaning.specs.Tree.{Expression, probability, constant, sum, differen
 use Rattle.meaning.specs.Tree.{PathFormula, next, until}
 use Rattle.trees.specs.Listed.{relationOf, formulaNodes, expressionNodes, pathNodes}
 
--- the trees of a kind, and their nodes
+-- the trees of a kind
 abbrev pub Tree : Kind → Type 0
 Tree State = Formula
 Tree ExpressionKind = Expression
 Tree PathKind = PathFormula
 
+-- the nodes of a tree of a kind
 abbrev pub treeNodes : (k : Kind) → Tree k → List Node
 treeNodes State f = formulaNodes f
 treeNodes ExpressionKind a = expressionNodes a
@@ -79,10 +80,11 @@ first-tree n = by (nests-trees n)
     by : {k : Kind} {ks : List Kind} {ns : List Node} → Trees (k ∷ ks) ns → (t : Tree k) × (r : List Node) × (ns ≡ treeNodes k t ++ r) × Nests ks r
     by (tree k t r h p) = (t, r, refl, h)
 
--- and where nothing follows it is the list of that tree
+-- a list that nests as nothing is empty
 nothing : {ns : List Node} → Nests [] ns → ns ≡ []
 nothing end = refl
 
+-- where nothing follows the first tree, the list is that of the tree
 pub whole : {k : Kind} {ns : List Node} → Nests (k ∷ []) ns → (t : Tree k) × (ns ≡ treeNodes k t)
 whole {k} {ns} n =
     let s = first-tree n in

@@ -59,6 +59,7 @@ formula-nodes (compare r a b) = omega arith
 mutual
   unfolding formulaNodes expressionNodes pathNodes need needIn needFrom
 
+  -- what a state formula needs, by its nodes
   pub need-allowed : (f : Formula) → Allowed (need f) (length (formulaNodes f))
   need-allowed always = (omega arith, omega arith)
   need-allowed (labelled l i) = (omega arith, omega arith)
@@ -70,6 +71,7 @@ mutual
       joined (paired (needIn a) (needIn b)) (expressionNodes a) (expressionNodes b)
       (pair (needIn a) (needIn b) (length (expressionNodes a)) (length (expressionNodes b)) (needIn-allowed a) (needIn-allowed b))
 
+  -- an expression
   pub needIn-allowed : (a : Expression) → Allowed (needIn a) (length (expressionNodes a))
   needIn-allowed (probability w) = more (needFrom w) (length (pathNodes w)) (suc (length (pathNodes w))) (omega arith) (needFrom-allowed w)
   needIn-allowed (constant a b) = (omega arith, omega arith)
@@ -83,6 +85,7 @@ mutual
       joined (paired (needIn a) (needIn b)) (expressionNodes a) (expressionNodes b)
       (pair (needIn a) (needIn b) (length (expressionNodes a)) (length (expressionNodes b)) (needIn-allowed a) (needIn-allowed b))
 
+  -- a path
   pub needFrom-allowed : (w : PathFormula) → Allowed (needFrom w) (length (pathNodes w))
   needFrom-allowed (next f) = more (need f) (length (formulaNodes f)) (suc (length (formulaNodes f))) (omega arith) (need-allowed f)
   needFrom-allowed (until k1 k2 f g) =
@@ -99,5 +102,6 @@ seven k l p h = by (decLe k 7)
     by (yes y) = y
     by (no n) = let eight : 8 ≤ k = omega arith in let m : 2 ^ 8 ≤ 2 ^ k = pow-mono eight in absurd (omega (arith, p .1, m))
 
+-- a state formula of at most 64 nodes needs at most seven layers
 pub need-seven : (f : Formula) → length (formulaNodes f) ≤ 64 → need f ≤ 7
 need-seven f h = seven (need f) (length (formulaNodes f)) (need-allowed f) h

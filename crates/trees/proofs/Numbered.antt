@@ -54,6 +54,7 @@ module _ (slots : List Slot) where
   mutual
     unfolding formulaNodes expressionNodes pathNodes pathsOf pathsIn pathsFrom
 
+    -- the path formulas of a state formula stand where its nodes do, in written order
     pub formula-paths : (f : Formula) (p q : ℕ) → Stretch slots p (formulaNodes f) q → PathsAt p (pathsOf f) q
     formula-paths always p q h = leaf p q _ (h .1) refl (h .2)
     formula-paths (labelled l i) p q h = leaf p q _ (h .1) refl (h .2)
@@ -67,6 +68,7 @@ module _ (slots : List Slot) where
         after-quiet p (p + 1) (pathsIn a ++ pathsIn b) q (quiet-one p _ (h .1) refl)
         (then (p + 1) (s .0) (pathsIn a) (pathsIn b) q (expression-paths a (p + 1) (s .0) (s .1)) (expression-paths b (s .0) q (s .2)))
 
+    -- those of an expression
     pub expression-paths : (a : Expression) (p q : ℕ) → Stretch slots p (expressionNodes a) q → PathsAt p (pathsIn a) q
     expression-paths (probability w) p q h = after-quiet p (p + 1) (pathsFrom w) q (quiet-one p _ (h .1) refl) (path-paths w (p + 1) q (h .2))
     expression-paths (constant a b) p q h = leaf p q _ (h .1) refl (h .2)
@@ -83,6 +85,7 @@ module _ (slots : List Slot) where
         after-quiet p (p + 1) (pathsIn a ++ pathsIn b) q (quiet-one p _ (h .1) refl)
         (then (p + 1) (s .0) (pathsIn a) (pathsIn b) q (expression-paths a (p + 1) (s .0) (s .1)) (expression-paths b (s .0) q (s .2)))
 
+    -- a path and those of its formulas
     pub path-paths : (w : PathFormula) (p q : ℕ) → Stretch slots p (pathNodes w) q → PathsAt p (pathsFrom w) q
     path-paths (next f) p q h =
         (p, (omega arith, λ i l u. absurd (omega arith)), ap startsPath (h .1), (q, path-stands slots (next f) p q h), formula-paths f (p + 1) q (h .2))
@@ -126,6 +129,7 @@ module _ (slots : List Slot) where
   abbrev pub NumberedAt : PathFormula → ℕ → List PathFormula → ℕ → Type 0
   NumberedAt d p ws m = (k : ℕ) × (pathsBelow slots m ≡ pathsBelow slots p + k) × (k < length ws) × ((e : ℕ) × PathAt slots m (getD ws k d) e)
 
+  -- every place where a path starts is the place of the path formula with the number of those before it
   pub path-numbered : (d : PathFormula) (p : ℕ) (ws : List PathFormula) (q : ℕ) → PathsAt p ws q → (m : ℕ) → p ≤ m → m < q → startsPath (nodeAt slots m) ≡ true → NumberedAt d p ws m
   path-numbered d p [] q h m l u s = absurd (true≢false (sym s ∙ h .1 m l u))
   path-numbered d p (w ∷ ws) q h m l u s = by (λ v. path-numbered d (h .0 + 1) ws q (h .4) m v u s) (decLt m (h .0)) (ℕ-discrete m (h .0))

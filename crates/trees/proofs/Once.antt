@@ -101,7 +101,7 @@ path-begins n l w s e = subst (Begun (λ n l. PathBegins n l w s)) (sym e) (path
 mutual
   unfolding formulaNodes expressionNodes pathNodes
 
-  -- equal lists begin with equal trees, and what follows is equal
+  -- equal lists begin with equal state formulas, and what follows is equal
   pub formula-once : (f g : Formula) (r s : List Node) → formulaNodes f ++ r ≡ formulaNodes g ++ s → (f ≡ g) × (r ≡ s)
   formula-once always g r s e = let b = formula-begins True r g s e in (sym (b .0), b .1)
   formula-once (labelled l i) g r s e = let b = formula-begins (Label l i) r g s e in (sym (b .0), b .1)
@@ -122,6 +122,7 @@ mutual
       let j : (d ≡ b .1) × (r ≡ s) = expression-once d (b .1) r s (i .1) in
       (ap (λ (x : Relation). compare x a d) (sym (spelled-relation c)) ∙ ap₂ (compare (unspelled (relationOf c))) (i .0) (j .0) ∙ sym (b .2), j .1)
 
+  -- with equal expressions
   pub expression-once : (a g : Expression) (r s : List Node) → expressionNodes a ++ r ≡ expressionNodes g ++ s → (a ≡ g) × (r ≡ s)
   expression-once (probability w) g r s e =
       let b = expression-begins Probability (pathNodes w ++ r) g s e in
@@ -147,6 +148,7 @@ mutual
       let j : (d ≡ b .1) × (r ≡ s) = expression-once d (b .1) r s (i .1) in
       (ap₂ product (i .0) (j .0) ∙ sym (b .2), j .1)
 
+  -- with equal paths
   pub path-once : (w g : PathFormula) (r s : List Node) → pathNodes w ++ r ≡ pathNodes g ++ s → (w ≡ g) × (r ≡ s)
   path-once (next f) g r s e =
       let b = path-begins Next (formulaNodes f ++ r) g s e in

@@ -56,6 +56,7 @@ constant-range a b e =
 mutual
   unfolding formulaNodes expressionNodes pathNodes
 
+  -- the numbers of a state formula are in their ranges where its nodes are
   pub formula-ranged : (f : Formula) (n : ℕ) → InRange n (formulaNodes f) → Ranged n f
   formula-ranged always n h = tt
   formula-ranged (labelled l i) n h = (h .0 .0, h .0 .1, ltb-false n i (h .1))
@@ -67,6 +68,7 @@ mutual
     expression-ranged b n (behind n (expressionNodes a) (expressionNodes b) (h .2)),
   )
 
+  -- those of an expression
   pub expression-ranged : (a : Expression) (n : ℕ) → InRange n (expressionNodes a) → RangedIn n a
   expression-ranged (probability w) n h = path-ranged w n (h .2)
   expression-ranged (constant a b) n h = constant-range a b (h .1)
@@ -83,6 +85,7 @@ mutual
     expression-ranged b n (behind n (expressionNodes a) (expressionNodes b) (h .2)),
   )
 
+  -- those of a path
   pub path-ranged : (w : PathFormula) (n : ℕ) → InRange n (pathNodes w) → RangedFrom n w
   path-ranged (next f) n h = formula-ranged f n (h .2)
   path-ranged (until k1 k2 f g) n h = (

@@ -30,7 +30,7 @@ module _ (slots : List Slot) where
   mutual
     unfolding formulaNodes expressionNodes pathNodes
 
-    -- the tree stands where its nodes do
+    -- a state formula stands where its nodes do
     pub formula-stands : (f : Formula) (p q : ℕ) → Stretch slots p (formulaNodes f) q → FormulaAt slots p f q
     formula-stands always p q h = subst (FormulaAt slots p always) (h .2) (always-at (h .0) (h .1))
     formula-stands (labelled l i) p q h = subst (FormulaAt slots p (labelled l i)) (h .2) (labelled-at (h .0) (h .1))
@@ -42,6 +42,7 @@ module _ (slots : List Slot) where
         let s = split slots (expressionNodes a) (expressionNodes b) (p + 1) q (h .2) in
         compare-at (h .0) (h .1) (expression-stands a (p + 1) (s .0) (s .1)) (expression-stands b (s .0) q (s .2))
 
+    -- so does an expression
     pub expression-stands : (a : Expression) (p q : ℕ) → Stretch slots p (expressionNodes a) q → ExpressionAt slots p a q
     expression-stands (probability w) p q h = probability-at (h .0) (h .1) (path-stands w (p + 1) q (h .2))
     expression-stands (constant a b) p q h = subst (ExpressionAt slots p (constant a b)) (h .2) (constant-at (h .0) (h .1))
@@ -55,6 +56,7 @@ module _ (slots : List Slot) where
         let s = split slots (expressionNodes a) (expressionNodes b) (p + 1) q (h .2) in
         product-at (h .0) (h .1) (expression-stands a (p + 1) (s .0) (s .1)) (expression-stands b (s .0) q (s .2))
 
+    -- so does a path
     pub path-stands : (w : PathFormula) (p q : ℕ) → Stretch slots p (pathNodes w) q → PathAt slots p w q
     path-stands (next f) p q h = next-at (h .0) (h .1) (formula-stands f (p + 1) q (h .2))
     path-stands (until k1 k2 f g) p q h =

@@ -25,7 +25,9 @@ unspelled Equal = equal
 unspelled AtLeast = atLeast
 unspelled Greater = greater
 
+-- one node for each state formula, expression and path, the node of the whole before those of its parts
 unfoldable mutual
+  -- the nodes of a state formula
   pub formulaNodes : Formula → List Node
   formulaNodes always = True ∷ []
   formulaNodes (labelled l i) = Label l i ∷ []
@@ -33,6 +35,7 @@ unfoldable mutual
   formulaNodes (both f g) = And ∷ (formulaNodes f ++ formulaNodes g)
   formulaNodes (compare r a b) = Compare (relationOf r) ∷ (expressionNodes a ++ expressionNodes b)
 
+  -- those of an expression
   pub expressionNodes : Expression → List Node
   expressionNodes (probability p) = Probability ∷ pathNodes p
   expressionNodes (constant a b) = Constant a b ∷ []
@@ -40,6 +43,7 @@ unfoldable mutual
   expressionNodes (difference a b) = Difference ∷ (expressionNodes a ++ expressionNodes b)
   expressionNodes (product a b) = Product ∷ (expressionNodes a ++ expressionNodes b)
 
+  -- those of a path
   pub pathNodes : PathFormula → List Node
   pathNodes (next f) = Next ∷ formulaNodes f
   pathNodes (until k1 k2 f g) = Until k1 k2 ∷ (formulaNodes f ++ formulaNodes g)

@@ -11,7 +11,9 @@ use Rattle.meaning.specs.Tree.{PathFormula, next, until}
 abbrev pub paired : ℕ → ℕ → ℕ
 paired a b = cond (eqb a b) (suc a) (max a b)
 
+-- one layer where there is no operand
 unfoldable mutual
+  -- how many layers a state formula needs
   pub need : Formula → ℕ
   need always = 1
   need (labelled l i) = 1
@@ -19,6 +21,7 @@ unfoldable mutual
   need (both f g) = paired (need f) (need g)
   need (compare r a b) = paired (needIn a) (needIn b)
 
+  -- an expression
   pub needIn : Expression → ℕ
   needIn (probability p) = needFrom p
   needIn (constant a b) = 1
@@ -26,6 +29,7 @@ unfoldable mutual
   needIn (difference a b) = paired (needIn a) (needIn b)
   needIn (product a b) = paired (needIn a) (needIn b)
 
+  -- a path
   pub needFrom : PathFormula → ℕ
   needFrom (next f) = need f
   needFrom (until k1 k2 f g) = max 3 (paired (need f) (need g))

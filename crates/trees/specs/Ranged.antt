@@ -4,7 +4,9 @@ use Rattle.meaning.specs.Tree.{Formula, always, labelled, negation, both, compa
 use Rattle.meaning.specs.Tree.{Expression, probability, constant, sum, difference, product}
 use Rattle.meaning.specs.Tree.{PathFormula, next, until}
 
+-- a label letter `a`..`p` with a variable 1..n; a top up to 65,535 and a bottom 1..65,535; k1 ≤ k2 ≤ 60
 abbrev mutual
+  -- in a state formula
   pub Ranged : ℕ → Formula → Type 0
   Ranged n always = Unit
   Ranged n (labelled l i) = (l < 16) × (1 ≤ i) × (i ≤ n)
@@ -12,6 +14,7 @@ abbrev mutual
   Ranged n (both f g) = Ranged n f × Ranged n g
   Ranged n (compare r a b) = RangedIn n a × RangedIn n b
 
+  -- in an expression
   pub RangedIn : ℕ → Expression → Type 0
   RangedIn n (probability p) = RangedFrom n p
   RangedIn n (constant a b) = (a ≤ 65535) × (1 ≤ b) × (b ≤ 65535)
@@ -19,6 +22,7 @@ abbrev mutual
   RangedIn n (difference a b) = RangedIn n a × RangedIn n b
   RangedIn n (product a b) = RangedIn n a × RangedIn n b
 
+  -- in a path
   pub RangedFrom : ℕ → PathFormula → Type 0
   RangedFrom n (next f) = Ranged n f
   RangedFrom n (until k1 k2 f g) = (k1 ≤ k2) × (k2 ≤ 60) × (Ranged n f × Ranged n g)

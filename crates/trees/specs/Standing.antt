@@ -18,7 +18,9 @@ use Rattle.trees.specs.Listed.{relationOf}
 abbrev pub nodeAt : List Slot → ℕ → Node
 nodeAt slots p = getD slots p (slot True) .node
 
+-- one case for each node; all places are below 64
 mutual
+  -- the state formula stands from place p on, up to place q
   pub data FormulaAt (slots : List Slot) : ℕ → Formula → ℕ → Type 0 where
     always-at : {p : ℕ} → p < 64 → nodeAt slots p ≡ True → FormulaAt slots p always (p + 1)
     labelled-at : {p l i : ℕ} → p < 64 → nodeAt slots p ≡ Label l i → FormulaAt slots p (labelled l i) (p + 1)
@@ -28,6 +30,7 @@ mutual
     compare-at : {p q r : ℕ} {e : Relation} {a b : Expression} → p < 64 → nodeAt slots p ≡ Compare (relationOf e) →
         ExpressionAt slots (p + 1) a q → ExpressionAt slots q b r → FormulaAt slots p (compare e a b) r
 
+  -- so does the expression
   pub data ExpressionAt (slots : List Slot) : ℕ → Expression → ℕ → Type 0 where
     probability-at : {p q : ℕ} {w : PathFormula} → p < 64 → nodeAt slots p ≡ Probability → PathAt slots (p + 1) w q →
         ExpressionAt slots p (probability w) q
@@ -39,6 +42,7 @@ mutual
     product-at : {p q r : ℕ} {a b : Expression} → p < 64 → nodeAt slots p ≡ Product → ExpressionAt slots (p + 1) a q →
         ExpressionAt slots q b r → ExpressionAt slots p (product a b) r
 
+  -- so does the path
   pub data PathAt (slots : List Slot) : ℕ → PathFormula → ℕ → Type 0 where
     next-at : {p q : ℕ} {f : Formula} → p < 64 → nodeAt slots p ≡ Next → FormulaAt slots (p + 1) f q → PathAt slots p (next f) q
     until-at : {p q r k1 k2 : ℕ} {f g : Formula} → p < 64 → nodeAt slots p ≡ Until k1 k2 → FormulaAt slots (p + 1) f q →

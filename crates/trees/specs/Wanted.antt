@@ -3,6 +3,7 @@ use Prim.Native.Nat.{ℕ}
 use Rattle.sentence.specs.declared.Wants.{Wants}
 use Rattle.sentence.specs.declared.Wants.the-variants.{Nothing, One, Two}
 
+-- none, one or two
 abbrev pub operandCount : Wants → ℕ
 operandCount Nothing = 0
 operandCount (One k) = 1

@@ -1,3 +1,4 @@
+-- `block::check_right` meets its contract, by what `check_of` and `block_byte` ensure.
 use borrow.Author.Needs.{needs}
 use Rattle.block.proofs.check_right.Statement.{statement}
 use Rattle.block.proofs.check_right.Tie as tie
