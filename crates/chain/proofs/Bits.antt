@@ -31,7 +31,6 @@ half-bit x l =
 pub bits-same : (k x y : ℕ) → x < 2 ^ k → y < 2 ^ k → ((l : ℕ) → bit l x ≡ bit l y) → x ≡ y
 bits-same zero x y p q h = omega arith
 bits-same (suc k) x y p q h =
-    let size = pow-succ' 2 k in
     let halves =
     bits-same k (x / 2) (y / 2) (omega arith) (omega arith) (λ l. half-bit x l ∙ h (suc l) ∙ sym (half-bit y l)) in
     let digits = one-digit (x / 1 % 2) (y / 1 % 2) (omega arith) (omega arith) (h 0) in

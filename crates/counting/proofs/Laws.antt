@@ -189,9 +189,7 @@ module _ {A : Type 0} {n : ℕ} {f : ℕ → A} {d : A} where
     long = length-set l i v ∙ h .long;
     each = λ k small. below-next {P = λ k. getD (set l i v) k d ≡ f k}
         (λ k m. getD-set-other l i k v d (omega arith) ∙ h .each k m)
-        (getD-set-same l i v d
-        (let long = h .long in
-        omega arith) ∙ e)
+        (getD-set-same l i v d (omega arith) ∙ e)
         k (omega arith);
   }
 

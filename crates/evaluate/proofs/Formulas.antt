@@ -2,7 +2,7 @@
 use Prim.Native.Nat.{ℕ, _+_, _*_, _≤_, _<_}
 use mathlib.Core.Bool.{false}
 use mathlib.Core.List.{List}
-use mathlib.Core.Path.{_≡_, refl, sym, ap, subst, _∙_}
+use mathlib.Core.Path.{_≡_, sym, ap, subst, _∙_}
 use native.Mathlib.Omega.{arith}
 use lib.ListN.{length}
 use Rattle.sentence.specs.declared.Relation as Spelled
@@ -10,7 +10,7 @@ use Rattle.sentence.specs.declared.Slot.{Slot}
 use Rattle.sentence.specs.declared.Node.{Node}
 use Rattle.sentence.specs.declared.Node.the-variants.{True, Label, Not, And, Compare}
 use Rattle.meaning.specs.Chain.{Chain}
-use Rattle.meaning.specs.Tree.{Relation, less, atMost, equal, atLeast, greater}
+use Rattle.meaning.specs.Tree.{Relation}
 use Rattle.meaning.specs.Tree.{Formula, compare}
 use Rattle.meaning.specs.Meaning.{holds}
 use Rattle.meaning.specs.Size.{size, exceeds}
@@ -21,31 +21,24 @@ use Rattle.fractions.specs.declared.Relation as Compared
 use Rattle.fractions.specs.Operations.{relationOf, comparedAt, CompareFits}
 use Rattle.fractions.proofs.Values.{sides-small, compare-fits, compare-layer}
 use Rattle.trees.specs.Listed as listed
+use Rattle.trees.specs.Listed.{unspelled}
 use Rattle.trees.specs.Need.{need, needIn}
 use Rattle.trees.specs.Ranged.{Ranged}
 use Rattle.trees.specs.Standing.{nodeAt}
+use Rattle.trees.proofs.Once.{spelled-relation}
 use Rattle.trees.proofs.Cases.{FormulaCase, formula-case, formula-place}
 use Rattle.evaluate.specs.declared.Setting.{Setting}
 use Rattle.evaluate.specs.declared.ValuedTwo.{ValuedTwo}
-use Rattle.trees.specs.Listed.{unspelled}
 use Rattle.evaluate.specs.Evaluation.{Fixed, LabelReady, LabelDone}
 use Rattle.evaluate.specs.Evaluation.{FormulaReady, FormulasReady, ExpressionsReady, FormulaDone, FormulasDone}
 use Rattle.evaluate.specs.Evaluation.{ExpressionsDone}
 use Rattle.evaluate.proofs.Needing.{need-some, needIn-some, paired-two, room-of}
 use Rattle.evaluate.proofs.Fixing.{to-chain, tuple-count}
 
--- the relation of a comparison's node is the comparison's
-unspelled-spelled : (e : Relation) → unspelled (listed.relationOf e) ≡ e
-unspelled-spelled less = refl
-unspelled-spelled atMost = refl
-unspelled-spelled equal = refl
-unspelled-spelled atLeast = refl
-unspelled-spelled greater = refl
-
--- so the relation that the code found for a comparison's node is the comparison's
+-- the relation that the code found for a comparison's node is the comparison's
 pub relation-is : (x : Compared.Relation) {r : Spelled.Relation} (e : Relation) → relationOf x ≡ unspelled r →
     r ≡ listed.relationOf e → relationOf x ≡ e
-relation-is x e p q = p ∙ ap unspelled q ∙ unspelled-spelled e
+relation-is x e p q = p ∙ ap unspelled q ∙ spelled-relation e
 
 module _ {nodes : List Slot} {g : Setting} {masks : List ℕ} {rows : List (List ℕ)} {at : ℕ} {w : List ℕ}
     (ready : FormulaReady nodes g masks rows at w) where

@@ -90,7 +90,6 @@ module _ {nodes : List Slot} {g : Setting} {masks : List ℕ} {rows : List (List
         let under = next-ready in
         let h = done .each c (under .formula) (under .end) (under .fixed) (under .stands) (under .fits) in
         let count = tuple-count (ready .fixed) in
-        let sums = ready .fixed .sums in
         let weighed = ready .fixed .weighed in
         let room = path-room in
         record {

@@ -44,14 +44,12 @@ module _ {T : ℕ} {before after : List ℕ} {i : ℕ} (h : Swapping T before i 
   here : getD now i 0 ≡ getD before (T + i) 0
   unfolding now
   here =
-      let long = h .long in
       getD-set-other (set after i (getD after (T + i) 0)) (T + i) i (getD after i 0) 0 (λ e. omega arith) ∙
       getD-set-same after i (getD after (T + i) 0) 0 (omega arith) ∙ h .beyond i (omega arith)
 
   there : getD now (T + i) 0 ≡ getD before i 0
   unfolding now
   there =
-      let long = h .long in
       let l = length-set after i (getD after (T + i) 0) in
       getD-set-same (set after i (getD after (T + i) 0)) (T + i) (getD after i 0) 0 (omega arith) ∙
       h .ahead i (omega arith) less

@@ -183,16 +183,12 @@ module _ {N stride : ℕ} (some : 1 ≤ N) (apart : 1 ≤ stride) where
     counted-more more =
         let p = div-add-mod' j stride in
         let less = mod-lt j apart in
-        let passed = h .passed in
-        let begins = h .begins in
         counted-at (j / stride) (within + 1) (omega arith) (omega arith) (omega arith)
 
     -- past the last column of a row the next starts where the next row does
     pub counted-row : within + 1 ≡ stride → Counted N stride (j + 1) (at + 1 + (stride * N - stride)) 0
     counted-row last =
         let p = div-add-mod' j stride in
-        let passed = h .passed in
-        let begins = h .begins in
         let long = mul-le-mul-left stride some in
         counted-at (j / stride + 1) 0 apart (omega arith) (omega arith)
 
@@ -294,7 +290,6 @@ module _ {rows : List (List ℕ)} {N stride T : ℕ} {before : List ℕ} where
       LayerStepped rows N stride T before after
   layer-all {j} fits h done = record {
     each = λ k l.
-        let whole = fits .whole in
         let c = column-below N stride (fits .some) (fits .apart) (fits .above) k (omega arith) in
         h .each k l (omega arith);
     kept = kept-from (h .long) (h .past);

@@ -181,7 +181,6 @@ module _ {rows : List (List ℕ)} {N n T : ℕ} {before : List ℕ} where
   stepping-all {m} sizes h done = record {
     each = λ c held f layer. record {
       at = λ k l.
-          let up = h .upTo in
           let e : m ≡ n = omega arith in
           let e′ : n - m ≡ 0 = omega arith in
           h .each c held f layer .at k l ∙

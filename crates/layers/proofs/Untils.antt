@@ -181,7 +181,6 @@ module _ {rows : List (List ℕ)} {N n T d k1 k2 : ℕ} {before : List ℕ} (fit
         at = λ k l.
             let s = tupleOf N n k in
             let f : Tuple → ℕ = λ t. layer c n first second k1 k2 left t in
-            let below : k < T = omega (arith, fits .sizes .whole) in
             let all′ : more ≡ c .D ^ (n * suc left) =
             e ∙ next-power ∙ ap (λ (x : ℕ). x ^ (n * suc left)) (sym sums) in
             getD-drop (T + T) now k 0 ∙
@@ -233,7 +232,6 @@ module _ {rows : List (List ℕ)} {N n T d k1 k2 : ℕ} {before : List ℕ} (fit
   untiling-all {left = left} {after = after} {now = now} h done w = record {
     each = λ c held e first second one two. record {
       at = λ k l.
-          let up = h .upTo in
           let q : left ≡ k2 = omega arith in
           ap (λ (x : ℕ). getD now x 0) (omega arith) ∙
           w .each k (omega (arith, fits .sizes .whole)) ∙

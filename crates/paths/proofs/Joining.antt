@@ -53,7 +53,6 @@ module _
     pub path-missing : {path r : ℕ} → PathPlace nodes count path r → count ≤ r → length (pathsOf f) ≤ path
     path-missing (here l s e) done = absurd (omega arith)
     path-missing {path} (none h) done =
-        let zero = below-zero nodes in
         let all = paths-counted nodes 0 (pathsOf f) count paths-held in
         omega arith
 

@@ -1,5 +1,5 @@
 -- Laws of tuples and of path formulas.
-pub mod Joining
 pub mod Members
-pub mod Once
 pub mod Searching
+pub mod Joining
+pub mod Once

@@ -108,7 +108,6 @@ module _ {N : ℕ} {s : List ℕ} where
       let scaled = mul-le-mul-left place (pow-some N (length (drop i s)) some) in
       let states : N ^ length s ≤ 32 ^ length s = pow-le-pow-left (ready .states) (length s) in
       let few : 32 ^ length s ≤ 32 ^ 4 = pow-le-pow-right {n = 32} (omega arith) (ready .few) in
-      let number = h .number in
       omega arith
 
   -- which is the tuple's place

@@ -1,3 +1,3 @@
 -- What the numerator call is asked about.
-pub mod Places
 pub mod Tuples
+pub mod Places

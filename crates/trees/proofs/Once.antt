@@ -13,7 +13,8 @@ use Rattle.meaning.specs.Tree.{Expression, probability, constant, sum, differen
 use Rattle.meaning.specs.Tree.{PathFormula, next, until}
 use Rattle.trees.specs.Listed.{relationOf, unspelled, formulaNodes, expressionNodes, pathNodes}
 
-spelled-relation : (r : Relation) → unspelled (relationOf r) ≡ r
+-- the relation of a comparison's node is the comparison's
+pub spelled-relation : (r : Relation) → unspelled (relationOf r) ≡ r
 spelled-relation less = refl
 spelled-relation atMost = refl
 spelled-relation equal = refl

@@ -1,9 +1,9 @@
 -- A list of nodes that the grammar has and of which none is out of its range lists a tree whose numbers are in their ranges.
 -- Assumes nothing.
 use Prim.Native.Nat.{ℕ, _≤_}
-use mathlib.Core.Bool.{Bool, true, false, _||_, true≢false}
+use mathlib.Core.Bool.{false, _||_}
 use mathlib.Core.List.{List, [], _∷_, _++_}
-use mathlib.Core.Path.{_≡_, refl}
+use mathlib.Core.Path.{_≡_}
 use native.Mathlib.Omega.{arith}
 use borrow.Author.Tests.{ltb-false, eqb-false}
 use lib.Dec.{ltb, eqb}
@@ -14,6 +14,7 @@ use Rattle.sentence.specs.declared.Node.{Node}
 use Rattle.meaning.specs.Tree.{Formula, always, labelled, negation, both, compare}
 use Rattle.meaning.specs.Tree.{Expression, probability, constant, sum, difference, product}
 use Rattle.meaning.specs.Tree.{PathFormula, next, until}
+use Rattle.meaning.proofs.Tests.{or-left, or-right}
 use Rattle.trees.specs.Listed.{formulaNodes, expressionNodes, pathNodes}
 use Rattle.trees.specs.Ranged.{Ranged, RangedIn, RangedFrom}
 
@@ -21,14 +22,6 @@ use Rattle.trees.specs.Ranged.{Ranged, RangedIn, RangedFrom}
 abbrev pub InRange : ℕ → List Node → Type 0
 InRange n [] = Unit
 InRange n (x ∷ ns) = Writable x × (outOfRange n x ≡ false) × InRange n ns
-
-or-left : (a b : Bool) → (a || b) ≡ false → a ≡ false
-or-left true b e = e
-or-left false b e = refl
-
-or-right : (a b : Bool) → (a || b) ≡ false → b ≡ false
-or-right true b e = absurd (true≢false e)
-or-right false b e = e
 
 -- what refusals 6 and 7 leave
 pub nests-in-range : {ks : List Kind} {ns : List Node} (n : ℕ) → Nests ks ns → someOutOfRange n ns ≡ false → InRange n ns

@@ -1,7 +1,7 @@
 -- From node lists to trees.
 pub mod Listed
-pub mod Need
+pub mod Standing
 pub mod Numbered
 pub mod Ranged
-pub mod Standing
 pub mod Wanted
+pub mod Need

@@ -49,8 +49,6 @@ holds-from-claims t = (met-at-reads.Asked, met-at-reads.Learnt, holds-from-below
 flags-room : (t : ℕ) (c : holds-from-lts.Start (holds-from-claims t) (holds-from-at t) holds-from.Post holds-from-Inv-loop holds-from-μ-loop) →
     c .args .count ≤ length (c .args .t1)
 flags-room t c =
-    let long = c .good .0 .1 .0 .1 in
-    let few = c .pre .1 .few in
     omega arith
 
 -- what the call says, of the letter's range

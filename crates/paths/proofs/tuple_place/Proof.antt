@@ -20,7 +20,6 @@ loop-holds c = counted-none
 -- the number so far is small, and so is the next member
 place-small : (c : lts.After-shared-slice-known reads.Pre reads.Post Inv-loop μ-loop) → c .before .before .loop .place < 1048576
 place-small c =
-    let l = c .before .loop-test .taken in
     counted-small (c .before .before .loop .inv) (c .before .before .before .pre) (omega arith)
 
 member-small : (c : lts.After-shared-slice-known reads.Pre reads.Post Inv-loop μ-loop) →

@@ -19,8 +19,6 @@ sub-scaled c = search needs
 stride-small : {N n T : ℕ} (k : ℕ) → Sizes N n T → k ≤ n → N ^ k ≤ 1024
 stride-small {N} {n} k h l =
     let p : N ^ k ≤ N ^ n = pow-le-pow-right (h .some) l in
-    let w = h .whole in
-    let f = h .few in
     omega arith
 
 scaled-requires : tie.Need-scaled-requires
@@ -35,7 +33,6 @@ labelled-requires c κs =
     let start = c .before .before .before .before in
     let g = start .args .g in
     let p = pow-some (g .states) (g .variables - start .args .variable) (start .pre .sizes .some) in
-    let e = c .before .scaled .ensures in
     (start .pre .letter, start .pre .sizes .some, start .pre .sizes .states, omega arith, start .pre .room)
 
 same-length : tie.Need-same-length

@@ -22,13 +22,11 @@ returns c = by-test _ _ _ true (eq-eqb _ _ (c .if1 .taken)) (add-one _)
 
 returns-2 : tie.Need-returns-2
 returns-2 c =
-    let less = c .if2 .taken in
     by-test (c .before .before .args .a) (c .before .before .args .b) _ false (ne-eqb _ _ (c .before .if1 .left))
     (omega arith)
 
 returns-3 : tie.Need-returns-3
 returns-3 c =
-    let least = c .if2 .left in
     by-test (c .before .before .args .a) (c .before .before .args .b) _ false (ne-eqb _ _ (c .before .if1 .left))
     (omega arith)
 

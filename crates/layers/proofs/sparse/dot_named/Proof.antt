@@ -5,7 +5,6 @@ use mathlib.Core.Path.{_≡_, sym, ap₂, _∙_}
 use native.Mathlib.Omega.{arith}
 use lib.ListN.{getD}
 use Rattle.counting.specs.Below.{sum}
-use Rattle.counting.proofs.Laws.{sum-none}
 use Rattle.layers.specs.Sparse.{namedAt}
 use Rattle.layers.proofs.Namings.{two-first, two-more, pair-fits}
 use Rattle.layers.proofs.sparse.dot_named.Statement.{statement}
@@ -19,12 +18,11 @@ abbrev μ-loop : tie.MeasureT-loop
 μ-loop row places column states most total₀ i₀ total i = most - i
 
 pair-requires : tie.Need-pair-requires Inv-loop μ-loop
-pair-requires c κs =
-    let first = sum-none (namedAt (c .args .row .now) (c .args .places .now) (λ t. getD (c .args .column .now) t 0)) in (
-      omega arith,
-      c .pre .1 .inside,
-      omega (arith, pair-fits (c .pre .1) (c .pre .0) (c .args .column .now) (c .pre .2) 0 (omega arith)),
-    )
+pair-requires c κs = (
+  omega arith,
+  c .pre .1 .inside,
+  omega (arith, pair-fits (c .pre .1) (c .pre .0) (c .args .column .now) (c .pre .2) 0 (omega arith)),
+)
 
 loop-holds : tie.Need-loop-holds Inv-loop μ-loop
 loop-holds c = (omega arith, c .pair .ensures ∙ sym (two-first _))

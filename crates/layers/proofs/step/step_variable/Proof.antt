@@ -45,7 +45,6 @@ add-within : tie.Need-add-within Inv-loop μ-loop
 add-within c =
     let at-loop = c .before .before .before .before .before .before in
     let pre = at-loop .before .before .pre .0 in
-    let many = columns-are pre in
     omega (arith, at-loop .loop .inv .1 .passed, mod-lt (at-loop .loop .j) (pre .apart))
 
 mul-at : tie.Need-mul-at Inv-loop μ-loop

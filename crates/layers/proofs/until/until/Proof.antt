@@ -25,7 +25,6 @@ add-copy c = omega (arith, c .before .before .before .pre .room)
 
 copy-requires : tie.Need-copy-requires Inv-loop μ-loop
 copy-requires c κs =
-    let room = c .before .before .before .before .pre .room in
     (omega arith, omega arith, inl (omega arith))
 
 loop-holds : tie.Need-loop-holds Inv-loop μ-loop
@@ -76,12 +75,6 @@ add-copy-2 c =
 
 copy-requires-2 : tie.Need-copy-requires-2 Inv-loop μ-loop
 copy-requires-2 c κs =
-    let at-loop = c .before .before in
-    let start = at-loop .before .before .before .before .before .before .before .before in
-    let copied = at-loop .before .before .before .copy .ensures in
-    let room = start .pre .room in
-    let long = at-loop .loop .inv .long in
-    let first = copied .long in
     (omega arith, omega arith, inr (omega arith))
 
 same-length : tie.Need-same-length Inv-loop μ-loop
