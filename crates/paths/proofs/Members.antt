@@ -30,13 +30,12 @@ left-more s i l = drop-cons s i 0 l ∙ ap (λ (k : ℕ). getD s i 0 ∷ drop k 
 
 -- the first i members are states, so that those left decide
 pub record Tested (N : ℕ) (s : List ℕ) (i : ℕ) : Type 0 where
-  pub upTo : i ≤ length s
   pub rest : membersBelow N (drop i s) ≡ membersBelow N s
 
 module _ {N : ℕ} {s : List ℕ} where
   -- before the first turn
   pub tested-none : Tested N s 0
-  tested-none = record { upTo = omega arith; rest = refl }
+  tested-none = record { rest = refl }
 
   turn : {i : ℕ} → Tested N s i → i < length s → (t : Bool) → ltb (getD s i 0) N ≡ t → (t && membersBelow N (drop (i + 1) s)) ≡ membersBelow N s
   unfolding every
@@ -45,7 +44,7 @@ module _ {N : ℕ} {s : List ℕ} where
 
   -- one member more is a state
   pub tested-next : {i : ℕ} → Tested N s i → i < length s → ltb (getD s i 0) N ≡ true → Tested N s (i + 1)
-  tested-next {i} h l e = record { upTo = omega arith; rest = turn h l true e }
+  tested-next {i} h l e = record { rest = turn h l true e }
 
   -- where one is none, the answer is no
   pub tested-not : {i : ℕ} → Tested N s i → i < length s → ltb (getD s i 0) N ≡ false → false ≡ membersBelow N s
@@ -67,7 +66,6 @@ members-inside N (x ∷ s) e =
 
 -- the number of the first i members, and what those left add to it
 pub record Counted (N : ℕ) (s : List ℕ) (i place : ℕ) : Type 0 where
-  pub upTo : i ≤ length s
   pub number : place * N ^ length (drop i s) + numberOf N (drop i s) ≡ numberOf N s
 
 some-state : {N n : ℕ} {s : List ℕ} → Inside N n s → 0 < n → 0 < N
@@ -77,7 +75,7 @@ some-state (further h i) l = omega arith
 module _ {N : ℕ} {s : List ℕ} where
   -- before the first turn
   pub counted-none : Counted N s 0 0
-  counted-none = record { upTo = omega arith; number = omega arith }
+  counted-none = record { number = omega arith }
 
   -- one member more
   pub counted-next : {i place : ℕ} → Counted N s i place → i < length s → Counted N s (i + 1) (place * N + getD s i 0)
@@ -88,7 +86,7 @@ module _ {N : ℕ} {s : List ℕ} where
       let now : place * N ^ suc (length left) + (x * N ^ length left + numberOf N left) ≡ numberOf N s =
       subst (λ (r : List ℕ). place * N ^ length r + numberOf N r ≡ numberOf N s) (left-more s i l) (h .number) in
       let power : place * N ^ suc (length left) ≡ place * (N * N ^ length left) = ap (λ (k : ℕ). place * k) (pow-succ' N (length left)) in
-      record { upTo = omega arith; number = omega arith }
+      record { number = omega arith }
 
   -- after the last turn it is the tuple's number
   pub counted-all : {i place : ℕ} → Counted N s i place → length s ≤ i → place ≡ numberOf N s
