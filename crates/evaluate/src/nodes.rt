@@ -9,6 +9,7 @@ use crate::ValuedTwo;
 use crate::plain::label;
 use crate::plain::relation_of;
 use crate::plain::swap;
+use crate::plain::until_within;
 use crate::survey::survey;
 use fractions::Operation;
 use fractions::codes::combine;
@@ -19,7 +20,6 @@ use layers::plain::both;
 use layers::plain::negated;
 use layers::step::joint_step;
 use layers::until::scaled;
-use layers::until::until;
 use sentence::Node;
 use sentence::Slot;
 
@@ -224,16 +224,7 @@ pub fn path(
         }
         Node::Until { from, to } => {
             let next = two_formulas(nodes, g, masks, rows, at + 1, work);
-            until(
-                rows,
-                g.states,
-                g.variables,
-                g.d,
-                from as usize,
-                to as usize,
-                g.tuples,
-                work,
-            );
+            until_within(g, rows, from, to, work);
             Valued {
                 next: next,
                 bottom: scaled(1, g.d, g.variables * (to as usize)),

@@ -4,10 +4,12 @@ ghost use Prim.Native.Nat.{_+_, _-_, _≤_, _<_};
 ghost use lib.ListN.{length};
 ghost use Rattle.fractions.specs.Operations.{relationOf};
 ghost use Rattle.evaluate.specs.Evaluation.{Swapped, LabelReady, LabelDone};
+ghost use Rattle.layers.specs.Untils.{UntilFits, UntilTaken};
 ghost use Rattle.trees.specs.Listed.{unspelled};
 use crate::Setting;
 use layers::plain::labelled;
 use layers::until::scaled;
+use layers::until::until;
 
 // The comparison of a node, as the fractions have it.
 pub fn relation_of(r: sentence::Relation) -> fractions::Relation
@@ -29,6 +31,16 @@ pub fn label(g: Setting, masks: &[u16; 32], l: u8, variable: u8, work: &mut [u64
 {
     let stride = scaled(1, g.states as u64, g.variables - variable as usize) as usize;
     labelled(masks, l, g.states, stride, g.tuples, work);
+}
+
+// The numerator of until with a window at all tuples, where the first two layers hold the truth of its formulas.
+pub fn until_within(g: Setting, rows: &[[u16; 32]; 32], from: u32, to: u32, work: &mut [u64])
+    requires { ⌜ UntilFits (now rows) (g .states) (g .variables) (g .tuples) (g .d) from to (now work) ⌝ }
+    ensures { λ r. ⌜ UntilTaken (now (rows .entry)) (g .states) (g .variables) (g .tuples) (g .d) from to (now (work .entry)) (now (work .exit)) ⌝ }
+{
+    let k1 = from as usize;
+    let k2 = to as usize;
+    until(rows, g.states, g.variables, g.d, k1, k2, g.tuples, work);
 }
 
 // The first two layers, exchanged.

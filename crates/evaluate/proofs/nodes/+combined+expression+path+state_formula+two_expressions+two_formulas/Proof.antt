@@ -46,6 +46,7 @@ use Rattle.evaluate.proofs.nodes.nothing.Reads as nothing-reads
 use Rattle.evaluate.proofs.plain.label.Reads as label-reads
 use Rattle.evaluate.proofs.plain.relation_of.Reads as relation-of-reads
 use Rattle.evaluate.proofs.plain.swap.Reads as swap-reads
+use Rattle.evaluate.proofs.plain.until_within.Reads as until-within-reads
 use Rattle.evaluate.proofs.survey.survey.Reads as survey-reads
 use Rattle.fractions.proofs.codes.combine.Reads as combine-reads
 use Rattle.fractions.proofs.codes.compare.Reads as compare-reads
@@ -55,7 +56,6 @@ use Rattle.layers.proofs.plain.both.Reads as both-reads
 use Rattle.layers.proofs.plain.negated.Reads as negated-reads
 use Rattle.layers.proofs.step.joint_step.Reads as joint-step-reads
 use Rattle.layers.proofs.until.scaled.Reads as scaled-reads
-use Rattle.layers.proofs.until.until.Reads as until-reads
 use Rattle.evaluate.proofs.nodes.+combined+expression+path+state_formula+two_expressions+two_formulas.{
   statement,
 }
@@ -167,8 +167,8 @@ path-claims t = (
   scaled-reads.Learnt,
   two-formulas-below t,
   two-formulas.Post,
-  until-reads.Asked,
-  until-reads.Learnt,
+  until-within-reads.Asked,
+  until-within-reads.Learnt,
   nothing-reads.Asked,
   nothing-reads.Learnt,
 )
@@ -504,14 +504,8 @@ path-two-formulas-requires t c κs =
       until-ready (start .pre .1) (node .0 .0) (node .0 .1 .0) (node .1),
     )
 
-path-cast-until : (t : ℕ) → path-lts.Need-cast-until (path-claims t) (path-at t) path.Post
-path-cast-until t c = search needs
-
-path-cast-until-2 : (t : ℕ) → path-lts.Need-cast-until-2 (path-claims t) (path-at t) path.Post
-path-cast-until-2 t c = search needs
-
-path-until-requires : (t : ℕ) → path-lts.Need-until-requires (path-claims t) (path-at t) path.Post
-path-until-requires t c κs =
+path-until-within-requires : (t : ℕ) → path-lts.Need-until-within-requires (path-claims t) (path-at t) path.Post
+path-until-within-requires t c κs =
     let node = c .before .before .before .before .before .before .node .given in
     let call = c .before .before .before .two-formulas in
     taking-ready (c .before .before .before .before .before .before .before .before .before .before .pre .1)
@@ -608,7 +602,7 @@ path-returns-2 t c =
     let node = c .before .before .before .before .before .before .before .before .before .before .before .node .given in
     until-done (node .0 .0) (node .0 .1 .0) (node .1)
     (c .before .before .before .before .before .before .before .before .two-formulas .ensures)
-    (c .before .before .before .before .until .ensures) (c .scaled2 .ensures)
+    (c .before .before .before .before .until-within .ensures) (c .scaled2 .ensures)
 
 path-returns-3 : (t : ℕ) → path-lts.Need-returns-3 (path-claims t) (path-at t) path.Post
 path-returns-3 t c = no-path _ (c .before .enum-told2 .given .1) (λ p q it. it)
@@ -1251,8 +1245,8 @@ pub +combined+expression+path+state-formula+two-expressions+two-formulas-spec :
       scaled-reads.Learnt,
       two-formulas-below t,
       two-formulas.Post,
-      until-reads.Asked,
-      until-reads.Learnt,
+      until-within-reads.Asked,
+      until-within-reads.Learnt,
       nothing-reads.Asked,
       nothing-reads.Learnt,
     )
@@ -1268,9 +1262,7 @@ pub +combined+expression+path+state-formula+two-expressions+two-formulas-spec :
     (path-enum-known-node t)
     (path-add-two-formulas t)
     (path-two-formulas-requires t)
-    (path-cast-until t)
-    (path-cast-until-2 t)
-    (path-until-requires t)
+    (path-until-within-requires t)
     (path-cast-scaled t)
     (path-mul-scaled t)
     (path-scaled-requires-2 t)
