@@ -63,7 +63,7 @@ pub every-none : (test : ℕ → Bool) → every 0 test ≡ true
 unfolding every
 every-none test = refl
 
--- two tests that are met
+-- two tests that are met are met together
 pub and-true : {a b : Bool} → a ≡ true → b ≡ true → (a && b) ≡ true
 and-true p q = ap₂ (λ (a b : Bool). a && b) p q
 

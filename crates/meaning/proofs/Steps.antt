@@ -101,7 +101,7 @@ module _ (c : Chain) (sound : Sound c) where
       step-same c n _ (λ t. c .D ^ (n * k)) (λ t m. runs-total n k m) s ∙
       step-denominator n k i
 
--- a run that is taken weighs no more than it does
+-- a run adds its weight or nothing
 taken-le : (b : Bool) (x : ℕ) → cond b x 0 ≤ x
 taken-le true x = omega arith
 taken-le false x = omega arith

@@ -27,7 +27,7 @@ pub and-right : (a b : Bool) → (a && b) ≡ true → b ≡ true
 and-right true b e = e
 and-right false b e = absurd (false≢true e)
 
--- two tests that are met
+-- two tests that are met are met together
 pub and-both : {a b : Bool} → a ≡ true → b ≡ true → (a && b) ≡ true
 and-both {a = a} {b = b} p q = ap₂ _&&_ p q
 
