@@ -9,7 +9,7 @@ use lib.Dec.{T, ltb}
 use lib.IntN.{ℤ, pos, negsuc, negℤ, natAbs, _+ℤ_, _-ℤ_, +ℤ-idl}
 use lib.Signed.{mag, ltZ, nonNeg}
 use mir.Syntax.{w64}
-use mir.Val.{SFits, toZ, ofZ}
+use mir.Val.{Fits, SFits, toZ, ofZ}
 use mir.Facts.{toZ-ofZ}
 use Rattle.meaning.proofs.Magnitude.{abs-diff}
 use Rattle.fractions.specs.Codes.{coded, decoded, Small}
@@ -55,8 +55,8 @@ decoded-fits x h = here (ltb x (2 ^ 63)) refl
         let l = ltb-false x (2 ^ 63) e in
         neg-fits (x - 2 ^ 63) (omega arith)
 
-pub decoded-reads : {z : ℤ} (x : ℕ) → x < 2 ^ 64 → z ≡ decoded x → toZ w64 (ofZ w64 z) ≡ decoded x
-decoded-reads x h e = ap (λ (z : ℤ). toZ w64 (ofZ w64 z)) e ∙ toZ-ofZ (decoded-fits x h)
+pub decoded-reads : {z : ℤ} {x : ℕ} → Fits w64 x → z ≡ decoded x → toZ w64 (ofZ w64 z) ≡ decoded x
+decoded-reads {x = x} h e = ap (λ (z : ℤ). toZ w64 (ofZ w64 z)) e ∙ toZ-ofZ (decoded-fits x (h .fits))
 
 pub minus-fits : (z : ℤ) → natAbs z ≤ 2 ^ 62 → natAbs (pos 0 -ℤ z) ≤ 2 ^ 62
 minus-fits z h = omega (arith, abs-diff (pos 0) z)

@@ -1,6 +1,6 @@
 -- What the size rule's bound gives the operations: each cross product and each result is within 2^62.
 use Prim.Native.Nat.{ℕ, _+_, _*_, _^_, _≤_}
-use mathlib.Core.Path.{_≡_, sym, ap, ap₂, subst, _∙_}
+use mathlib.Core.Path.{_≡_, sym, ap, ap₂, subst, subst₂, _∙_}
 use native.Mathlib.Nat.{le-trans, le-of-eq}
 use native.Mathlib.Omega.{arith}
 use lib.IntN.{ℤ, pos, natAbs, _+ℤ_, _-ℤ_, _*ℤ_}
@@ -12,8 +12,9 @@ use Rattle.meaning.specs.Size.{addS, mulS}
 use Rattle.meaning.proofs.Magnitude.{abs-mul, abs-add, abs-diff}
 use Rattle.fractions.specs.declared.Operation.{Operation}
 use Rattle.fractions.specs.declared.Operation.the-variants.{Sum, Difference, Product}
+use Rattle.fractions.specs.declared.Making.{Making}
 use Rattle.fractions.specs.Codes.{Small}
-use Rattle.fractions.specs.Operations.{over, operated, sized, OperandsFit, CrossesFit}
+use Rattle.fractions.specs.Operations.{over, operated, sized, OperandsFit, Fits, madeCode}
 use Rattle.fractions.proofs.Magnitude.{small-fits}
 
 -- a result is read back as what its contract says
@@ -68,12 +69,10 @@ operated-small Difference {a} {b} {d1} {d2} fits =
     record { size = omega (arith, fits .bound, abs-diff (a *ℤ pos d2) (b *ℤ pos d1)) }
 operated-small Product {a} {b} fits = record { size = le-trans (le-of-eq (abs-mul a b)) (fits .bound) }
 
--- what fits two numbers fits them as they are read back
-pub operands-same : {op : Operation} {a b a′ b′ : ℤ} {d1 d2 : ℕ} → a′ ≡ a → b′ ≡ b → OperandsFit op a d1 b d2 →
-    OperandsFit op a′ d1 b′ d2
-operands-same {op} {b = b} {a′ = a′} {d1 = d1} {d2 = d2} p q h =
-    subst (λ (y : ℤ). OperandsFit op a′ d1 y d2) (sym q) (subst (λ (x : ℤ). OperandsFit op x d1 b d2) (sym p) h)
+-- at the making that is known, and of two numbers as they are read back, the same fits and the same is made
+module _ (d1 d2 : ℕ) {making known : Making} {a b a′ b′ : ℤ} (e : making ≡ known) (p : a′ ≡ a) (q : b′ ≡ b) where
+  pub fits-as : Fits making d1 d2 a b → Fits known d1 d2 a′ b′
+  fits-as h = subst₂ (Fits known d1 d2) (sym p) (sym q) (subst (λ m. Fits m d1 d2 a b) e h)
 
-pub crosses-same : {a b a′ b′ : ℤ} {d1 d2 : ℕ} → a′ ≡ a → b′ ≡ b → CrossesFit a d1 b d2 → CrossesFit a′ d1 b′ d2
-crosses-same {b = b} {a′ = a′} {d1 = d1} {d2 = d2} p q h =
-    subst (λ (y : ℤ). CrossesFit a′ d1 y d2) (sym q) (subst (λ (x : ℤ). CrossesFit x d1 b d2) (sym p) h)
+  pub made-as : madeCode known d1 d2 a′ b′ ≡ madeCode making d1 d2 a b
+  made-as = ap₂ (madeCode known d1 d2) p q ∙ sym (ap (λ m. madeCode m d1 d2 a b) e)

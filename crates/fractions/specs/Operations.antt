@@ -12,6 +12,8 @@ use Rattle.fractions.specs.declared.Operation.{Operation}
 use Rattle.fractions.specs.declared.Operation.the-variants.{Sum, Difference, Product}
 use Rattle.fractions.specs.declared.Relation.{Relation}
 use Rattle.fractions.specs.declared.Relation.the-variants.{Less, AtMost, Equal, AtLeast, Greater}
+use Rattle.fractions.specs.declared.Making.{Making}
+use Rattle.fractions.specs.declared.Making.the-variants.{Operated, Compared}
 use Rattle.fractions.specs.Codes.{coded, decoded}
 
 -- a numerator over a denominator
@@ -50,27 +52,35 @@ pub record CrossesFit (a : ℤ) (d1 : ℕ) (b : ℤ) (d2 : ℕ) : Type 0 where
   pub first : natAbs a * d2 ≤ 2 ^ 62
   pub second : natAbs b * d1 ≤ 2 ^ 62
 
--- the code of what an operation makes of the numerators of two codes
-abbrev pub operatedCode : Operation → (d1 d2 x y : ℕ) → ℕ
-operatedCode op d1 d2 x y = coded (operated op (over (decoded x) d1) (over (decoded y) d2) .top)
+-- what is made of two numerators fits: the operation does, or both cross products do
+abbrev pub Fits : Making → (d1 d2 : ℕ) → ℤ → ℤ → Type 0
+Fits (Operated op) d1 d2 a b = OperandsFit op a d1 b d2
+Fits (Compared r) d1 d2 a b = CrossesFit a d1 b d2
 
--- 1 where the fractions of two codes are so related, and 0 elsewhere
-abbrev pub comparedCode : Relation → (d1 d2 x y : ℕ) → ℕ
-comparedCode r d1 d2 x y = cond (compared (relationOf r) (over (decoded x) d1) (over (decoded y) d2)) 1 0
+-- what is made of two numerators: the code of what an operation makes, or 1 where the fractions are so related, and 0
+-- elsewhere
+abbrev pub madeCode : Making → (d1 d2 : ℕ) → ℤ → ℤ → ℕ
+madeCode (Operated op) d1 d2 a b = coded (operated op (over a d1) (over b d2) .top)
+madeCode (Compared r) d1 d2 a b = cond (compared (relationOf r) (over a d1) (over b d2)) 1 0
 
--- what stands at place k of two layers of codes, combined and compared
+-- what stands at place k of two layers of codes, made into one; combined, and compared
+abbrev pub madeAt : Making → (d1 d2 T : ℕ) → List ℕ → ℕ → ℕ
+madeAt making d1 d2 T w k = madeCode making d1 d2 (decoded (getD w k 0)) (decoded (getD w (T + k) 0))
+
 abbrev pub combinedAt : Operation → (d1 d2 T : ℕ) → List ℕ → ℕ → ℕ
-combinedAt op d1 d2 T w k = operatedCode op d1 d2 (getD w k 0) (getD w (T + k) 0)
+combinedAt op = madeAt (Operated op)
 
 abbrev pub comparedAt : Relation → (d1 d2 T : ℕ) → List ℕ → ℕ → ℕ
-comparedAt r d1 d2 T w k = comparedCode r d1 d2 (getD w k 0) (getD w (T + k) 0)
+comparedAt r = madeAt (Compared r)
 
--- two layers lie in the list, and at each place the operation fits
-pub record CombineFits (op : Operation) (d1 d2 T : ℕ) (w : List ℕ) : Type 0 where
+-- two layers lie in the list, and at each place their numerators fit
+pub record LayersFit (fit : ℤ → ℤ → Type 0) (T : ℕ) (w : List ℕ) : Type 0 where
   pub room : T + T ≤ length w
-  pub fits : (k : ℕ) → k < T → OperandsFit op (decoded (getD w k 0)) d1 (decoded (getD w (T + k) 0)) d2
+  pub fits : (k : ℕ) → k < T → fit (decoded (getD w k 0)) (decoded (getD w (T + k) 0))
 
--- two layers lie in the list, and at each place the cross products fit
-pub record CompareFits (d1 d2 T : ℕ) (w : List ℕ) : Type 0 where
-  pub room : T + T ≤ length w
-  pub fits : (k : ℕ) → k < T → CrossesFit (decoded (getD w k 0)) d1 (decoded (getD w (T + k) 0)) d2
+-- they fit the operation, and their cross products fit
+abbrev pub CombineFits : Operation → (d1 d2 T : ℕ) → List ℕ → Type 0
+CombineFits op d1 d2 T w = LayersFit (λ a b. OperandsFit op a d1 b d2) T w
+
+abbrev pub CompareFits : (d1 d2 T : ℕ) → List ℕ → Type 0
+CompareFits d1 d2 T w = LayersFit (λ a b. CrossesFit a d1 b d2) T w

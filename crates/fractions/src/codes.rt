@@ -4,29 +4,23 @@ ghost use Prim.Native.Nat.{_≤_};
 ghost use lib.ListN.{length};
 ghost use Rattle.layers.specs.Layers.{Written};
 ghost use Rattle.fractions.specs.Codes.{decoded};
-ghost use Rattle.fractions.specs.Operations.{OperandsFit, CrossesFit, operatedCode, comparedCode};
+ghost use Rattle.fractions.specs.Operations.{Fits, LayersFit, madeCode, madeAt};
 ghost use Rattle.fractions.specs.Operations.{combinedAt, comparedAt, CombineFits, CompareFits};
+use crate::Making;
 use crate::Operation;
 use crate::Relation;
 use crate::signs;
 
-// An operation on the numerators of two codes.
-fn operate_codes(op: Operation, d1: u64, d2: u64, x: u64, y: u64) -> u64
-    requires { ⌜ OperandsFit op (decoded x) d1 (decoded y) d2 ⌝ }
-    ensures { λ r. ⌜ r ≡ operatedCode op d1 d2 x y ⌝ }
+// What is made of the numerators of two codes: the code of a numerator, or 1 where the comparison holds and 0 elsewhere.
+fn made(making: Making, d1: u64, d2: u64, x: u64, y: u64) -> u64
+    requires { ⌜ Fits making d1 d2 (decoded x) (decoded y) ⌝ }
+    ensures { λ r. ⌜ r ≡ madeCode making d1 d2 (decoded x) (decoded y) ⌝ }
 {
-    signs::code(crate::operate(op, signs::decode(x), d1, signs::decode(y), d2))
-}
-
-// 1 where the fractions of two codes are so related, and 0 elsewhere.
-fn compare_codes(relation: Relation, d1: u64, d2: u64, x: u64, y: u64) -> u64
-    requires { ⌜ CrossesFit (decoded x) d1 (decoded y) d2 ⌝ }
-    ensures { λ r. ⌜ r ≡ comparedCode relation d1 d2 x y ⌝ }
-{
-    if crate::compare(relation, signs::decode(x), d1, signs::decode(y), d2) {
-        1
-    } else {
-        0
+    let a = signs::decode(x);
+    let b = signs::decode(y);
+    match making {
+        Making::Operated(op) => signs::code(crate::operate(op, a, d1, b, d2)),
+        Making::Compared(relation) => crate::compare(relation, a, d1, b, d2) as u64,
     }
 }
 
@@ -38,16 +32,24 @@ pub fn constant(top: u64, tuples: usize, work: &mut [u64])
     layers::plain::fill(top, tuples, work);
 }
 
+// What is made of the front layer and the second, into the front layer.
+fn make(making: Making, d1: u64, d2: u64, tuples: usize, work: &mut [u64])
+    requires { ⌜ LayersFit (Fits making d1 d2) tuples (now work) ⌝ }
+    ensures { λ r. ⌜ Written tuples (madeAt making d1 d2 tuples (now (work .entry))) (now (work .entry)) (now (work .exit)) ⌝ }
+{
+    let mut k: usize = 0;
+    while k < tuples {
+        work[k] = made(making, d1, d2, work[k], work[tuples + k]);
+        k += 1;
+    }
+}
+
 // Sum, difference or product of the front layer and the second, into the front layer.
 pub fn combine(op: Operation, d1: u64, d2: u64, tuples: usize, work: &mut [u64])
     requires { ⌜ CombineFits op d1 d2 tuples (now work) ⌝ }
     ensures { λ r. ⌜ Written tuples (combinedAt op d1 d2 tuples (now (work .entry))) (now (work .entry)) (now (work .exit)) ⌝ }
 {
-    let mut k: usize = 0;
-    while k < tuples {
-        work[k] = operate_codes(op, d1, d2, work[k], work[tuples + k]);
-        k += 1;
-    }
+    make(Making::Operated(op), d1, d2, tuples, work);
 }
 
 // The truth of a comparison of the front layer and the second, into the front layer.
@@ -55,9 +57,5 @@ pub fn compare(relation: Relation, d1: u64, d2: u64, tuples: usize, work: &mut [
     requires { ⌜ CompareFits d1 d2 tuples (now work) ⌝ }
     ensures { λ r. ⌜ Written tuples (comparedAt relation d1 d2 tuples (now (work .entry))) (now (work .entry)) (now (work .exit)) ⌝ }
 {
-    let mut k: usize = 0;
-    while k < tuples {
-        work[k] = compare_codes(relation, d1, d2, work[k], work[tuples + k]);
-        k += 1;
-    }
+    make(Making::Compared(relation), d1, d2, tuples, work);
 }

@@ -23,6 +23,12 @@ pub enum Relation {
     Greater,
 }
 
+// What is made of two numerators: that of an operation, or the truth of a comparison.
+pub enum Making {
+    Operated(Operation),
+    Compared(Relation),
+}
+
 // The numerator of a sum, a difference or a product: of two numerators over their denominators.
 pub fn operate(op: Operation, a: i64, d1: u64, b: i64, d2: u64) -> i64
     requires { ⌜ OperandsFit op a d1 b d2 ⌝ }
