@@ -1,20 +1,20 @@
 -- What the size rule's bound gives the operations: each cross product and each result is within 2^62.
 use Prim.Native.Nat.{ℕ, _+_, _*_, _^_, _≤_}
-use mathlib.Core.Path.{_≡_, sym, ap, ap₂, subst, subst₂, _∙_}
+use mathlib.Core.Path.{_≡_, refl, sym, ap, ap₂, subst, subst₂, _∙_}
 use native.Mathlib.Nat.{le-trans, le-of-eq}
 use native.Mathlib.Omega.{arith}
-use lib.IntN.{ℤ, pos, natAbs, _+ℤ_, _-ℤ_, _*ℤ_}
+use lib.IntN.{ℤ, pos, natAbs, _*ℤ_}
 use mir.Syntax.{w64}
 use mir.Val.{SFits, toZ, ofZ}
 use mir.Facts.{toZ-ofZ}
 use Rattle.meaning.specs.Meaning.{addF, subF, mulF}
-use Rattle.meaning.specs.Size.{addS, mulS}
+use Rattle.meaning.specs.Size.{Size, addS, mulS}
 use Rattle.meaning.proofs.Magnitude.{abs-mul, abs-add, abs-diff}
 use Rattle.fractions.specs.declared.Operation.{Operation}
 use Rattle.fractions.specs.declared.Operation.the-variants.{Sum, Difference, Product}
 use Rattle.fractions.specs.declared.Making.{Making}
-use Rattle.fractions.specs.Codes.{Small}
-use Rattle.fractions.specs.Operations.{over, operated, sized, OperandsFit, Fits, madeCode}
+use Rattle.fractions.specs.Codes.{Small, CrossFits}
+use Rattle.fractions.specs.Operations.{over, operated, sized, OperandsFit, CrossesFit, Fits, madeCode}
 use Rattle.fractions.proofs.Magnitude.{small-fits}
 
 -- a result is read back as what its contract says
@@ -26,48 +26,72 @@ pub sizes-fit : (f : ℕ → ℕ → ℕ) {a b a′ b′ : ℤ} → a′ ≡ a �
     f (natAbs a′) (natAbs b′) ≤ 2 ^ 62
 sizes-fit f p q h = subst (λ (x : ℕ). x ≤ 2 ^ 62) (sym (ap₂ (λ (x y : ℤ). f (natAbs x) (natAbs y)) p q)) h
 
-pub size-fits : (d : ℕ) {a a′ : ℤ} → a′ ≡ a → natAbs a * d ≤ 2 ^ 62 → natAbs a′ * d ≤ 2 ^ 62
-size-fits d p h = subst (λ (x : ℤ). natAbs x * d ≤ 2 ^ 62) (sym p) h
+-- ---- a cross product
 
--- a cross product, read back
-pub cross-size : (a : ℤ) (d : ℕ) → natAbs a * d ≤ 2 ^ 62 → natAbs (a *ℤ pos d) ≤ 2 ^ 62
-cross-size a d h = le-trans (le-of-eq (abs-mul a (pos d))) h
+pub cross-size : {a : ℤ} {d : ℕ} → CrossFits a d → natAbs (a *ℤ pos d) ≤ 2 ^ 62
+cross-size {a} {d} h = le-trans (le-of-eq (abs-mul a (pos d))) (h .size)
 
-pub cross-back : (d : ℕ) {z a a′ : ℤ} → z ≡ a′ *ℤ pos d → a′ ≡ a → natAbs a * d ≤ 2 ^ 62 →
-    toZ w64 (ofZ w64 z) ≡ a *ℤ pos d
-cross-back d {z} {a} {a′} e p h = back (e ∙ ap (λ (x : ℤ). x *ℤ pos d) p) (cross-size a d h)
+-- of a number as it is read back: it is asked for, and comes back as what it is
+module _ {a : ℤ} {d : ℕ} (h : CrossFits a d) (fits : SFits w64 a) where
+  pub cross-asked : CrossFits (toZ w64 (ofZ w64 a)) d
+  cross-asked = subst (λ x. CrossFits x d) (sym (toZ-ofZ fits)) h
 
-pub crosses-size : (a b : ℤ) (d1 d2 : ℕ) → natAbs a * d2 + natAbs b * d1 ≤ 2 ^ 62 →
-    natAbs (a *ℤ pos d2) + natAbs (b *ℤ pos d1) ≤ 2 ^ 62
-crosses-size a b d1 d2 h =
-    let p = abs-mul a (pos d2) in
-    let q = abs-mul b (pos d1) in
-    omega arith
+  pub cross-back : {z : ℤ} → z ≡ toZ w64 (ofZ w64 a) *ℤ pos d → toZ w64 (ofZ w64 z) ≡ a *ℤ pos d
+  cross-back e = back (e ∙ ap (λ x. x *ℤ pos d) (toZ-ofZ fits)) (cross-size h)
 
--- the bound, by the operation
-pub bound-at : {op o : Operation} {a b : ℤ} {d1 d2 : ℕ} → OperandsFit op a d1 b d2 → op ≡ o →
-    sized o (record { d = d1; m = natAbs a }) (record { d = d2; m = natAbs b }) .m ≤ 2 ^ 62
-bound-at {a = a} {b = b} {d1 = d1} {d2 = d2} fits e =
-    subst (λ o. sized o (record { d = d1; m = natAbs a }) (record { d = d2; m = natAbs b }) .m ≤ 2 ^ 62) e (fits .bound)
+-- what is made of two of them is made of what they are
+pub crosses-back : {A : Type 0} (f : ℤ → ℤ → A) {a b x y : ℤ} {d1 d2 : ℕ} → CrossesFit a d1 b d2 →
+    SFits w64 a → SFits w64 b → x ≡ toZ w64 (ofZ w64 a) *ℤ pos d2 → y ≡ toZ w64 (ofZ w64 b) *ℤ pos d1 →
+    f (toZ w64 (ofZ w64 x)) (toZ w64 (ofZ w64 y)) ≡ f (a *ℤ pos d2) (b *ℤ pos d1)
+crosses-back f h fits-a fits-b p q = ap₂ f (cross-back (h .first) fits-a p) (cross-back (h .second) fits-b q)
 
--- the result, by the operation
-pub operated-as : {op o : Operation} → op ≡ o → (a : ℤ) (d1 : ℕ) (b : ℤ) (d2 : ℕ) →
-    operated o (over a d1) (over b d2) .top ≡ operated op (over a d1) (over b d2) .top
-operated-as e a d1 b d2 = sym (ap (λ o. operated o (over a d1) (over b d2) .top) e)
+-- ---- an operation
+
+-- the bound, by what the size rule makes of the sizes
+pub bound-by : {op : Operation} {a b : ℤ} {d1 d2 : ℕ} {f : Size → Size → Size} → OperandsFit op a d1 b d2 →
+    sized op ≡ f → f (record { d = d1; m = natAbs a }) (record { d = d2; m = natAbs b }) .m ≤ 2 ^ 62
+bound-by {a = a} {b = b} {d1 = d1} {d2 = d2} fits e =
+    subst (λ g. g (record { d = d1; m = natAbs a }) (record { d = d2; m = natAbs b }) .m ≤ 2 ^ 62) e (fits .bound)
+
+-- the two cross products of a sum or a difference: each fits, and so do both together
+pub record Crossed (a : ℤ) (d1 : ℕ) (b : ℤ) (d2 : ℕ) : Type 0 where
+  pub each : CrossesFit a d1 b d2
+  pub both : natAbs (a *ℤ pos d2) + natAbs (b *ℤ pos d1) ≤ 2 ^ 62
+
+pub crossed : {op : Operation} {a b : ℤ} {d1 d2 : ℕ} → OperandsFit op a d1 b d2 → sized op ≡ addS → Crossed a d1 b d2
+unfolding addS
+crossed {a = a} {b = b} {d1 = d1} {d2 = d2} fits e =
+    let bound = bound-by fits e in
+    record {
+      each = record {
+        first = record { small = fits .right; size = omega arith };
+        second = record { small = fits .left; size = omega arith };
+      };
+      both = omega (arith, abs-mul a (pos d2), abs-mul b (pos d1));
+    }
+
+-- together they fit as they come back
+pub crosses-fit : {a b x y : ℤ} {d1 d2 : ℕ} → Crossed a d1 b d2 → SFits w64 a → SFits w64 b →
+    x ≡ toZ w64 (ofZ w64 a) *ℤ pos d2 → y ≡ toZ w64 (ofZ w64 b) *ℤ pos d1 →
+    natAbs (toZ w64 (ofZ w64 x)) + natAbs (toZ w64 (ofZ w64 y)) ≤ 2 ^ 62
+crosses-fit h fits-a fits-b p q =
+    le-trans (le-of-eq (crosses-back (λ x y. natAbs x + natAbs y) (h .each) fits-a fits-b p q)) (h .both)
 
 -- the result is as small
 pub operated-small : (op : Operation) {a b : ℤ} {d1 d2 : ℕ} → OperandsFit op a d1 b d2 →
     Small (operated op (over a d1) (over b d2) .top)
-unfolding operated addF subF mulF sized addS mulS
+unfolding operated addF subF mulF sized mulS
 operated-small Sum {a} {b} {d1} {d2} fits =
-    let p = abs-mul a (pos d2) in
-    let q = abs-mul b (pos d1) in
-    record { size = omega (arith, fits .bound, abs-add (a *ℤ pos d2) (b *ℤ pos d1)) }
+    record { size = le-trans (abs-add (a *ℤ pos d2) (b *ℤ pos d1)) (crossed fits refl .both) }
 operated-small Difference {a} {b} {d1} {d2} fits =
-    let p = abs-mul a (pos d2) in
-    let q = abs-mul b (pos d1) in
-    record { size = omega (arith, fits .bound, abs-diff (a *ℤ pos d2) (b *ℤ pos d1)) }
+    record { size = le-trans (abs-diff (a *ℤ pos d2) (b *ℤ pos d1)) (crossed fits refl .both) }
 operated-small Product {a} {b} fits = record { size = le-trans (le-of-eq (abs-mul a b)) (fits .bound) }
+
+-- and is read back as what it is, by the operation
+pub operated-back : {op o : Operation} {z a b : ℤ} {d1 d2 : ℕ} → OperandsFit op a d1 b d2 → op ≡ o →
+    z ≡ operated o (over a d1) (over b d2) .top → toZ w64 (ofZ w64 z) ≡ operated op (over a d1) (over b d2) .top
+operated-back {op} {a = a} {b = b} {d1 = d1} {d2 = d2} fits e p =
+    back (p ∙ sym (ap (λ o. operated o (over a d1) (over b d2) .top) e)) (operated-small op fits .size)
 
 -- at the making that is known, and of two numbers as they are read back, the same fits and the same is made
 module _ (d1 d2 : ℕ) {making known : Making} {a b a′ b′ : ℤ} (e : making ≡ known) (p : a′ ≡ a) (q : b′ ≡ b) where

@@ -1,20 +1,20 @@
 -- What the layers of codes mean: from the layers of two expressions, that of their sum, difference or product, and the
 -- truth of their comparison; and that the size rule gives what the calls ask.
-use Prim.Native.Nat.{ℕ, _+_, _*_, _^_, _≤_, _<_}
+use Prim.Native.Nat.{ℕ, _+_, _^_, _≤_, _<_}
 use mathlib.Core.Bool.{Bool, false, cond, _||_}
 use mathlib.Core.List.{List}
-use mathlib.Core.Path.{_≡_, refl, sym, ap, ap₂, subst, _∙_}
+use mathlib.Core.Path.{_≡_, refl, sym, ap, ap₂, _∙_}
 use native.Mathlib.Nat.{le-trans, le-of-eq, mul-le-mul, mul-le-mul-right}
 use native.Mathlib.Omega.{arith}
-use lib.IntN.{ℤ, pos, natAbs}
+use lib.IntN.{natAbs}
 use lib.ListN.{length, getD, drop}
 use lib.Seq.{getD-drop}
-use Rattle.meaning.specs.Chain.{Chain, Sound, Tuple, Inside}
+use Rattle.meaning.specs.Chain.{Chain, Sound, Tuple}
 use Rattle.meaning.specs.Tree as tree
 use Rattle.meaning.specs.Tree.{Expression, probability, constant, PathFormula}
-use Rattle.meaning.specs.Meaning.{Fraction, value, holds, numerator, compared}
-use Rattle.meaning.specs.Size.{Size, size, addS, mulS, exceeds, exceedsIn, largeSize, largeCross}
-use Rattle.meaning.proofs.Bounds.{Within, value-within, size-fits, cross-fits, top-fits}
+use Rattle.meaning.specs.Meaning.{value, holds, numerator, compared}
+use Rattle.meaning.specs.Size.{size, addS, mulS, exceeds, exceedsIn, largeSize, largeCross}
+use Rattle.meaning.proofs.Bounds.{value-within, size-fits, cross-fits, top-fits}
 use Rattle.meaning.proofs.Numbers.{tupleOf, tuple-inside}
 use Rattle.meaning.proofs.Tests.{or-left, or-right}
 use Rattle.layers.specs.Layers.{Layer, truth, Written}
@@ -22,7 +22,7 @@ use Rattle.layers.proofs.Truth.{written-layer}
 use Rattle.fractions.specs.declared.Operation.{Operation}
 use Rattle.fractions.specs.declared.Operation.the-variants.{Sum, Difference, Product}
 use Rattle.fractions.specs.declared.Relation.{Relation}
-use Rattle.fractions.specs.Codes.{coded, decoded, Small}
+use Rattle.fractions.specs.Codes.{coded, decoded}
 use Rattle.fractions.specs.Operations.{over, operated, sized, relationOf, combinedAt, comparedAt}
 use Rattle.fractions.specs.Operations.{CombineFits, CompareFits}
 use Rattle.fractions.specs.Values.{numerators, expressionOf}
@@ -92,45 +92,34 @@ pub constant-layer : {N n T : ℕ} → T ≡ N ^ n → (a b : ℕ) (c : Chain) {
 unfolding value
 constant-layer whole a b c h = written-layer whole h (λ k l. refl)
 
--- ---- two layers, of two expressions that the size rule does not refuse
+-- ---- the code at tuple k, of an expression that the size rule does not refuse
+
+-- with the denominator of the size rule it is the value, and it is within the rule's bound
+record Stands (c : Chain) (n : ℕ) (a : Expression) (k x : ℕ) : Type 0 where
+  pub is : over (decoded x) (size a (c .D) n .d) ≡ value a c n (tupleOf (c .N) n k)
+  pub small : natAbs (decoded x) ≤ size a (c .D) n .m
+
+stands : (c : Chain) → Sound c → {n k x : ℕ} (a : Expression) → exceedsIn a (c .D) n ≡ false → k < c .N ^ n →
+    x ≡ numerators a c n (tupleOf (c .N) n k) → Stands c n a k x
+stands c sound {n} {k} a fits l at =
+    let within = value-within a c sound n (tuple-inside (c .N) n k l) in
+    let top = ap decoded at ∙
+    decoded-coded (value a c n (tupleOf (c .N) n k) .top)
+    (record { size = top-fits a c sound n fits (tuple-inside (c .N) n k l) }) in
+    record {
+      is = ap₂ over top (sym (within .bottom));
+      small = le-trans (le-of-eq (ap natAbs top)) (within .top);
+    }
+
+-- ---- two layers, of two such expressions
 module _ (c : Chain) (sound : Sound c) {n T : ℕ} (whole : T ≡ c .N ^ n) (a b : Expression)
     (small-a : exceedsIn a (c .D) n ≡ false) (small-b : exceedsIn b (c .D) n ≡ false) {w : List ℕ}
     (one : Layer (c .N) n (numerators a c n) w) (two : Layer (c .N) n (numerators b c n) (drop T w)) where
-  -- what stands there is decoded to the numerators
-  first-is : (k : ℕ) → k < T → decoded (getD w k 0) ≡ value a c n (tupleOf (c .N) n k) .top
-  first-is k l =
-      let inside : k < c .N ^ n = omega arith in
-      ap decoded (one .at k inside) ∙
-      decoded-coded (value a c n (tupleOf (c .N) n k) .top)
-      (record { size = top-fits a c sound n small-a (tuple-inside (c .N) n k inside) })
+  first : (k : ℕ) → k < T → Stands c n a k (getD w k 0)
+  first k l = stands c sound a small-a (omega arith) (one .at k (omega arith))
 
-  second-is : (k : ℕ) → k < T → decoded (getD w (T + k) 0) ≡ value b c n (tupleOf (c .N) n k) .top
-  second-is k l =
-      let inside : k < c .N ^ n = omega arith in
-      ap decoded (sym (getD-drop T w k 0) ∙ two .at k inside) ∙
-      decoded-coded (value b c n (tupleOf (c .N) n k) .top)
-      (record { size = top-fits b c sound n small-b (tuple-inside (c .N) n k inside) })
-
-  -- and with the denominators of the size rule they are the values
-  first-value : (k : ℕ) → k < T →
-      over (decoded (getD w k 0)) (size a (c .D) n .d) ≡ value a c n (tupleOf (c .N) n k)
-  first-value k l =
-      ap₂ over (first-is k l) (sym (value-within a c sound n (tuple-inside (c .N) n k (omega arith)) .bottom))
-
-  second-value : (k : ℕ) → k < T →
-      over (decoded (getD w (T + k) 0)) (size b (c .D) n .d) ≡ value b c n (tupleOf (c .N) n k)
-  second-value k l =
-      ap₂ over (second-is k l) (sym (value-within b c sound n (tuple-inside (c .N) n k (omega arith)) .bottom))
-
-  first-le : (k : ℕ) → k < T → natAbs (decoded (getD w k 0)) ≤ size a (c .D) n .m
-  first-le k l =
-      le-trans (le-of-eq (ap natAbs (first-is k l)))
-      (value-within a c sound n (tuple-inside (c .N) n k (omega arith)) .top)
-
-  second-le : (k : ℕ) → k < T → natAbs (decoded (getD w (T + k) 0)) ≤ size b (c .D) n .m
-  second-le k l =
-      le-trans (le-of-eq (ap natAbs (second-is k l)))
-      (value-within b c sound n (tuple-inside (c .N) n k (omega arith)) .top)
+  second : (k : ℕ) → k < T → Stands c n b k (getD w (T + k) 0)
+  second k l = stands c sound b small-b (omega arith) (sym (getD-drop T w k 0) ∙ two .at k (omega arith))
 
   -- what `combine` asks, and what it makes
   pub combine-fits : (op : Operation) → exceedsIn (expressionOf op a b) (c .D) n ≡ false → T + T ≤ length w →
@@ -141,7 +130,7 @@ module _ (c : Chain) (sound : Sound c) {n T : ℕ} (whole : T ≡ c .N ^ n) (a b
       left = size-fits a (c .D) n small-a .0;
       right = size-fits b (c .D) n small-b .0;
       bound =
-          le-trans (sized-mono op (size a (c .D) n .d) (size b (c .D) n .d) (first-le k l) (second-le k l))
+          le-trans (sized-mono op (size a (c .D) n .d) (size b (c .D) n .d) (first k l .small) (second k l .small))
           (le-trans (le-of-eq (ap (λ z. z .m) (sym (size-of op a b (c .D) n))))
           (size-fits (expressionOf op a b) (c .D) n small .1));
     };
@@ -152,7 +141,7 @@ module _ (c : Chain) (sound : Sound c) {n T : ℕ} (whole : T ≡ c .N ^ n) (a b
       Layer (c .N) n (numerators (expressionOf op a b) c n) after
   combine-layer op h = written-layer whole h
       (λ k l.
-      ap₂ (λ x y. coded (operated op x y .top)) (first-value k (omega arith)) (second-value k (omega arith)) ∙
+      ap₂ (λ x y. coded (operated op x y .top)) (first k (omega arith) .is) (second k (omega arith) .is) ∙
       ap (λ x. coded (x .top)) (sym (value-of op a b c n (tupleOf (c .N) n k))))
 
   -- what `compare` asks, and what it makes
@@ -161,12 +150,16 @@ module _ (c : Chain) (sound : Sound c) {n T : ℕ} (whole : T ≡ c .N ^ n) (a b
   compare-fits r small room = record {
     room = room;
     fits = λ k l. record {
-      left = size-fits a (c .D) n small-a .0;
-      right = size-fits b (c .D) n small-b .0;
-      first = le-trans (mul-le-mul-right (size b (c .D) n .d) (first-le k l))
-          (cross-fits (relationOf r) a b (c .D) n small .0);
-      second = le-trans (mul-le-mul-right (size a (c .D) n .d) (second-le k l))
-          (cross-fits (relationOf r) a b (c .D) n small .1);
+      first = record {
+        small = size-fits b (c .D) n small-b .0;
+        size = le-trans (mul-le-mul-right (size b (c .D) n .d) (first k l .small))
+            (cross-fits (relationOf r) a b (c .D) n small .0);
+      };
+      second = record {
+        small = size-fits a (c .D) n small-a .0;
+        size = le-trans (mul-le-mul-right (size a (c .D) n .d) (second k l .small))
+            (cross-fits (relationOf r) a b (c .D) n small .1);
+      };
     };
   }
 
@@ -176,4 +169,4 @@ module _ (c : Chain) (sound : Sound c) {n T : ℕ} (whole : T ≡ c .N ^ n) (a b
   unfolding holds
   compare-layer r h = written-layer whole h
       (λ k l.
-      ap₂ (λ x y. cond (compared (relationOf r) x y) 1 0) (first-value k (omega arith)) (second-value k (omega arith)))
+      ap₂ (λ x y. cond (compared (relationOf r) x y) 1 0) (first k (omega arith) .is) (second k (omega arith) .is))

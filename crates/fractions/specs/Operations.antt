@@ -1,6 +1,6 @@
 -- The operations and the comparison of two numerators over their denominators, in the words of the meaning and of the
 -- size rule.
-use Prim.Native.Nat.{ℕ, _+_, _*_, _^_, _≤_, _<_}
+use Prim.Native.Nat.{ℕ, _+_, _^_, _≤_, _<_}
 use mathlib.Core.Bool.{cond}
 use mathlib.Core.List.{List}
 use lib.IntN.{ℤ, natAbs}
@@ -14,7 +14,7 @@ use Rattle.fractions.specs.declared.Relation.{Relation}
 use Rattle.fractions.specs.declared.Relation.the-variants.{Less, AtMost, Equal, AtLeast, Greater}
 use Rattle.fractions.specs.declared.Making.{Making}
 use Rattle.fractions.specs.declared.Making.the-variants.{Operated, Compared}
-use Rattle.fractions.specs.Codes.{coded, decoded}
+use Rattle.fractions.specs.Codes.{coded, decoded, CrossFits}
 
 -- a numerator over a denominator
 abbrev pub over : ℤ → ℕ → Fraction
@@ -45,12 +45,10 @@ pub record OperandsFit (op : Operation) (a : ℤ) (d1 : ℕ) (b : ℤ) (d2 : ℕ
   pub right : d2 ≤ 2 ^ 62
   pub bound : sized op (record { d = d1; m = natAbs a }) (record { d = d2; m = natAbs b }) .m ≤ 2 ^ 62
 
--- the denominators are at most 2^62, and so are both cross products
+-- both cross products fit
 pub record CrossesFit (a : ℤ) (d1 : ℕ) (b : ℤ) (d2 : ℕ) : Type 0 where
-  pub left : d1 ≤ 2 ^ 62
-  pub right : d2 ≤ 2 ^ 62
-  pub first : natAbs a * d2 ≤ 2 ^ 62
-  pub second : natAbs b * d1 ≤ 2 ^ 62
+  pub first : CrossFits a d2
+  pub second : CrossFits b d1
 
 -- what is made of two numerators fits: the operation does, or both cross products do
 abbrev pub Fits : Making → (d1 d2 : ℕ) → ℤ → ℤ → Type 0

@@ -2,7 +2,7 @@
 ghost use mathlib.Core.Path.{_≡_};
 ghost use Prim.Native.Nat.{_+_, _*_, _^_, _≤_, _<_};
 ghost use lib.IntN.{pos, natAbs, _+ℤ_, _-ℤ_, _*ℤ_};
-ghost use Rattle.fractions.specs.Codes.{coded, decoded, Small};
+ghost use Rattle.fractions.specs.Codes.{coded, decoded, Small, CrossFits};
 
 // A denominator as a signed number.
 fn signed(x: u64) -> i64
@@ -36,7 +36,7 @@ pub fn times(a: i64, b: i64) -> i64
 
 // A cross product: a numerator times the other's denominator.
 pub fn cross(a: i64, d: u64) -> i64
-    requires { ⌜ (d ≤ 2 ^ 62) × (natAbs a * d ≤ 2 ^ 62) ⌝ }
+    requires { ⌜ CrossFits a d ⌝ }
     ensures { λ r. ⌜ r ≡ a *ℤ pos d ⌝ }
 {
     times(a, signed(d))

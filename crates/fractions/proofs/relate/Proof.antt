@@ -1,14 +1,24 @@
 -- `fractions::relate` meets its contract, by the relation.
 use borrow.Author.Needs.{needs}
-use mathlib.Core.Bool.{_&&_}
-use mathlib.Core.Path.{sym, ap, ap₂, _∙_}
+use mathlib.Core.Bool.{Bool}
+use mathlib.Core.Path.{_≡_, refl, sym, ap, ap₂, _∙_}
 use lib.IntN.{ℤ}
-use lib.Signed.{ltZ, leZ}
 use mir.Facts.{toZ-ofZ}
+use mir.Syntax.{w64}
+use mir.Val.{SFits, toZ, ofZ}
 use Rattle.meaning.specs.Meaning.{related}
+use Rattle.fractions.specs.declared.Relation.{Relation}
 use Rattle.fractions.specs.Operations.{relationOf}
 use Rattle.fractions.proofs.relate.Statement.{statement}
 use Rattle.fractions.proofs.relate.Tie as tie
+
+-- what the known relation says of two numbers as they are read back, the relation says of them
+as-told : {relation known : Relation} {a b : ℤ} {t : Bool} → relation ≡ known → SFits w64 a → SFits w64 b →
+    t ≡ related (relationOf known) (toZ w64 (ofZ w64 a)) (toZ w64 (ofZ w64 b)) → t ≡ related (relationOf relation) a b
+as-told {known = known} {a = a} {b = b} e fits-a fits-b p =
+    p ∙
+    ap₂ (related (relationOf known)) (toZ-ofZ fits-a) (toZ-ofZ fits-b) ∙
+    sym (ap (λ r. related (relationOf r) a b) e)
 
 enum-told : tie.Need-enum-told
 enum-told c = search needs
@@ -27,48 +37,23 @@ enum-told-5 c = search needs
 
 returns : tie.Need-returns
 unfolding related
-returns c =
-    let start = c .before .before in
-    let ra = toZ-ofZ (start .fits .a) in
-    let rb = toZ-ofZ (start .fits .b) in
-    ap₂ ltZ ra rb ∙
-    sym (ap (λ r. related (relationOf r) (start .args .a) (start .args .b)) (c .enum-told .given .1))
+returns c = as-told (c .enum-told .given .1) (c .before .before .fits .a) (c .before .before .fits .b) refl
 
 returns-2 : tie.Need-returns-2
 unfolding related
-returns-2 c =
-    let start = c .before .before in
-    let ra = toZ-ofZ (start .fits .a) in
-    let rb = toZ-ofZ (start .fits .b) in
-    ap₂ leZ ra rb ∙
-    sym (ap (λ r. related (relationOf r) (start .args .a) (start .args .b)) (c .enum-told2 .given .1))
+returns-2 c = as-told (c .enum-told2 .given .1) (c .before .before .fits .a) (c .before .before .fits .b) refl
 
 returns-3 : tie.Need-returns-3
 unfolding related
-returns-3 c =
-    let start = c .before .before in
-    let ra = toZ-ofZ (start .fits .a) in
-    let rb = toZ-ofZ (start .fits .b) in
-    ap₂ (λ (x y : ℤ). leZ x y && leZ y x) ra rb ∙
-    sym (ap (λ r. related (relationOf r) (start .args .a) (start .args .b)) (c .enum-told3 .given .1))
+returns-3 c = as-told (c .enum-told3 .given .1) (c .before .before .fits .a) (c .before .before .fits .b) refl
 
 returns-4 : tie.Need-returns-4
 unfolding related
-returns-4 c =
-    let start = c .before .before in
-    let ra = toZ-ofZ (start .fits .a) in
-    let rb = toZ-ofZ (start .fits .b) in
-    ap₂ leZ rb ra ∙
-    sym (ap (λ r. related (relationOf r) (start .args .a) (start .args .b)) (c .enum-told4 .given .1))
+returns-4 c = as-told (c .enum-told4 .given .1) (c .before .before .fits .a) (c .before .before .fits .b) refl
 
 returns-5 : tie.Need-returns-5
 unfolding related
-returns-5 c =
-    let start = c .before .before in
-    let ra = toZ-ofZ (start .fits .a) in
-    let rb = toZ-ofZ (start .fits .b) in
-    ap₂ ltZ rb ra ∙
-    sym (ap (λ r. related (relationOf r) (start .args .a) (start .args .b)) (c .enum-told5 .given .1))
+returns-5 c = as-told (c .enum-told5 .given .1) (c .before .before .fits .a) (c .before .before .fits .b) refl
 
 pub relate-spec : {M : Type 1} → statement M
 relate-spec =

@@ -1,6 +1,5 @@
 -- `fractions::signs::minus` meets its contract: the result is within the ends.
-use borrow.Author.Needs.{needs}
-use native.Mathlib.Nat.{le-trans, le-of-eq}
+use native.Mathlib.Nat.{le-trans}
 use lib.IntN.{_-ℤ_}
 use mir.Facts.{toZ-ofZ}
 use Rattle.meaning.proofs.Magnitude.{abs-diff}

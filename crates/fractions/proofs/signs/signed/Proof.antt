@@ -1,5 +1,4 @@
 -- `fractions::signs::signed` meets its contract: the number is in the lower half.
-use borrow.Author.Needs.{needs}
 use Rattle.fractions.proofs.Magnitude.{low-reads}
 use Rattle.fractions.proofs.signs.signed.Statement.{statement}
 use Rattle.fractions.proofs.signs.signed.Tie as tie

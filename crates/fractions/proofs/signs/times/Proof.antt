@@ -1,5 +1,4 @@
 -- `fractions::signs::times` meets its contract: the result is within the ends.
-use borrow.Author.Needs.{needs}
 use native.Mathlib.Nat.{le-trans, le-of-eq}
 use lib.IntN.{_*ℤ_}
 use mir.Facts.{toZ-ofZ}
