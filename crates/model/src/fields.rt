@@ -2,7 +2,7 @@
 ghost use mathlib.Core.Path.{_≡_};
 ghost use Prim.Native.Nat.{_+_, _*_, _<_};
 ghost use Rattle.counting.specs.Below.{table};
-ghost use Rattle.model.specs.Layout.{twoAt, maskAt, weightAt, fieldsOf};
+ghost use Rattle.model.specs.Layout.{twoAt, weightAt, fieldsOf};
 use crate::Model;
 use crate::matrix;
 use block::block_byte;
@@ -30,43 +30,28 @@ fn four_of(low: u16, high: u16) -> u32
     wide16(low) + 65536 * wide16(high)
 }
 
-// The label masks of the states.
-fn masks_at(file: &[u8]) -> [u16; 32]
-    ensures { λ r. ⌜ r ≡ table 32 (maskAt (now (file .entry))) ⌝ }
+// The 32 numbers of two bytes each from a byte of a block on.
+fn numbers_at(file: &[u8], block: usize, from: usize) -> [u16; 32]
+    requires { ⌜ from < 449 ⌝ }
+    ensures { λ r. ⌜ r ≡ table 32 (λ k. twoAt (now (file .entry)) block (from + 2 * k)) ⌝ }
 {
-    let mut masks = [0u16; 32];
-    let mut s: usize = 0;
-    while s < 32 {
-        masks[s] = two_at(file, 0, 8 + 2 * s);
-        s += 1;
+    let mut numbers = [0u16; 32];
+    let mut k: usize = 0;
+    while k < 32 {
+        numbers[k] = two_at(file, block, from + 2 * k);
+        k += 1;
     }
-    masks
+    numbers
 }
 
-// The row of one state: its weight to each state.
-fn row_at(file: &[u8], s: usize) -> [u16; 32]
-    requires { ⌜ s < 32 ⌝ }
-    ensures { λ r. ⌜ r ≡ table 32 (weightAt (now (file .entry)) s) ⌝ }
-{
-    let block = 1 + s / 7;
-    let from = 2 + 64 * (s % 7);
-    let mut row = [0u16; 32];
-    let mut t: usize = 0;
-    while t < 32 {
-        row[t] = two_at(file, block, from + 2 * t);
-        t += 1;
-    }
-    row
-}
-
-// The weight matrix: the row of each state.
+// The weight matrix: the row of each state, its weight to each state.
 fn weights_at(file: &[u8]) -> [[u16; 32]; 32]
     ensures { λ r. ⌜ r ≡ table 32 (λ s. table 32 (weightAt (now (file .entry)) s)) ⌝ }
 {
     let mut rows = [[0u16; 32]; 32];
     let mut s: usize = 0;
     while s < 32 {
-        rows[s] = row_at(file, s);
+        rows[s] = numbers_at(file, 1 + s / 7, 2 + 64 * (s % 7));
         s += 1;
     }
     rows
@@ -76,7 +61,7 @@ fn weights_at(file: &[u8]) -> [[u16; 32]; 32]
 pub fn fields_of(file: &[u8]) -> Model
     ensures { λ r. ⌜ r ≡ fieldsOf (now (file .entry)) ⌝ }
 {
-    let masks = masks_at(file);
+    let masks = numbers_at(file, 0, 8);
     let weights = matrix::holding(weights_at(file));
     Model {
         n: block_byte(file, 0, 1),

@@ -6,8 +6,8 @@ use Rattle.model.specs.Layout.{fieldsOf}
 use Rattle.model.proofs.fields.fields_of.Statement.{statement}
 use Rattle.model.proofs.fields.fields_of.Tie as tie
 
-masks-at-requires : tie.Need-masks-at-requires
-masks-at-requires c κs = search needs
+numbers-at-requires : tie.Need-numbers-at-requires
+numbers-at-requires c κs = search needs
 
 weights-at-requires : tie.Need-weights-at-requires
 weights-at-requires c κs = search needs
@@ -39,7 +39,7 @@ returns c =
       n = c .before .before .before .before .block-byte .ensures i;
       a = c .before .before .before .block-byte2 .ensures i;
       d = d i;
-      masks = c .before .before .before .before .before .before .before .masks-at .ensures i;
+      masks = c .before .before .before .before .before .before .before .numbers-at .ensures i;
       weights = record { rows = weights i };
     }
 
@@ -47,7 +47,7 @@ pub fields-of-spec : {M : Type 1} → statement M
 fields-of-spec =
     tie.close
     (tie.spec
-    masks-at-requires
+    numbers-at-requires
     weights-at-requires
     holding-requires
     block-byte-requires

@@ -19,8 +19,17 @@ abbrev μ-loop : tie.MeasureT-loop
 loop-holds : tie.Need-loop-holds Inv-loop μ-loop
 loop-holds c = filled-none refl
 
-row-at-requires : tie.Need-row-at-requires Inv-loop μ-loop
-row-at-requires c κs = search needs
+add-numbers-at : tie.Need-add-numbers-at Inv-loop μ-loop
+add-numbers-at c = search needs
+
+mul-numbers-at : tie.Need-mul-numbers-at Inv-loop μ-loop
+mul-numbers-at c = search needs
+
+add-numbers-at-2 : tie.Need-add-numbers-at-2 Inv-loop μ-loop
+add-numbers-at-2 c = search needs
+
+numbers-at-requires : tie.Need-numbers-at-requires Inv-loop μ-loop
+numbers-at-requires c κs = search needs
 
 mul-rows : tie.Need-mul-rows Inv-loop μ-loop
 mul-rows c = search needs
@@ -35,7 +44,7 @@ loop-less : tie.Need-loop-less Inv-loop μ-loop
 loop-less c = search needs
 
 loop-again : tie.Need-loop-again Inv-loop μ-loop
-loop-again c = filled-next (c .before .before .loop .inv) (omega arith) (c .row-at .ensures)
+loop-again c = filled-next (c .before .before .loop .inv) (omega arith) (c .numbers-at .ensures)
 
 returns : tie.Need-returns Inv-loop μ-loop
 returns c = filled-all (c .before .loop .inv) (omega arith)
@@ -47,7 +56,10 @@ weights-at-spec =
     Inv-loop
     μ-loop
     loop-holds
-    row-at-requires
+    add-numbers-at
+    mul-numbers-at
+    add-numbers-at-2
+    numbers-at-requires
     mul-rows
     array-set-from-rows
     add-s

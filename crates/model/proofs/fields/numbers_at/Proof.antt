@@ -1,27 +1,18 @@
--- `model::fields::row_at` meets its contract: the row is filled from the front.
+-- `model::fields::numbers_at` meets its contract: the numbers are filled from the front.
 use borrow.Author.Needs.{needs}
-use Prim.Native.Nat.{_-_}
+use Prim.Native.Nat.{_+_, _-_, _*_}
 use mathlib.Core.Path.{refl}
 use native.Mathlib.Omega.{arith}
 use Rattle.counting.proofs.Laws.{Filled, filled-none, filled-next, filled-all}
-use Rattle.model.specs.Layout.{weightAt}
-use Rattle.model.proofs.fields.row_at.Statement.{statement}
-use Rattle.model.proofs.fields.row_at.Tie as tie
+use Rattle.model.specs.Layout.{twoAt}
+use Rattle.model.proofs.fields.numbers_at.Statement.{statement}
+use Rattle.model.proofs.fields.numbers_at.Tie as tie
 
 abbrev Inv-loop : tie.InvT-loop
-Inv-loop file s block from row₀ t₀ row t = Filled 32 (weightAt file s) 0 t row
+Inv-loop file block from numbers₀ k₀ numbers k = Filled 32 (λ k. twoAt file block (from + 2 * k)) 0 k numbers
 
 abbrev μ-loop : tie.MeasureT-loop
-μ-loop file s block from row₀ t₀ row t = 32 - t
-
-add-block : tie.Need-add-block Inv-loop μ-loop
-add-block c = search needs
-
-mul-from : tie.Need-mul-from Inv-loop μ-loop
-mul-from c = search needs
-
-add-from : tie.Need-add-from Inv-loop μ-loop
-add-from c = search needs
+μ-loop file block from numbers₀ k₀ numbers k = 32 - k
 
 loop-holds : tie.Need-loop-holds Inv-loop μ-loop
 loop-holds c = filled-none refl
@@ -35,14 +26,14 @@ add-two-at c = search needs
 two-at-requires : tie.Need-two-at-requires Inv-loop μ-loop
 two-at-requires c κs = search needs
 
-mul-row : tie.Need-mul-row Inv-loop μ-loop
-mul-row c = search needs
+mul-numbers : tie.Need-mul-numbers Inv-loop μ-loop
+mul-numbers c = search needs
 
-array-write-row : tie.Need-array-write-row Inv-loop μ-loop
-array-write-row c = search needs
+array-write-numbers : tie.Need-array-write-numbers Inv-loop μ-loop
+array-write-numbers c = search needs
 
-add-t : tie.Need-add-t Inv-loop μ-loop
-add-t c = search needs
+add-k : tie.Need-add-k Inv-loop μ-loop
+add-k c = search needs
 
 loop-less : tie.Need-loop-less Inv-loop μ-loop
 loop-less c = search needs
@@ -53,22 +44,19 @@ loop-again c = filled-next (c .before .before .loop .inv) (omega arith) (c .two-
 returns : tie.Need-returns Inv-loop μ-loop
 returns c = filled-all (c .before .loop .inv) (omega arith)
 
-pub row-at-spec : {M : Type 1} → statement M
-row-at-spec =
+pub numbers-at-spec : {M : Type 1} → statement M
+numbers-at-spec =
     tie.close
     (tie.spec
     Inv-loop
     μ-loop
-    add-block
-    mul-from
-    add-from
     loop-holds
     mul-two-at
     add-two-at
     two-at-requires
-    mul-row
-    array-write-row
-    add-t
+    mul-numbers
+    array-write-numbers
+    add-k
     loop-less
     loop-again
     returns)
