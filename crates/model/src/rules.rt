@@ -39,20 +39,6 @@ fn mask_right(s: usize, n: usize, a: u8, mask: u16) -> bool
     (s < n) & mask_fits(mask, a) | (mask == 0)
 }
 
-// Whether every state's mask is right.
-fn masks_right(n: usize, a: u8, masks: &[u16; 32]) -> bool
-    ensures { λ r. ⌜ r ≡ every 32 (λ s. ltb s n && ltb (getD (now (masks .entry)) s 0) (2 ^ a) || eqb (getD (now (masks .entry)) s 0) 0) ⌝ }
-{
-    let mut s: usize = 0;
-    while s < 32 {
-        if !mask_right(s, n, a, masks[s]) {
-            return false;
-        }
-        s += 1;
-    }
-    true
-}
-
 // Whether a row is zero from a column on.
 fn zero_from(row: &[u16; 32], from: usize) -> bool
     ensures { λ r. ⌜ r ≡ every 32 (λ t. ltb t from || eqb (getD (now (row .entry)) t 0) 0) ⌝ }
@@ -78,13 +64,13 @@ fn row_ends(row: &[u16; 32], s: usize, n: usize) -> bool
     }
 }
 
-// Whether columns and rows from N on are zero.
-fn weights_right(n: usize, rows: &[[u16; 32]; 32]) -> bool
-    ensures { λ r. ⌜ r ≡ every 32 (λ s. every 32 (λ t. ltb s n && ltb t n || eqb (getD (getD (now (rows .entry)) s []) t 0) 0)) ⌝ }
+// Whether every state's mask is right, and columns and rows from N on are zero.
+fn states_right(n: usize, a: u8, masks: &[u16; 32], rows: &[[u16; 32]; 32]) -> bool
+    ensures { λ r. ⌜ r ≡ every 32 (λ s. (ltb s n && ltb (getD (now (masks .entry)) s 0) (2 ^ a) || eqb (getD (now (masks .entry)) s 0) 0) && every 32 (λ t. ltb s n && ltb t n || eqb (getD (getD (now (rows .entry)) s []) t 0) 0)) ⌝ }
 {
     let mut s: usize = 0;
     while s < 32 {
-        if !row_ends(&rows[s], s, n) {
+        if !(mask_right(s, n, a, masks[s]) & row_ends(&rows[s], s, n)) {
             return false;
         }
         s += 1;
@@ -99,7 +85,7 @@ pub fn fields_right(m: Model) -> bool
     let masks = m.masks;
     let rows = matrix::rows_of(m.weights);
     let n = m.n as usize;
-    numbers_right(m.n, m.a, m.d) & masks_right(n, m.a, &masks) & weights_right(n, &rows)
+    numbers_right(m.n, m.a, m.d) & states_right(n, m.a, &masks, &rows)
 }
 
 // The sum of a row.
