@@ -1,6 +1,6 @@
 -- The first state of a group: it is used exactly if there is one, and it is the member whose mask and weights the merged
 -- model takes.
-use Prim.Native.Nat.{ℕ, zero, suc, _≤_, _<_}
+use Prim.Native.Nat.{ℕ, zero, suc, _+_, _-_, _≤_, _<_}
 use mathlib.Core.Bool.{Bool, true, false, cond, _||_, true≢false}
 use mathlib.Core.List.{List, [], _∷_, _++_}
 use mathlib.Core.Path.{_≡_, refl, sym, ap, ap₂, _∙_}
@@ -8,9 +8,10 @@ use native.Mathlib.Decide.{decLt}
 use native.Mathlib.Omega.{arith}
 use borrow.Author.Tests.{eqb-true, eq-eqb, lt-ltb, le-ltb, ltb-true}
 use lib.Dec.{ltb, eqb}
-use lib.ListN.{length}
-use Rattle.counting.specs.Below.{every}
-use Rattle.counting.proofs.Laws.{same-truth, every-at}
+use lib.ListN.{length, getD, drop, length-append, length-drop, List·getD-append}
+use lib.Seq.{getD-drop, getD-append-add}
+use Rattle.counting.specs.Below.{every, table}
+use Rattle.counting.proofs.Laws.{same-truth, every-at, table-is, table-at, length-table}
 use Rattle.meaning.specs.Lists.{below, thereIs}
 use Rattle.meaning.specs.Merging.{member}
 use Rattle.meaning.proofs.Tests.{thereIs-found, thereIs-from, below-member, below-has}
@@ -83,12 +84,28 @@ module _ (grouping : List ℕ) (count : ℕ) (all : every count (isUsed grouping
   pub first-member : {r : ℕ} → First (groupOf grouping) g (length grouping) r → memberOf (length grouping) grouping g ≡ r
   first-member h = member-first (groupOf grouping) g h (first-below h)
 
-  -- what f has at the first state of a group is what it has at the group's member, which counts below the count
-  pub first-taken : {A : Type 0} (f : ℕ → A) (d : A) {r : ℕ} → First (groupOf grouping) g (length grouping) r →
-      f r ≡ cond (ltb g count) (f (memberOf (length grouping) grouping g)) d
-  first-taken {A} f d h =
-      sym (ap₂ (λ (b : Bool) (s : ℕ). cond {A = A} b (f s) d) (lt-ltb g count few) (first-member h))
+-- a table that was written over the front of a list of one and the same d: f's values below the count, and d from it on
+pub front-table : {A : Type 0} (n count : ℕ) (f : ℕ → A) (d : A) → count ≤ n →
+    table count f ++ drop count (table n (λ k. d)) ≡ table n (λ k. cond (ltb k count) (f k) d)
+front-table {A} n count f d few =
+    table-is n (λ k. cond (ltb k count) (f k) d) d (table count f ++ drop count (table n (λ k. d)))
+    (length-append (table count f) (drop count (table n (λ k. d))) ∙
+    ap₂ _+_ (length-table count f) (length-drop count (table n (λ k. d)) ∙ ap (λ k. k - count) (length-table n (λ k. d))) ∙
+    omega arith)
+    (λ k l. go k l (decLt k count))
+  where
+    rest : List A
+    rest = drop count (table n (λ k. d))
 
--- from the count on it does not
-pub none-taken : {A : Type 0} (g count : ℕ) (x d : A) → count ≤ g → d ≡ cond (ltb g count) x d
-none-taken {A} g count x d past = sym (ap (λ (b : Bool). cond {A = A} b x d) (le-ltb g count past))
+    go : (k : ℕ) → k < n → Dec (k < count) → getD (table count f ++ rest) k d ≡ cond (ltb k count) (f k) d
+    go k l (yes small) =
+        List·getD-append (table count f) rest d k (omega (arith, length-table count f)) ∙
+        table-at count f d k small ∙
+        sym (ap (λ b. cond b (f k) d) (lt-ltb k count small))
+    go k l (no past) =
+        let e : length (table count f) + (k - count) ≡ k = omega (arith, length-table count f) in
+        ap (λ j. getD (table count f ++ rest) j d) (sym e) ∙
+        getD-append-add (table count f) rest (k - count) d ∙
+        getD-drop count (table n (λ k. d)) (k - count) d ∙
+        table-at n (λ k. d) d (count + (k - count)) (omega arith) ∙
+        sym (ap (λ b. cond b (f k) d) (le-ltb k count (omega arith)))

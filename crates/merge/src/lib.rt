@@ -41,7 +41,7 @@ fn merge_model(m: Model, grouping: &[u8], out: &mut [u8]) -> Written
     if !states_alike(&masks, totals, grouping, count, n) {
         return Written::Refused(13);
     }
-    let merged = model_of_groups(m, totals, grouping, count);
+    let merged = model_of_groups(m.a, m.d, &masks, totals, grouping, count);
     write_model(merged, out)
 }
 

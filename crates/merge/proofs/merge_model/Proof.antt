@@ -106,13 +106,13 @@ returns-2 c =
 
 model-of-groups-requires : tie.Need-model-of-groups-requires
 model-of-groups-requires c κs =
-    let e = c .before .before .before .before .before .before .before in
+    let e = c .before .before .before .before .before .before .before .before in
     let start = e .before .before .before .before .before in
     let a = start .args in
     let states = right.states-few (a .m) (start .pre .0) in
     let long = as-long (a .m .n) (a .grouping .now) (grouped e) in
     let groups = few (a .m) (a .grouping .now) (start .pre .0) (grouped e) in
-    let count = counted (c .before .before .before .before .before .before) in (
+    let count = counted (c .before .before .before .before .before .before .before) in (
       omega arith,
       omega arith,
       subst (λ (k : ℕ). every k (isUsed (a .grouping .now)) ≡ true) (sym count) (all-used (a .m .n) (a .grouping .now) (grouped e)),
@@ -126,10 +126,10 @@ same-length c = search needs
 
 -- what the writer is given
 built : (c : tie.After-model-of-groups) →
-    let a = c .before .before .before .before .before .before .before .before .before .before .before .before .before .args in
+    let a = c .before .before .before .before .before .before .before .before .before .before .before .before .before .before .args in
     c .model-of-groups .result ≡ mergedModel (a .m) (a .grouping .now)
 built c =
-    let t = c .before .before .before .before in
+    let t = c .before .before .before .before .before in
     let e = t .before .before .before .before in
     let start = e .before .before .before .before .before in
     let a = start .args in
@@ -146,14 +146,14 @@ unfolding recordNumber
 returns-3 c =
     let w = c .before .before in
     let g = w .before .before in
-    let e = g .before .before .before .before .before .before .before .before in
+    let e = g .before .before .before .before .before .before .before .before .before in
     let start = e .before .before .before .before .before in
     let a = start .args in
     let room = length (a .out .now) in
     let merged = mergedModel (a .m) (a .grouping .now) in
     let last = w .write-model .last .1 .0 in
     let r = w .write-model .result in
-    let alike = sym (tested (g .before .before)) ∙ not-false _ (g .before .if2 .left) in
+    let alike = sym (tested (g .before .before .before)) ∙ not-false _ (g .before .before .if2 .left) in
     rows-changed (record-rows merged room) (group-rows (a .m) (a .grouping .now) room)
     (groups-14 (a .m) (a .grouping .now) room (start .pre .0) (start .pre .1) (grouped e) alike)
     (subst (λ (m : Model). Writes (recordRows m room) (fileOf m) (a .out .now) last r) (built g) (w .write-model .ensures))
