@@ -1,9 +1,16 @@
 -- What the walk finds of a node, from what it found of the nodes after it. Assumes nothing.
 use Prim.Native.Nat.{ℕ, suc, _+_, _*_, _^_, _≤_, _<_}
-use mathlib.Core.Bool.{Bool, true, false, _||_}
-use mathlib.Core.List.{List}
+use mathlib.Core.Bool.{Bool, true, false, not, _||_}
+use mathlib.Core.List.{List, [], _∷_, map}
+use mathlib.Core.Logic.{inl, inr}
 use mathlib.Core.Path.{_≡_, refl, sym, ap, ap₂, subst, _∙_}
 use native.Mathlib.Omega.{arith}
+use lib.Dec.{T}
+use lib.ListN.{getD}
+use mir.Val.{hasKey}
+use types.Run.{OneOf, miss}
+use denote.Enum.Declared.{tagOf}
+use Rattle.sentence.proofs.Node.{the-type}
 use Rattle.sentence.specs.declared.Relation as Spelled
 use Rattle.sentence.specs.declared.Slot.{Slot}
 use Rattle.sentence.specs.declared.Node.{Node}
@@ -232,6 +239,35 @@ sized-two slots at D n a b s t = record {
       (y .0, ap₂ _||_ (x .1) (y .1), x .2, x .3, y .2, y .3);
 }
 
--- a node that is another wants as much
-pub moved : {a b : Node} {k : ℕ} → a ≡ b → operandCount (wantsOf a) ≡ k → operandCount (wantsOf b) ≡ k
-moved e w = ap (λ (x : Node). operandCount (wantsOf x)) (sym e) ∙ w
+-- ---- a node that wants another number of things than its function is for
+
+-- how many things the node of a tag wants
+abbrev wanted : ℕ → ℕ
+wanted t = getD (0 ∷ 0 ∷ 1 ∷ 2 ∷ 2 ∷ 1 ∷ 0 ∷ 2 ∷ 2 ∷ 2 ∷ 1 ∷ 2 ∷ []) t 0
+
+wanted-at : (x : Node) → operandCount (wantsOf x) ≡ wanted (tagOf the-type x)
+wanted-at True = refl
+wanted-at (Label l i) = refl
+wanted-at Not = refl
+wanted-at And = refl
+wanted-at (Compare c) = refl
+wanted-at Probability = refl
+wanted-at (Constant a b) = refl
+wanted-at Sum = refl
+wanted-at Difference = refl
+wanted-at Product = refl
+wanted-at Next = refl
+wanted-at (Until k1 k2) = refl
+
+-- what is one of some tags wants as much as one of them
+one-wanted : (ks : List ℕ) (t : ℕ) → OneOf ks t → OneOf (map wanted ks) (wanted t)
+one-wanted [] t o = o
+one-wanted (k ∷ []) t e = ap wanted e
+one-wanted (k ∷ k′ ∷ ks) t (inl e) = inl (ap wanted e)
+one-wanted (k ∷ k′ ∷ ks) t (inr o) = inr (one-wanted (k′ ∷ ks) t o)
+
+-- a node whose tag is one of those that do not want as much does not
+pub other-arm : (ks : List ℕ) (k : ℕ) (x : Node) → T (not (hasKey (map wanted ks) k)) → OneOf ks (tagOf the-type x) →
+    operandCount (wantsOf x) ≡ k → ⊥
+other-arm ks k x h o w =
+    miss (map wanted ks) k h (subst (OneOf (map wanted ks)) (sym (wanted-at x) ∙ w) (one-wanted ks (tagOf the-type x) o))

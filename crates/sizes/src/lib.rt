@@ -193,16 +193,8 @@ fn of_none(node: Node, at: usize) -> Measure
             label: _,
             variable: _,
         } => plain(at + 1, false),
-        Node::Not => plain(at, false),
-        Node::And => plain(at, false),
-        Node::Compare(_) => plain(at, false),
-        Node::Probability => plain(at, false),
         Node::Constant { top, bottom } => constant(at + 1, top, bottom),
-        Node::Sum => plain(at, false),
-        Node::Difference => plain(at, false),
-        Node::Product => plain(at, false),
-        Node::Next => plain(at, false),
-        Node::Until { from: _, to: _ } => plain(at, false),
+        _ => plain(at, false),
     }
 }
 
@@ -214,18 +206,7 @@ fn of_one(node: Node, t: Measure, base: u64, n: u64) -> Measure
         Node::Not => t,
         Node::Probability => probable(t),
         Node::Next => stepped(t.next, power(base, n), t.over),
-        Node::True => t,
-        Node::Label {
-            label: _,
-            variable: _,
-        } => t,
-        Node::And => t,
-        Node::Compare(_) => t,
-        Node::Constant { top: _, bottom: _ } => t,
-        Node::Sum => t,
-        Node::Difference => t,
-        Node::Product => t,
-        Node::Until { from: _, to: _ } => t,
+        _ => t,
     }
 }
 
@@ -241,15 +222,7 @@ fn of_two(node: Node, t: MeasureTwo, base: u64, n: u64) -> Measure
         Node::Difference => added(t),
         Node::Product => multiplied(t),
         Node::Until { from: _, to } => stepped(t.next, until_denominator(base, n, to), t.over),
-        Node::True => joined(t),
-        Node::Label {
-            label: _,
-            variable: _,
-        } => joined(t),
-        Node::Not => joined(t),
-        Node::Probability => joined(t),
-        Node::Constant { top: _, bottom: _ } => joined(t),
-        Node::Next => joined(t),
+        _ => joined(t),
     }
 }
 

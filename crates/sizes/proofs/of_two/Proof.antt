@@ -1,8 +1,8 @@
 -- `sizes::of_two` meets its contract: six nodes want two things.
 use borrow.Author.Needs.{needs}
-use mathlib.Core.Path.{_≡_, _∙_}
-use native.Mathlib.Omega.{arith}
-use Rattle.sizes.proofs.Walk.{sized-and, sized-compare, sized-sum, sized-difference, sized-product, sized-until, moved}
+use mathlib.Core.List.{[], _∷_}
+use mathlib.Core.Path.{_∙_}
+use Rattle.sizes.proofs.Walk.{sized-and, sized-compare, sized-sum, sized-difference, sized-product, sized-until, other-arm}
 use Rattle.sizes.proofs.of_two.Statement.{statement}
 use Rattle.sizes.proofs.of_two.Tie as tie
 
@@ -45,41 +45,8 @@ until-denominator-requires c κs = search needs
 stepped-requires : tie.Need-stepped-requires
 stepped-requires c κs = search needs
 
-enum-told-6 : tie.Need-enum-told-6
-enum-told-6 c = search needs
-
 joined-requires-2 : tie.Need-joined-requires-2
 joined-requires-2 c κs = search needs
-
-enum-told-7 : tie.Need-enum-told-7
-enum-told-7 c = search needs
-
-joined-requires-3 : tie.Need-joined-requires-3
-joined-requires-3 c κs = search needs
-
-enum-told-8 : tie.Need-enum-told-8
-enum-told-8 c = search needs
-
-joined-requires-4 : tie.Need-joined-requires-4
-joined-requires-4 c κs = search needs
-
-enum-told-9 : tie.Need-enum-told-9
-enum-told-9 c = search needs
-
-joined-requires-5 : tie.Need-joined-requires-5
-joined-requires-5 c κs = search needs
-
-enum-told-10 : tie.Need-enum-told-10
-enum-told-10 c = search needs
-
-joined-requires-6 : tie.Need-joined-requires-6
-joined-requires-6 c κs = search needs
-
-enum-told-11 : tie.Need-enum-told-11
-enum-told-11 c = search needs
-
-joined-requires-7 : tie.Need-joined-requires-7
-joined-requires-7 c κs = search needs
 
 returns : tie.Need-returns
 returns c = record { each = λ slots at room e w s. sized-and slots at _ _ room _ s _ (c .joined .ensures .0) (c .joined .ensures .1) (e ∙ c .before .enum-told .given .1) }
@@ -100,22 +67,10 @@ returns-6 : tie.Need-returns-6
 returns-6 c = record { each = λ slots at room e w s. let h = c .before .before .before .node .given in sized-until slots at _ _ room _ s _ (c .stepped .ensures .0) (h .0 .0) (h .0 .1 .0) (c .stepped .ensures .1) (c .stepped .ensures .2 ∙ c .before .until-denominator .ensures) (e ∙ h .1) }
 
 returns-7 : tie.Need-returns-7
-returns-7 c = record { each = λ slots at room e w s. absurd (let h : 0 ≡ 2 = moved (c .before .enum-told6 .given .1) w in omega arith) }
-
-returns-8 : tie.Need-returns-8
-returns-8 c = record { each = λ slots at room e w s. absurd (let h : 0 ≡ 2 = moved (c .before .enum-told7 .given .1) w in omega arith) }
-
-returns-9 : tie.Need-returns-9
-returns-9 c = record { each = λ slots at room e w s. absurd (let h : 1 ≡ 2 = moved (c .before .enum-told8 .given .1) w in omega arith) }
-
-returns-10 : tie.Need-returns-10
-returns-10 c = record { each = λ slots at room e w s. absurd (let h : 1 ≡ 2 = moved (c .before .enum-told9 .given .1) w in omega arith) }
-
-returns-11 : tie.Need-returns-11
-returns-11 c = record { each = λ slots at room e w s. absurd (let h : 0 ≡ 2 = moved (c .before .enum-told10 .given .1) w in omega arith) }
-
-returns-12 : tie.Need-returns-12
-returns-12 c = record { each = λ slots at room e w s. absurd (let h : 1 ≡ 2 = moved (c .before .enum-told11 .given .1) w in omega arith) }
+returns-7 c = record {
+  each = λ slots at room e w s. absurd
+      (other-arm (0 ∷ 1 ∷ 2 ∷ 5 ∷ 6 ∷ 10 ∷ []) 2 (c .before .before .args .node) tt (c .before .match .keys7) w);
+}
 
 pub of-two-spec : {M : Type 1} → statement M
 of-two-spec =
@@ -134,27 +89,11 @@ of-two-spec =
     enum-known-node
     until-denominator-requires
     stepped-requires
-    enum-told-6
     joined-requires-2
-    enum-told-7
-    joined-requires-3
-    enum-told-8
-    joined-requires-4
-    enum-told-9
-    joined-requires-5
-    enum-told-10
-    joined-requires-6
-    enum-told-11
-    joined-requires-7
     returns
     returns-2
     returns-3
     returns-4
     returns-5
     returns-6
-    returns-7
-    returns-8
-    returns-9
-    returns-10
-    returns-11
-    returns-12)
+    returns-7)
