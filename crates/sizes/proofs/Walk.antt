@@ -15,7 +15,7 @@ use Rattle.sentence.specs.declared.Relation as Spelled
 use Rattle.sentence.specs.declared.Slot.{Slot}
 use Rattle.sentence.specs.declared.Node.{Node}
 use Rattle.sentence.specs.declared.Node.the-variants.{True, Label, Not, And, Compare, Probability, Constant, Sum, Difference, Product, Next, Until}
-use Rattle.meaning.specs.Tree.{Formula, Expression, PathFormula}
+use Rattle.meaning.specs.Tree.{Formula, Expression, PathFormula, sum, difference, product}
 use Rattle.meaning.specs.Meaning.{denominator}
 use Rattle.meaning.specs.Size.{size, addS, mulS, tooLarge, largeSize, largeCross, exceeds, exceedsIn, exceedsFrom}
 use Rattle.sentence.specs.Writing.{wantsOf}
@@ -169,12 +169,31 @@ module _ (slots : List Slot) (at D n : ℕ) where
           ))
 
       module _ (k : r .over ≡ (t .over || tooLarge (r .d) || tooLarge (r .m))) (d : r .d ≡ capped (t .d1 * t .d2)) where
-        -- d and m of a sum or a difference of two expressions
-        module _ (m : r .m ≡ capped (capped (t .m1 * t .d2) + capped (t .m2 * t .d1))) where
-          abbrev Added : Expression → Expression → Type 0
-          Added a b = (r .d ≡ capped (size a D n .d * size b D n .d)) × (r .m ≡ capped (size a D n .m * size b D n .d + size b D n .m * size a D n .d))
+        -- what is found of an expression that is made of two others
+        made-of-two : (make : Expression → Expression → Expression) →
+            ((a b : Expression) →
+            exceedsIn (make a b) D n ≡ (exceedsIn a D n || exceedsIn b D n || largeSize (size (make a b) D n))) →
+            ((a b : Expression) (p q : ℕ) → ExpressionAt slots (at + 1) a p → ExpressionAt slots p b q →
+            (r .d ≡ capped (size (make a b) D n .d)) × (r .m ≡ capped (size (make a b) D n .m))) →
+            (c : Expression) (q : ℕ) →
+            (a : Expression) × (b : Expression) × (p : ℕ) × (c ≡ make a b) × ExpressionAt slots (at + 1) a p × ExpressionAt slots p b q →
+            OfExpression r c q
+        unfolding largeSize
+        made-of-two make exceeding found c q (a, b, p, is, v, w) =
+            let h = s .expressions a b p q v w in
+            let g = found a b p q v w in (
+              e ∙ h .0,
+              k ∙
+                  (tested _ _ (h .1) (g .0) (g .1) ∙ sym (exceeding a b) ∙ ap (λ (c : Expression). exceedsIn c D n) (sym is)),
+              g .0 ∙ ap (λ (c : Expression). capped (size c D n .d)) (sym is),
+              g .1 ∙ ap (λ (c : Expression). capped (size c D n .m)) (sym is),
+            )
 
-          added : (a b : Expression) (p q : ℕ) → ExpressionAt slots (at + 1) a p → ExpressionAt slots p b q → Added a b
+        -- a sum and a difference have one size
+        module _ (m : r .m ≡ capped (capped (t .m1 * t .d2) + capped (t .m2 * t .d1))) where
+          added : (a b : Expression) (p q : ℕ) → ExpressionAt slots (at + 1) a p → ExpressionAt slots p b q →
+              (r .d ≡ capped (addS (size a D n) (size b D n) .d)) × (r .m ≡ capped (addS (size a D n) (size b D n) .m))
+          unfolding addS
           added a b p q v w =
               let h = s .expressions a b p q v w in
               let x = size a D n in
@@ -184,43 +203,24 @@ module _ (slots : List Slot) (at D n : ℕ) where
               )
 
           pub sized-sum : nodeAt slots at ≡ Sum → Sizes slots at D n r
-          unfolding exceedsIn size addS largeSize
+          unfolding exceedsIn size
           sized-sum x = by-node r Sum x (omega arith) (omega arith) (λ f q w. absurd w)
-              (λ c q w.
-              let h = s .expressions (w .0) (w .1) (w .2) q (w .4) (w .5) in
-              let g = added (w .0) (w .1) (w .2) q (w .4) (w .5) in (
-                e ∙ h .0,
-                k ∙ (tested _ _ (h .1) (g .0) (g .1) ∙ ap (λ (c : Expression). exceedsIn c D n) (sym (w .3))),
-                g .0 ∙ ap (λ (c : Expression). capped (size c D n .d)) (sym (w .3)),
-                g .1 ∙ ap (λ (c : Expression). capped (size c D n .m)) (sym (w .3)),
-              ))
-              (λ a q w. absurd w)
+              (made-of-two sum (λ a b. refl) added) (λ a q w. absurd w)
 
           pub sized-difference : nodeAt slots at ≡ Difference → Sizes slots at D n r
-          unfolding exceedsIn size addS largeSize
+          unfolding exceedsIn size
           sized-difference x = by-node r Difference x (omega arith) (omega arith) (λ f q w. absurd w)
-              (λ c q w.
-              let h = s .expressions (w .0) (w .1) (w .2) q (w .4) (w .5) in
-              let g = added (w .0) (w .1) (w .2) q (w .4) (w .5) in (
-                e ∙ h .0,
-                k ∙ (tested _ _ (h .1) (g .0) (g .1) ∙ ap (λ (c : Expression). exceedsIn c D n) (sym (w .3))),
-                g .0 ∙ ap (λ (c : Expression). capped (size c D n .d)) (sym (w .3)),
-                g .1 ∙ ap (λ (c : Expression). capped (size c D n .m)) (sym (w .3)),
-              ))
-              (λ a q w. absurd w)
+              (made-of-two difference (λ a b. refl) added) (λ a q w. absurd w)
 
         pub sized-product : r .m ≡ capped (t .m1 * t .m2) → nodeAt slots at ≡ Product → Sizes slots at D n r
-        unfolding exceedsIn size mulS largeSize
+        unfolding exceedsIn size mulS
         sized-product m x = by-node r Product x (omega arith) (omega arith) (λ f q w. absurd w)
-            (λ c q w.
-            let h = s .expressions (w .0) (w .1) (w .2) q (w .4) (w .5) in
-            let i = d ∙ prod (size (w .0) D n .d) (size (w .1) D n .d) (h .2) (h .4) in
-            let j = m ∙ prod (size (w .0) D n .m) (size (w .1) D n .m) (h .3) (h .5) in (
-              e ∙ h .0,
-              k ∙ (tested _ _ (h .1) i j ∙ ap (λ (c : Expression). exceedsIn c D n) (sym (w .3))),
-              i ∙ ap (λ (c : Expression). capped (size c D n .d)) (sym (w .3)),
-              j ∙ ap (λ (c : Expression). capped (size c D n .m)) (sym (w .3)),
-            ))
+            (made-of-two product (λ a b. refl)
+            (λ a b p q v w.
+            let h = s .expressions a b p q v w in (
+              d ∙ prod (size a D n .d) (size b D n .d) (h .2) (h .4),
+              m ∙ prod (size a D n .m) (size b D n .m) (h .3) (h .5),
+            )))
             (λ a q w. absurd w)
 
 -- two trees, one after another
