@@ -16,7 +16,7 @@ use Rattle.refusal.specs.Rows.{first}
 use Rattle.block.specs.Block.{byteOf, blocksIn, two, lowByte, highByte, checkOf, checkRight, checksRight}
 use Rattle.block.proofs.Laws.{check-same}
 use Rattle.model.specs.declared.Model.{Model}
-use Rattle.model.specs.Layout.{maskOf, weightOf, fourAt, maskAt, weightAt, byteOfTwo, headByte, rowByte, contentByte, byteAt, blockBytes, blocksBelow, blocks, fileOf, fieldsOf}
+use Rattle.model.specs.Layout.{maskOf, weightOf, twoAt, fourAt, maskAt, weightAt, byteOfTwo, headByte, rowByte, contentByte, byteAt, blockBytes, blocksBelow, blocks, fileOf, fieldsOf}
 use Rattle.model.specs.Rows.{lengthRight, fieldsRight, laidOut, rowsRight, fileNumber}
 use Rattle.model.proofs.Places.{byte-there}
 use Rattle.model.proofs.Rightness.{states-some, states-few, total-few, weight-past}
@@ -74,15 +74,14 @@ module _ (file : List ℕ) (long : lengthRight file ≡ true) (checks : checksRi
   right-check : (i : ℕ) → i < blocksIn file → checkRight (byteOf file i) ≡ true
   right-check i l = every-at (blocksIn file) (λ i. checkRight (byteOf file i)) checks i l
 
-  low-check : (i : ℕ) → i < blocksIn file → byteOf file i 510 ≡ byteAt m i 510
-  low-check i l =
-      eqb-true _ _ (left-of (eqb (byteOf file i 510) (lowByte (checkOf (byteOf file i)))) (eqb (byteOf file i 511) (highByte (checkOf (byteOf file i)))) (right-check i l)) ∙
-      ap lowByte (one-check i l) ∙ sym (byte-low m i)
-
-  high-check : (i : ℕ) → i < blocksIn file → byteOf file i 511 ≡ byteAt m i 511
-  high-check i l =
-      eqb-true _ _ (right-of (eqb (byteOf file i 510) (lowByte (checkOf (byteOf file i)))) (eqb (byteOf file i 511) (highByte (checkOf (byteOf file i)))) (right-check i l)) ∙
-      ap highByte (one-check i l) ∙ sym (byte-high m i)
+  -- the two bytes of the check
+  both-checks : (i : ℕ) → i < blocksIn file → (byteOf file i 510 ≡ byteAt m i 510) × (byteOf file i 511 ≡ byteAt m i 511)
+  both-checks i l =
+      let low = eqb (byteOf file i 510) (lowByte (checkOf (byteOf file i))) in
+      let high = eqb (byteOf file i 511) (highByte (checkOf (byteOf file i))) in (
+        eqb-true _ _ (left-of low high (right-check i l)) ∙ ap lowByte (one-check i l) ∙ sym (byte-low m i),
+        eqb-true _ _ (right-of low high (right-check i l)) ∙ ap highByte (one-check i l) ∙ sym (byte-high m i),
+      )
 
   -- every byte of the file is the one that the layout has
   stands-all : (i j : ℕ) → i < blocksIn file → j < 512 → byteOf file i j ≡ byteAt m i j
@@ -92,10 +91,10 @@ module _ (file : List ℕ) (long : lengthRight file ≡ true) (checks : checksRi
       go (yes c) d = content i j l c ∙ sym (byte-content m i j c)
       go (no past) (yes c) =
           let e : 510 ≡ j = omega arith in
-          subst (λ (j : ℕ). byteOf file i j ≡ byteAt m i j) e (low-check i l)
+          subst (λ (j : ℕ). byteOf file i j ≡ byteAt m i j) e (both-checks i l .0)
       go (no past) (no last) =
           let e : 511 ≡ j = omega arith in
-          subst (λ (j : ℕ). byteOf file i j ≡ byteAt m i j) e (high-check i l)
+          subst (λ (j : ℕ). byteOf file i j ≡ byteAt m i j) e (both-checks i l .1)
 
   -- writing what was read gives the same file
   pub written-back : fileOf m ≡ file
@@ -175,9 +174,11 @@ module _ (m : Model) (right : fieldsRight m ≡ true) (sums : rowsRight m ≡ tr
       let some = states-some m right in
       content-written 0 j (omega arith) l ∙ content-head m j
 
-  -- the two bytes of a number of two bytes give it back
-  joined : (x : ℕ) → x < 65536 → two (lowByte x) (highByte x) ≡ x
-  joined x l = omega arith
+  -- a number of two bytes is read where its two bytes stand
+  two-written : (i at x : ℕ) → x < 65536 → ((k : ℕ) → k < 2 → byteOf (fileOf m) i (at + k) ≡ byteOfTwo x k) →
+      twoAt (fileOf m) i at ≡ x
+  two-written i at x fits there =
+      ap₂ two (byte-there (fileOf m) (omega arith) ∙ there 0 (omega arith)) (there 1 (omega arith)) ∙ omega arith
 
   -- the byte of the layout at a place is byte k of the number that stands there
   mask-there : (s k : ℕ) → s < 32 → k < 2 → byteOf (fileOf m) 0 (8 + 2 * s + k) ≡ byteOfTwo (maskOf m s) k
@@ -188,9 +189,7 @@ module _ (m : Model) (right : fieldsRight m ≡ true) (sums : rowsRight m ≡ tr
       ap₂ (λ (s k : ℕ). byteOfTwo (maskOf m s) k) state byte
 
   mask-written : (s : ℕ) → s < 32 → maskOf m s < 65536 → maskAt (fileOf m) s ≡ maskOf m s
-  mask-written s l fits =
-      ap₂ two (byte-there (fileOf m) (omega arith) ∙ mask-there s 0 l (omega arith)) (mask-there s 1 l (omega arith)) ∙
-      joined (maskOf m s) fits
+  mask-written s l fits = two-written 0 (8 + 2 * s) (maskOf m s) fits (λ k h. mask-there s k l h)
 
   weight-there : (s t k : ℕ) → s < 32 → t < 32 → k < 2 → 1 + s / 7 < blocks (m .n) →
       byteOf (fileOf m) (1 + s / 7) (2 + 64 * (s % 7) + 2 * t + k) ≡ byteOfTwo (weightOf m s t) k
@@ -208,8 +207,7 @@ module _ (m : Model) (right : fieldsRight m ≡ true) (sums : rowsRight m ≡ tr
     where
       go : Dec (1 + s / 7 < blocks (m .n)) → weightAt (fileOf m) s t ≡ weightOf m s t
       go (yes block) =
-          ap₂ two (byte-there (fileOf m) (omega arith) ∙ weight-there s t 0 l k (omega arith) block) (weight-there s t 1 l k (omega arith) block) ∙
-          joined (weightOf m s t) fits
+          two-written (1 + s / 7) (2 + 64 * (s % 7) + 2 * t) (weightOf m s t) fits (λ b h. weight-there s t b l k h block)
       go (no past) =
           let gone : blocks (m .n) ≤ 1 + s / 7 = omega arith in
           let out : m .n ≤ s = omega arith in

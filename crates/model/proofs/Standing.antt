@@ -20,17 +20,6 @@ use Rattle.model.proofs.Places.{byte-there}
 abbrev pub Bytes : List ℕ → Type 0
 Bytes file = (k : ℕ) → getD file k 0 < 256
 
--- byte k of a number of two bytes is the low one at 0 and the high one at 1
-pub byte-back : (low high x k : ℕ) → low < 256 → high < 256 → k < 2 → (k ≡ 0 → low ≡ x) → (k ≡ 1 → high ≡ x) →
-    byteOfTwo (two low high) k ≡ x
-byte-back low high x zero l h s a b =
-    let e : (low + 256 * high) % 256 ≡ low = omega arith in
-    e ∙ a refl
-byte-back low high x (suc zero) l h s a b =
-    let e : (low + 256 * high) / 256 % 256 ≡ high = omega arith in
-    e ∙ b refl
-byte-back low high x (suc (suc k)) l h s a b = absurd (omega arith)
-
 -- a byte of 0 is 0
 pub byte-of-zero : (k : ℕ) → byteOfTwo 0 k ≡ 0
 byte-of-zero k = go (ltb k 1)
@@ -88,6 +77,17 @@ module _ (file : List ℕ) (bytes : Bytes file) where
   abbrev pub stands : ℕ → ℕ → Bool
   stands i j = eqb (byteOf file i j) (contentByte (fieldsOf file) i j)
 
+  -- byte k of the number of two bytes that stands there
+  byte-back : (i at k i′ j : ℕ) → k < 2 → 512 * i + (at + k) ≡ 512 * i′ + j → byteOfTwo (twoAt file i at) k ≡ byteOf file i′ j
+  byte-back i at zero i′ j l there =
+      let e : (byteOf file i at + 256 * byteOf file i (at + 1)) % 256 ≡ byteOf file i at = omega (arith, bytes (512 * i + at)) in
+      e ∙ byte-there file (omega arith)
+  byte-back i at (suc zero) i′ j l there =
+      let e : (byteOf file i at + 256 * byteOf file i (at + 1)) / 256 % 256 ≡ byteOf file i (at + 1) =
+      omega (arith, bytes (512 * i + at), bytes (512 * i + (at + 1))) in
+      e ∙ byte-there file (omega arith)
+  byte-back i at (suc (suc k)) i′ j l there = absurd (omega arith)
+
   mask-of-file : (s : ℕ) → s < 32 → maskOf (fieldsOf file) s ≡ maskAt file s
   unfolding fieldsOf
   mask-of-file s l = table-at 32 (maskAt file) 0 s l
@@ -113,9 +113,7 @@ module _ (file : List ℕ) (bytes : Bytes file) where
       let small : s < 32 = omega arith in
       head-rest (fieldsOf file) j h ∙
       ap (λ (x : ℕ). byteOfTwo x ((j - 8) % 2)) (mask-of-file s small) ∙
-      byte-back (byteOf file 0 (8 + 2 * s)) (byteOf file 0 (8 + 2 * s + 1)) (byteOf file 0 j) ((j - 8) % 2)
-      (bytes (512 * 0 + (8 + 2 * s))) (bytes (512 * 0 + (8 + 2 * s + 1))) (omega arith)
-      (λ e. byte-there file (omega arith)) (λ e. byte-there file (omega arith))
+      byte-back 0 (8 + 2 * s) ((j - 8) % 2) 0 j (omega arith) (omega arith)
 
   -- past the masks of 32 states all is zero
   past-masks : (j : ℕ) → 72 ≤ j → headByte (fieldsOf file) j ≡ 0
@@ -170,19 +168,14 @@ module _ (file : List ℕ) (bytes : Bytes file) where
       let place : s % 7 ≡ (j - 2) / 64 = omega arith in
       row-rest (fieldsOf file) i j h l ∙
       ap (λ (x : ℕ). byteOfTwo x ((j - 2) % 2)) (weight-of-file s t room small) ∙
-      byte-back (byteOf file (1 + s / 7) (2 + 64 * (s % 7) + 2 * t)) (byteOf file (1 + s / 7) (2 + 64 * (s % 7) + 2 * t + 1)) (byteOf file i j) ((j - 2) % 2)
-      (bytes (512 * (1 + s / 7) + (2 + 64 * (s % 7) + 2 * t))) (bytes (512 * (1 + s / 7) + (2 + 64 * (s % 7) + 2 * t + 1))) (omega arith)
-      (λ e. byte-there file (omega arith)) (λ e. byte-there file (omega arith))
+      byte-back (1 + s / 7) (2 + 64 * (s % 7) + 2 * t) ((j - 2) % 2) i j (omega arith) (omega arith)
 
   -- a row that the record has no room for is zero
-  past-rows : (i j : ℕ) → 2 ≤ j → 32 ≤ 7 * (i - 1) + (j - 2) / 64 → rowByte (fieldsOf file) i j ≡ 0
-  past-rows i j h gone = go (decLt j 450)
-    where
-      go : Dec (j < 450) → rowByte (fieldsOf file) i j ≡ 0
-      go (yes l) =
-          row-rest (fieldsOf file) i j h l ∙
-          ap (λ (x : ℕ). byteOfTwo x ((j - 2) % 2)) (no-weight (7 * (i - 1) + (j - 2) / 64) ((j - 2) % 64 / 2) gone) ∙ byte-of-zero ((j - 2) % 2)
-      go (no more) = row-end (fieldsOf file) i j (omega arith)
+  past-rows : (i j : ℕ) → 2 ≤ j → j < 450 → 32 ≤ 7 * (i - 1) + (j - 2) / 64 → rowByte (fieldsOf file) i j ≡ 0
+  past-rows i j h l gone =
+      row-rest (fieldsOf file) i j h l ∙
+      ap (λ (x : ℕ). byteOfTwo x ((j - 2) % 2)) (no-weight (7 * (i - 1) + (j - 2) / 64) ((j - 2) % 64 / 2) gone) ∙
+      byte-of-zero ((j - 2) % 2)
 
   -- the test of block 0
   pub head-test : (eqb (byteOf file 0 0) 1 && eqb (byteOf file 0 3) 0 && every 438 (λ k. eqb (byteOf file 0 (72 + k)) 0)) ≡ every 510 (stands 0)
@@ -208,7 +201,7 @@ module _ (file : List ℕ) (bytes : Bytes file) where
     past-zero j h = go (decLt j 450)
       where
         go : Dec (j < 450) → rowByte (fieldsOf file) i j ≡ 0
-        go (yes l) = past-rows i j (omega arith) (past j h l)
+        go (yes l) = past-rows i j (omega arith) l (past j h l)
         go (no more) = row-end (fieldsOf file) i j (omega arith)
 
     row-stands-at : byteOf file i 0 ≡ 2 → byteOf file i 1 ≡ i → ((k : ℕ) → k < 510 - z → byteOf file i (z + k) ≡ 0) →
