@@ -3,3 +3,4 @@ pub mod Free
 pub mod Demand1
 pub mod Demand2
 pub mod Demand3
+pub mod Examples

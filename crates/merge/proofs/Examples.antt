@@ -1,7 +1,7 @@
 -- Document 01's starred line on merging M2 holds of the definitions, said of the files.
 use Prim.Native.Nat.{ℕ}
 use mathlib.Core.Bool.{true, false}
-use mathlib.Core.List.{List, [], _∷_, _++_, map}
+use mathlib.Core.List.{List, [], _∷_}
 use mathlib.Core.Path.{_≡_, refl, ap, _∙_}
 use native.Mathlib.Omega.{arith}
 use lib.ListN.{length}
@@ -12,14 +12,11 @@ use Rattle.model.specs.declared.Model.{Model}
 use Rattle.model.specs.Layout.{fileOf}
 use Rattle.model.specs.Rows.{fieldsRight, rowsRight}
 use Rattle.model.proofs.Roundtrip.{Shaped, fields-written, file-written}
-use Rattle.meaning.specs.Lists.{below, every, thereIs, total, Each, nothing, further}
-use Rattle.meaning.specs.Examples.{Claim as Meant, met, claims as starred}
-use Rattle.meaning.proofs.Tests.{and-left, and-right}
-use Rattle.meaning.proofs.Examples.{examples as meant}
+use Rattle.meaning.specs.Lists.{below, thereIs, total, Each, nothing, further}
 use Rattle.meaning.specs.Merging.{weightInto, member}
 use Rattle.merge.specs.Groups.{overAll, groupingRight, groupsAlike, mergedModel}
 use Rattle.merge.specs.Rows.{groupRows, mergeNumber, mergedFile}
-use Rattle.merge.specs.Examples.{M2, M2merged, Claim, means, merges, refuses, Met, claims}
+use Rattle.merge.specs.Examples.{M2, M2merged, merges, Met, claims}
 use Rattle.merge.proofs.Numbers.{file-accepted, groups-12, groups-13, enough-room}
 use Rattle.merge.proofs.Shape.{shaped}
 
@@ -100,20 +97,11 @@ merging-M2 grouping merged grouped alike e = (
   file-of M2 fields-M2 adds-M2 long-M2 grouping ∙ ap fileOf e,
 )
 
--- the meaning's claims, and others after them
-all-then : (l : List Meant) (rest : List Claim) → every met l ≡ true → Each Met (length rest) rest →
-    Each Met (length (map means l ++ rest)) (map means l ++ rest)
-unfolding every Met
-all-then [] rest e r = r
-all-then (x ∷ xs) rest e r =
-    further (and-left (met x) (every met xs) e) (all-then xs rest (and-right (met x) (every met xs) e) r)
-
--- every line marked * agrees with the definitions
+-- the line on merging agrees with the definitions
 pub examples : Each Met (length claims) claims
 unfolding Met claims
 examples =
-    all-then starred (merges M2 (0 ∷ 1 ∷ 1 ∷ []) M2merged ∷ refuses M2 (0 ∷ 0 ∷ 1 ∷ []) 13 ∷ refuses M2 (0 ∷ 2 ∷ 2 ∷ []) 12 ∷ merges M2 (0 ∷ 1 ∷ 2 ∷ []) M2 ∷ []) meant
-    (further (merging-M2 (0 ∷ 1 ∷ 1 ∷ []) M2merged grouped-0-1-1 alike-0-1-1 merged-0-1-1)
+    further (merging-M2 (0 ∷ 1 ∷ 1 ∷ []) M2merged grouped-0-1-1 alike-0-1-1 merged-0-1-1)
     (further (number-M2 (0 ∷ 0 ∷ 1 ∷ []) ∙ groups-13 M2 (0 ∷ 0 ∷ 1 ∷ []) 3072 grouped-0-0-1 unlike-0-0-1)
     (further (number-M2 (0 ∷ 2 ∷ 2 ∷ []) ∙ groups-12 M2 (0 ∷ 2 ∷ 2 ∷ []) 3072 unused-0-2-2)
-    (further (merging-M2 (0 ∷ 1 ∷ 2 ∷ []) M2 grouped-0-1-2 alike-0-1-2 merged-0-1-2) nothing))))
+    (further (merging-M2 (0 ∷ 1 ∷ 2 ∷ []) M2 grouped-0-1-2 alike-0-1-2 merged-0-1-2) nothing)))

@@ -1,14 +1,12 @@
--- Document 01, 'Examples on both sides': the one table of the lines marked *. Those on runs and sentences are the claims of the
--- crate `meaning`; the line on merging M2 follows them. Each claim's text stands above it.
+-- Document 01, 'Examples on both sides': M2 and the line on merging it, as claims. The table of all lines marked * is in the crate
+-- `demands`.
 use Prim.Native.Nat.{ℕ}
-use mathlib.Core.Bool.{true}
-use mathlib.Core.List.{List, [], _∷_, _++_, map}
+use mathlib.Core.List.{List, [], _∷_}
 use mathlib.Core.Path.{_≡_}
 use lib.ListN.{getD}
 use Rattle.counting.specs.Below.{table}
 use Rattle.model.specs.declared.Model.{Model}
 use Rattle.model.specs.Layout.{modelOf, fileOf}
-use Rattle.meaning.specs.Examples.{Claim as Meant, met, claims as starred}
 use Rattle.merge.specs.Rows.{mergeNumber, mergedFile}
 
 -- the model with these masks and rows
@@ -26,22 +24,19 @@ unfoldable pub M2merged : Model
 unfolding modelWith
 M2merged = modelWith 2 1 4 (0 ∷ 1 ∷ []) ((2 ∷ 2 ∷ []) ∷ (0 ∷ 4 ∷ []) ∷ [])
 
--- a line: one of the meaning's; a model's file with a grouping merges to another model's file; it is refused with a number
+-- what the line says of a model's file and a grouping: they merge to another model's file, or are refused with a number
 pub data Claim : Type 0 where
-  means : Meant → Claim
   merges : Model → List ℕ → Model → Claim
   refuses : Model → List ℕ → ℕ → Claim
 
 -- the definitions agree with the line, for an output of 3,072 bytes
 unfoldable pub Met : Claim → Type 0
-Met (means claim) = met claim ≡ true
 Met (merges m grouping merged) = (mergeNumber (fileOf m) grouping 3072 ≡ 0) × (mergedFile (fileOf m) grouping ≡ fileOf merged)
 Met (refuses m grouping number) = mergeNumber (fileOf m) grouping 3072 ≡ number
 
--- the lines marked *
+-- the line on merging
 unfoldable pub claims : List Claim
 claims =
-    map means starred ++
     -- M2 with grouping 0 1 1 merges to rows 2 2 and 0 4
     merges M2 (0 ∷ 1 ∷ 1 ∷ []) M2merged ∷
     -- 0 0 1: 13

@@ -57,7 +57,7 @@ same-refl State = refl
 same-refl Expression = refl
 same-refl Path = refl
 
-same-eq : (a b : Kind) → sameKind a b ≡ true → a ≡ b
+pub same-eq : (a b : Kind) → sameKind a b ≡ true → a ≡ b
 same-eq State State e = refl
 same-eq State Expression e = absurd (true≢false (sym e))
 same-eq State Path e = absurd (true≢false (sym e))
