@@ -5,11 +5,18 @@ use mathlib.Core.List.{List, map}
 use mathlib.Core.Logic.{_↔_}
 use mathlib.Core.Path.{_≡_}
 use lib.ListN.{length, take}
+use Rattle.refusal.specs.declared.Outcome.the-variants.{Done}
 use Rattle.refusal.specs.declared.Written.{Written}
+use Rattle.refusal.specs.declared.Written.the-variants.{Wrote}
 use Rattle.refusal.specs.Rows.{Decided}
-use Rattle.refusal.specs.Answers.{Reply, gives, numberIn, replyOfWritten}
-use Rattle.model.specs.Layout.{fieldsOf}
-use Rattle.model.specs.Rows.{fileNumber}
+use Rattle.refusal.specs.Answers.{Reply, gives, numberIn, replyOf, replyOfWritten, atFront, Writes}
+use Rattle.model.specs.declared.Model.{Model}
+use Rattle.model.specs.declared.ModelRead.{ModelRead}
+use Rattle.model.specs.Layout.{Shaped, fieldsOf, fileOf}
+use Rattle.model.specs.Rows.{fileNumber, Reads, recordRows}
+use Rattle.sentence.specs.declared.Sentence.{Sentence}
+use Rattle.sentence.specs.declared.SentenceRead.{SentenceRead}
+use Rattle.sentence.specs.Calls.{recordOf, ReadAnswer, prefixOf, nodesOf, WriteAnswer}
 use Rattle.meaning.specs.Lists.{total}
 use Rattle.meaning.specs.Chain.{Chain, runWeight, runs}
 use Rattle.meaning.specs.Tree.{PathFormula, next, until, letterOf}
@@ -51,6 +58,23 @@ pub record Demand2 (file : List ℕ) : Type 0 where
       (bottom : ℕ) × (replyCounted a ≡ gives (numerator (numbered (s .body) path) (chainIn file) (length (s .prefix)) tuple, bottom)) ×
       -- over the total weight of all.
       (bottom ≡ total (runWeight (chainIn file)) (runs (chainIn file) (length (s .prefix)) (stepsOf (numbered (s .body) path)) tuple))
+
+-- Demand 2, of the readers and writers.
+pub record RoundTrips : Type 0 where
+  -- Writing what was read gives the same file
+  pub files : {file before after : List ℕ} {r : ModelRead} {w : Written} → Reads file r → numberIn (replyOf (r .outcome)) ≡ 0 →
+      length file ≤ length before → Writes (recordRows (r .model) (length before)) (fileOf (r .model)) before after w →
+      (w ≡ Wrote (length file)) × (after ≡ atFront file before)
+  -- or text,
+  pub texts : {text before after : List ℕ} {r : SentenceRead} {w : Written} → ReadAnswer text r → r .outcome ≡ Done →
+      length text ≤ length before → WriteAnswer (r .sentence) before w after → (w ≡ Wrote (length text)) × (after ≡ atFront text before)
+  -- and reading what was written gives the same model
+  pub models : {m : Model} {before after : List ℕ} {size : ℕ} {r : ModelRead} → Shaped m →
+      Writes (recordRows m (length before)) (fileOf m) before after (Wrote size) → Reads (take size after) r → r ≡ record { outcome = Done; model = m }
+  -- or sentence: its prefix and its nodes, as places past the count are no part of it.
+  pub sentences : {s : Sentence} {before after : List ℕ} {size : ℕ} {r : SentenceRead} → length (s .exists) ≡ 4 →
+      WriteAnswer s before (Wrote size) after → ReadAnswer (take size after) r →
+      r ≡ record { outcome = Done; sentence = recordOf (prefixOf s) (nodesOf s) }
 
 -- Demand 3, of two files, the second with the groups of the first as its states: what merging keeps.
 pub record Keeps (file grouping merged : List ℕ) : Type 0 where

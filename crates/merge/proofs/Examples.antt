@@ -9,9 +9,9 @@ use Rattle.counting.specs.Below.{sum, every as everyBelow, table}
 use Rattle.counting.proofs.Laws.{length-table, table-at}
 use Rattle.refusal.specs.Rows.{first}
 use Rattle.model.specs.declared.Model.{Model}
-use Rattle.model.specs.Layout.{fileOf}
+use Rattle.model.specs.Layout.{Shaped, fileOf}
 use Rattle.model.specs.Rows.{fieldsRight, rowsRight}
-use Rattle.model.proofs.Roundtrip.{Shaped, fields-written, file-written}
+use Rattle.model.proofs.Roundtrip.{fields-written, file-written}
 use Rattle.meaning.specs.Lists.{below, thereIs, total, Each, nothing, further}
 use Rattle.meaning.specs.Merging.{weightInto, member}
 use Rattle.merge.specs.Groups.{overAll, groupingRight, groupsAlike, mergedModel}

@@ -13,10 +13,9 @@ use lib.ListN.{length, getD, List·getD-eq-default}
 use lib.Pow.{pow-mono}
 use Rattle.counting.proofs.Laws.{term-le-sum}
 use Rattle.model.specs.declared.Model.{Model}
-use Rattle.model.specs.Layout.{maskOf, weightOf}
+use Rattle.model.specs.Layout.{Shaped, maskOf, weightOf}
 use Rattle.model.specs.Rows.{fieldsRight, rowsRight}
 use Rattle.model.proofs.Rightness.{labels-few, total-few, mask-at}
-use Rattle.model.proofs.Roundtrip.{Shaped}
 use Rattle.chain.proofs.Right.{row-at, row-zero}
 
 -- a mask has its bits A and up zero, and A is at most 16

@@ -18,9 +18,9 @@ use Rattle.refusal.specs.declared.Written.the-variants.{Wrote}
 use Rattle.refusal.proofs.Listed.{list-number, one-writing}
 use Rattle.refusal.proofs.Laws.{smallest, none-here}
 use Rattle.model.specs.declared.Model.{Model}
-use Rattle.model.specs.Layout.{fieldsOf}
+use Rattle.model.specs.Layout.{Shaped, fieldsOf}
 use Rattle.model.specs.Rows.{fieldsRight, rowsRight, fileNumber}
-use Rattle.model.proofs.Roundtrip.{Shaped, fields-written, file-written}
+use Rattle.model.proofs.Roundtrip.{fields-written, file-written}
 use Rattle.meaning.specs.Chain.{tupleCount}
 use Rattle.meaning.specs.Merging.{Merged}
 use Rattle.meaning.proofs.Merging as merging

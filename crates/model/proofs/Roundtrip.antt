@@ -16,7 +16,7 @@ use Rattle.refusal.specs.Rows.{first}
 use Rattle.block.specs.Block.{byteOf, blocksIn, two, lowByte, highByte, checkOf, checkRight, checksRight}
 use Rattle.block.proofs.Laws.{check-same}
 use Rattle.model.specs.declared.Model.{Model}
-use Rattle.model.specs.Layout.{maskOf, weightOf, twoAt, fourAt, maskAt, weightAt, byteOfTwo, headByte, rowByte, contentByte, byteAt, blockBytes, blocksBelow, blocks, fileOf, fieldsOf}
+use Rattle.model.specs.Layout.{maskOf, weightOf, Shaped, twoAt, fourAt, maskAt, weightAt, byteOfTwo, headByte, rowByte, contentByte, byteAt, blockBytes, blocksBelow, blocks, fileOf, fieldsOf}
 use Rattle.model.specs.Rows.{lengthRight, fieldsRight, laidOut, rowsRight, fileNumber}
 use Rattle.model.proofs.Places.{byte-there}
 use Rattle.model.proofs.Rightness.{states-some, states-few, total-few, weight-past}
@@ -110,14 +110,6 @@ module _ (file : List ℕ) (long : lengthRight file ≡ true) (checks : checksRi
       sym (stands-all i j (omega arith) (omega arith)) ∙ byte-there file (omega arith))
 
 -- ---- reading what was written
-
--- a record as its type has it: 32 masks, 32 rows of 32 weights, each a number of two bytes
-pub record Shaped (m : Model) : Type 0 where
-  pub masks : length (m .masks) ≡ 32
-  pub rows : length (m .weights .rows) ≡ 32
-  pub row : (s : ℕ) → s < 32 → length (getD (m .weights .rows) s []) ≡ 32
-  pub mask : (s : ℕ) → maskOf m s < 65536
-  pub weight : (s t : ℕ) → weightOf m s t < 65536
 
 module _ (m : Model) (right : fieldsRight m ≡ true) (sums : rowsRight m ≡ true) where
   -- byte j of block i of the file, and 0 past its end

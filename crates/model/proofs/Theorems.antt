@@ -15,11 +15,11 @@ use Rattle.refusal.proofs.Laws.{smallest, none-here}
 use Rattle.block.specs.Block.{checksRight}
 use Rattle.model.specs.declared.Model.{Model}
 use Rattle.model.specs.declared.ModelRead.{ModelRead}
-use Rattle.model.specs.Layout.{blocks, fieldsOf, fileOf}
+use Rattle.model.specs.Layout.{Shaped, blocks, fieldsOf, fileOf}
 use Rattle.model.specs.Rows.{lengthRight, fieldsRight, laidOut, rowsRight, fileRows, fileNumber, recordRows, recordNumber, Reads}
 use Rattle.model.proofs.Answer.{record-0, file-rows, record-rows}
 use Rattle.model.proofs.Rightness.{laid-fields}
-use Rattle.model.proofs.Roundtrip.{written-back, Shaped, fields-written, file-written}
+use Rattle.model.proofs.Roundtrip.{written-back, fields-written, file-written}
 use Rattle.model.proofs.Written.{length-blocks}
 
 -- ---- the smallest number that applies

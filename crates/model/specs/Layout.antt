@@ -1,10 +1,11 @@
 -- Document 01, 'The model file': the layout, said once for reading and writing. `fieldsOf` takes the fields out of a file,
 -- `byteAt` says which byte stands where in the file of a model, and `fileOf` is that file.
-use Prim.Native.Nat.{ℕ, zero, suc, _+_, _-_, _*_, _/_, _%_}
+use Prim.Native.Nat.{ℕ, zero, suc, _+_, _-_, _*_, _/_, _%_, _<_}
 use mathlib.Core.Bool.{Bool, cond}
 use mathlib.Core.List.{List, [], _∷_, _++_}
+use mathlib.Core.Path.{_≡_}
 use lib.Dec.{ltb}
-use lib.ListN.{getD}
+use lib.ListN.{length, getD}
 use Rattle.counting.specs.Below.{table}
 use Rattle.block.specs.Block.{byteOf, lowByte, highByte, two, four, checkOf}
 use Rattle.model.specs.declared.Model.{Model}
@@ -17,6 +18,14 @@ maskOf m s = getD (m .masks) s 0
 
 abbrev pub weightOf : Model → ℕ → ℕ → ℕ
 weightOf m s t = getD (getD (m .weights .rows) s []) t 0
+
+-- a record as its type has it: 32 masks, 32 rows of 32 weights, each a number of two bytes
+pub record Shaped (m : Model) : Type 0 where
+  pub masks : length (m .masks) ≡ 32
+  pub rows : length (m .weights .rows) ≡ 32
+  pub row : (s : ℕ) → s < 32 → length (getD (m .weights .rows) s []) ≡ 32
+  pub mask : (s : ℕ) → maskOf m s < 65536
+  pub weight : (s t : ℕ) → weightOf m s t < 65536
 
 -- the model of these fields
 abbrev pub modelOf : (n a d : ℕ) → List ℕ → List (List ℕ) → Model
