@@ -182,7 +182,7 @@ fn operands(nodes: [Slot; 64], at: usize, base: u64, n: u64) -> MeasureTwo
     }
 }
 
-// What is found of a node that wants nothing.
+// What is found of a node that wants nothing; of another nothing is said.
 fn of_none(node: Node, at: usize) -> Measure
     requires { ⌜ at < 64 ⌝ }
     ensures { λ r. ⌜ OfNone node at r ⌝ }
@@ -198,7 +198,7 @@ fn of_none(node: Node, at: usize) -> Measure
     }
 }
 
-// What is found of a node that wants one thing, from what is found of that.
+// What is found of a node that wants one thing, from what is found of that; of another nothing is said.
 fn of_one(node: Node, t: Measure, base: u64, n: u64) -> Measure
     ensures { λ r. ⌜ OfOne node t base n r ⌝ }
 {
@@ -210,7 +210,7 @@ fn of_one(node: Node, t: Measure, base: u64, n: u64) -> Measure
     }
 }
 
-// What is found of a node that wants two things, from what is found of those.
+// What is found of a node that wants two things, from what is found of those; of another nothing is said.
 fn of_two(node: Node, t: MeasureTwo, base: u64, n: u64) -> Measure
     requires { ⌜ n ≤ 4 ⌝ }
     ensures { λ r. ⌜ OfTwo node t base n r ⌝ }
