@@ -61,7 +61,6 @@ module _ {nodes : List Slot} {g : Setting} {masks : List ℕ} {rows : List (List
         letter = range .0;
         some = range .1;
         bound = range .2;
-        few = ready .few;
         sizes = ready .fixed .sizes;
         room = formula-room;
       }

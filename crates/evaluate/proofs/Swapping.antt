@@ -12,7 +12,6 @@ use Rattle.evaluate.specs.Evaluation.{Swapped}
 
 -- of T numbers of each layer the first i have changed places
 pub record Swapping (T : ℕ) (before : List ℕ) (i : ℕ) (after : List ℕ) : Type 0 where
-  pub upTo : i ≤ T
   pub long : length after ≡ length before
   pub first : (j : ℕ) → j < i → getD after j 0 ≡ getD before (T + j) 0
   pub second : (j : ℕ) → j < i → getD after (T + j) 0 ≡ getD before j 0
@@ -22,7 +21,6 @@ pub record Swapping (T : ℕ) (before : List ℕ) (i : ℕ) (after : List ℕ) :
 -- before the first turn
 pub swapping-none : {T : ℕ} {before : List ℕ} → Swapping T before 0 before
 swapping-none = record {
-  upTo = omega arith;
   long = refl;
   first = λ j l. absurd (omega arith);
   second = λ j l. absurd (omega arith);
@@ -58,7 +56,6 @@ module _ {T : ℕ} {before after : List ℕ} {i : ℕ} (h : Swapping T before i 
   pub swapping-next : Swapping T before (i + 1) (set (set after i (getD after (T + i) 0)) (T + i) (getD after i 0))
   unfolding now
   swapping-next = record {
-    upTo = omega arith;
     long = length-set (set after i (getD after (T + i) 0)) (T + i) (getD after i 0) ∙
         length-set after i (getD after (T + i) 0) ∙ h .long;
     first = λ j l. go-first j l (decLt j i);

@@ -43,7 +43,6 @@ pub record LabelReady (g : Setting) (masks : List ℕ) (l variable : ℕ) (w : L
   pub letter : l < 16
   pub some : 1 ≤ variable
   pub bound : variable ≤ g .variables
-  pub few : g .variables ≤ 4
   pub sizes : Sizes (g .states) (g .variables) (g .tuples)
   pub room : g .tuples ≤ length w
 
