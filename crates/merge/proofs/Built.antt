@@ -1,7 +1,7 @@
 -- What the code builds is what the definitions say: the totals of the states into the groups, the test of the groups, and
 -- the merged model.
 use Prim.Native.Nat.{ℕ, _≤_, _<_}
-use mathlib.Core.Bool.{Bool, true, cond, not, _&&_, _||_}
+use mathlib.Core.Bool.{Bool, true, cond, _&&_}
 use mathlib.Core.List.{List, []}
 use mathlib.Core.Path.{_≡_, sym, ap, ap₂, _∙_}
 use native.Mathlib.Decide.{decLt}
@@ -24,6 +24,7 @@ use Rattle.merge.specs.Groups.{groupOf, groupCount, groupingRight, membe
 use Rattle.merge.specs.Working.{pairAlike, masksOfGroups, rowsOfGroups}
 use Rattle.merge.proofs.Grouped.{as-long, grouping-is, member-of}
 use Rattle.merge.proofs.Merging.{few}
+use Rattle.merge.proofs.Stability.{first-alike}
 
 -- the totals of the states into the groups, over the states below n
 abbrev pub totalsOf : List (List ℕ) → List ℕ → ℕ → List (List ℕ)
@@ -68,22 +69,22 @@ module _ (m : Model) (grouping : List ℕ) (fields : fieldsRight m ≡ true) whe
     pub alike-built :
         every (m .n)
         (λ s.
-        every (m .n)
-        (pairAlike (m .masks) (totalsOf (m .weights .rows) grouping (m .n)) grouping (groupCount grouping) s)) ≡
+        pairAlike (m .masks) (totalsOf (m .weights .rows) grouping (m .n)) (groupCount grouping) s
+        (memberOf (m .n) grouping (groupOf grouping s))) ≡
         groupsAlike m grouping
-    unfolding groupsAlike
     alike-built =
         every-same (m .n)
         (λ s l.
-        every-same (m .n)
-        (λ t k.
-        ap
-        (λ (b : Bool). not (eqb (groupOf grouping s) (groupOf grouping t)) || (eqb (maskOf m s) (maskOf m t) && b))
+        let states = right.states-few m fields in
+        let first = memberOf (m .n) grouping (groupOf grouping s) in
+        let small = member-of (chainOf m) grouping grouped (groupOf grouping s)
+        (grouping-is (chainOf m) grouping grouped .inside s l) .0 in
+        ap (λ (b : Bool). eqb (maskOf m s) (maskOf m first) && b)
         (every-same (groupCount grouping)
         (λ h w.
         let groups = few m grouping fields grouped in
-        let states = right.states-few m fields in
-        ap₂ eqb (total-is s h (omega arith) (omega arith)) (total-is t h (omega arith) (omega arith))))))
+        ap₂ eqb (total-is s h (omega arith) (omega arith)) (total-is first h (omega arith) (omega arith))))) ∙
+        first-alike m grouping grouped
 
     -- into a number that is no group's nothing leads
     into-none : (s h : ℕ) → groupCount grouping ≤ h → weightInto (chainOf m) (groupOf grouping) s h ≡ 0

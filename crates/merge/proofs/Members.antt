@@ -75,6 +75,18 @@ module _ (f : ℕ → ℕ) (g : ℕ) where
           ap (λ (b : Bool). cond b n 0) (eq-eqb (f n) g (ap f (sym e) ∙ h .found less)) ∙
           sym e
 
+-- the first state of a state's group is a state, and is its member
+pub own-first : (n : ℕ) (grouping : List ℕ) (s : ℕ) {g r : ℕ} → s < n → length grouping ≡ n → g ≡ groupOf grouping s →
+    First (groupOf grouping) g (length grouping) r → (r < n) × (memberOf n grouping (groupOf grouping s) ≡ r)
+own-first n grouping s {g} {r} l long e h = go (decLt s r)
+  where
+    go : Dec (s < r) → (r < n) × (memberOf n grouping (groupOf grouping s) ≡ r)
+    go (yes past) = absurd (h .before s past (sym e))
+    go (no least) = (
+      omega arith,
+      ap₂ (λ n g. memberOf n grouping g) (sym long) (sym e) ∙ member-first (groupOf grouping) g h (omega arith),
+    )
+
 -- where every group below a count is used, the first state of one is a state, and is its member
 module _ (grouping : List ℕ) (count : ℕ) (all : every count (isUsed grouping) ≡ true) (g : ℕ) (few : g < count) where
   pub first-below : {r : ℕ} → First (groupOf grouping) g (length grouping) r → r < length grouping

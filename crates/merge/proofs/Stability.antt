@@ -3,16 +3,17 @@
 use Prim.Native.Nat.{ℕ, _<_}
 use mathlib.Core.Bool.{Bool, true, false, not, _||_, true≢false}
 use mathlib.Core.List.{List}
-use mathlib.Core.Path.{_≡_, refl, sym, ap}
+use mathlib.Core.Path.{_≡_, refl, sym, ap, _∙_}
 use borrow.Author.Tests.{eqb-true, eq-eqb}
 use lib.Dec.{eqb}
 use Rattle.counting.specs.Below.{every}
-use Rattle.counting.proofs.Laws.{left-of, right-of, every-at, every-all, and-true}
+use Rattle.counting.proofs.Laws.{left-of, right-of, every-at, every-all, and-true, same-truth}
 use Rattle.model.specs.declared.Model.{Model}
 use Rattle.model.specs.Layout.{maskOf}
 use Rattle.meaning.specs.Merging.{weightInto, Stable}
 use Rattle.chain.specs.Of.{bit, chainOf}
-use Rattle.merge.specs.Groups.{groupOf, groupCount, alike, groupsAlike}
+use Rattle.merge.specs.Groups.{groupOf, groupCount, groupingRight, memberOf, alike, groupsAlike}
+use Rattle.merge.proofs.Grouped.{grouping-is, member-of}
 
 -- 'if a then b' as a test
 unless : (a b : Bool) → (not a || b) ≡ true → a ≡ true → b ≡ true
@@ -44,17 +45,24 @@ module _ (m : Model) (grouping : List ℕ) where
       (λ s. every (m .n) (λ t. not (eqb (groupOf grouping s) (groupOf grouping t)) || alike m grouping s t)) e s l) t k)
       (eq-eqb (groupOf grouping s) (groupOf grouping t) same)
 
+  -- two states that are alike have one mask, and the same weight into every group
+  alike-mask : (s t : ℕ) → alike m grouping s t ≡ true → maskOf m s ≡ maskOf m t
+  alike-mask s t e =
+      eqb-true (maskOf m s) (maskOf m t) (left-of (eqb (maskOf m s) (maskOf m t)) (every (groupCount grouping) (sameWeight s t)) e)
+
+  alike-weight : (s t : ℕ) → alike m grouping s t ≡ true → (h : ℕ) → h < groupCount grouping →
+      weightInto (chainOf m) (groupOf grouping) s h ≡ weightInto (chainOf m) (groupOf grouping) t h
+  alike-weight s t e h w =
+      eqb-true (weightInto (chainOf m) (groupOf grouping) s h) (weightInto (chainOf m) (groupOf grouping) t h)
+      (every-at (groupCount grouping) (sameWeight s t)
+      (right-of (eqb (maskOf m s) (maskOf m t)) (every (groupCount grouping) (sameWeight s t)) e) h w)
+
   -- row 13 does not apply
   pub alike-is : groupsAlike m grouping ≡ true → Alike
   alike-is e =
       record {
-        masks = λ s t l k same.
-            eqb-true (maskOf m s) (maskOf m t)
-            (left-of (eqb (maskOf m s) (maskOf m t)) (every (groupCount grouping) (sameWeight s t)) (pair e s t l k same));
-        weights = λ s t l k same h w.
-            eqb-true (weightInto (chainOf m) (groupOf grouping) s h) (weightInto (chainOf m) (groupOf grouping) t h)
-            (every-at (groupCount grouping) (sameWeight s t)
-            (right-of (eqb (maskOf m s) (maskOf m t)) (every (groupCount grouping) (sameWeight s t)) (pair e s t l k same)) h w);
+        masks = λ s t l k same. alike-mask s t (pair e s t l k same);
+        weights = λ s t l k same h w. alike-weight s t (pair e s t l k same) h w;
       }
 
   -- and only then
@@ -79,3 +87,36 @@ module _ (m : Model) (grouping : List ℕ) where
   stable e =
       let a = alike-is e in
       record { labels = λ s t l k same b. ap (bit b) (a .masks s t l k same); weights = a .weights }
+
+  -- it is enough that each state is like the first of its group
+  pub first-alike : groupingRight (m .n) grouping ≡ true →
+      every (m .n) (λ s. alike m grouping s (memberOf (m .n) grouping (groupOf grouping s))) ≡ groupsAlike m grouping
+  first-alike grouped = same-truth (every (m .n) like) (groupsAlike m grouping)
+      (λ h.
+      is-alike
+      (record {
+        masks = λ s t l k same. mask h s l ∙ ap (λ g. maskOf m (first g)) same ∙ sym (mask h t k);
+        weights = λ s t l k same j w. weight h s l j w ∙ ap (λ g. into (first g) j) same ∙ sym (weight h t k j w);
+      }))
+      (λ h.
+      every-all (m .n) like
+      (λ s l.
+      let own = member-of (chainOf m) grouping grouped (groupOf grouping s)
+      (grouping-is (chainOf m) grouping grouped .inside s l) in
+      pair h s (first (groupOf grouping s)) l (own .0) (sym (own .1))))
+    where
+      first : ℕ → ℕ
+      first g = memberOf (m .n) grouping g
+
+      into : ℕ → ℕ → ℕ
+      into s h = weightInto (chainOf m) (groupOf grouping) s h
+
+      like : ℕ → Bool
+      like s = alike m grouping s (memberOf (m .n) grouping (groupOf grouping s))
+
+      mask : every (m .n) like ≡ true → (s : ℕ) → s < m .n → maskOf m s ≡ maskOf m (first (groupOf grouping s))
+      mask h s l = alike-mask s (first (groupOf grouping s)) (every-at (m .n) like h s l)
+
+      weight : every (m .n) like ≡ true → (s : ℕ) → s < m .n → (j : ℕ) → j < groupCount grouping →
+          into s j ≡ into (first (groupOf grouping s)) j
+      weight h s l j w = alike-weight s (first (groupOf grouping s)) (every-at (m .n) like h s l) j w

@@ -1,12 +1,12 @@
 -- What the parts of merge's code work with: names for their contracts. Nothing here has to be believed.
 use Prim.Native.Nat.{ℕ, _<_, _≤_}
-use mathlib.Core.Bool.{Bool, cond, not, _&&_, _||_}
+use mathlib.Core.Bool.{Bool, cond, _&&_}
 use mathlib.Core.List.{List, []}
 use mathlib.Core.Path.{_≡_}
 use lib.Dec.{ltb, eqb}
 use lib.ListN.{length, getD}
 use Rattle.counting.specs.Below.{every, table}
-use Rattle.merge.specs.Groups.{groupOf, memberOf}
+use Rattle.merge.specs.Groups.{memberOf}
 
 -- r is the first number below n at which f is g, and n where there is none
 pub record First (f : ℕ → ℕ) (g n r : ℕ) : Type 0 where
@@ -14,11 +14,10 @@ pub record First (f : ℕ → ℕ) (g n r : ℕ) : Type 0 where
   pub before : (k : ℕ) → k < r → f k ≡ g → ⊥
   pub found : r < n → f r ≡ g
 
--- two states, if they are of one group, agree in their masks and in the first columns of their totals
-abbrev pub pairAlike : List ℕ → List (List ℕ) → List ℕ → ℕ → ℕ → ℕ → Bool
-pairAlike masks totals grouping count s t =
-    not (eqb (groupOf grouping s) (groupOf grouping t)) ||
-    (eqb (getD masks s 0) (getD masks t 0) && every count (λ h. eqb (getD (getD totals s []) h 0) (getD (getD totals t []) h 0)))
+-- two states agree in their masks and in the first columns of their totals
+abbrev pub pairAlike : List ℕ → List (List ℕ) → ℕ → ℕ → ℕ → Bool
+pairAlike masks totals count s t =
+    eqb (getD masks s 0) (getD masks t 0) && every count (λ h. eqb (getD (getD totals s []) h 0) (getD (getD totals t []) h 0))
 
 -- the masks of the groups below a count, and 0 from it on
 abbrev pub masksOfGroups : List ℕ → List ℕ → ℕ → List ℕ

@@ -15,7 +15,7 @@ use Rattle.model.specs.Layout.{modelOf, fileOf}
 use Rattle.model.specs.Rows.{recordRows, recordNumber}
 use Rattle.model.proofs.Answer.{record-rows}
 use Rattle.model.proofs.Rightness as right
-use Rattle.merge.specs.Groups.{groupCount, isUsed, groupingRight, groupsAlike, mergedModel}
+use Rattle.merge.specs.Groups.{groupOf, groupCount, isUsed, memberOf, groupingRight, groupsAlike, mergedModel}
 use Rattle.merge.specs.Working.{pairAlike, masksOfGroups, rowsOfGroups}
 use Rattle.merge.proofs.Grouped.{as-long, all-used}
 use Rattle.merge.proofs.Merging.{few}
@@ -59,7 +59,8 @@ tested c =
     c .states-alike .ensures ∙
     ap₂
     (λ (totals : List (List ℕ)) (count : ℕ).
-    every (a .m .n) (λ s. every (a .m .n) (pairAlike (a .m .masks) totals (a .grouping .now) count s)))
+    every (a .m .n)
+    (λ s. pairAlike (a .m .masks) totals count s (memberOf (a .m .n) (a .grouping .now) (groupOf (a .grouping .now) s))))
     (totalled t) (counted (t .before .before .before)) ∙
     alike-built (a .m) (a .grouping .now) (start .pre .0) (grouped e)
 
@@ -94,7 +95,7 @@ states-alike-requires c κs =
     let states = right.states-few (a .m) (start .pre .0) in
     let groups = few (a .m) (a .grouping .now) (start .pre .0) (grouped e) in
     let count = counted (c .before .before .before .before) in
-    (omega arith, omega arith)
+    (omega arith, omega arith, as-long (a .m .n) (a .grouping .now) (grouped e))
 
 returns-2 : tie.Need-returns-2
 returns-2 c =

@@ -1,18 +1,11 @@
 -- `merge::alike::pair_alike` meets its contract, by what its parts ensure.
 use borrow.Author.Needs.{needs}
-use Prim.Native.Nat.{ℕ}
-use mathlib.Core.Bool.{Bool, not, _&&_, _||_}
-use mathlib.Core.Path.{ap, ap₂}
+use mathlib.Core.Bool.{Bool, _&&_}
+use mathlib.Core.Path.{ap}
 use lib.Dec.{eqb}
 use lib.ListN.{getD}
 use Rattle.merge.proofs.alike.pair_alike.Statement.{statement}
 use Rattle.merge.proofs.alike.pair_alike.Tie as tie
-
-group-of-requires : tie.Need-group-of-requires
-group-of-requires c κs = search needs
-
-group-of-requires-2 : tie.Need-group-of-requires-2
-group-of-requires-2 c κs = search needs
 
 mul-a : tie.Need-mul-a
 mul-a c = search needs
@@ -43,18 +36,13 @@ rows-agree-requires c κs = search needs
 
 returns : tie.Need-returns
 returns c =
-    let b = c .before .before .before .before .before .before .before in
-    let a = b .before .before .before .args in
-    ap₂ _||_
-    (ap₂ (λ (g h : ℕ). not (eqb g h)) (b .before .group-of .ensures .0) (b .group-of2 .ensures .0))
-    (ap (λ (x : Bool). eqb (getD (a .masks .now) (a .s) 0) (getD (a .masks .now) (a .t) 0) && x) (c .rows-agree .ensures))
+    let a = c .before .before .before .before .before .before .before .args in
+    ap (λ (x : Bool). eqb (getD (a .masks .now) (a .s) 0) (getD (a .masks .now) (a .t) 0) && x) (c .rows-agree .ensures)
 
 pub pair-alike-spec : {M : Type 1} → statement M
 pair-alike-spec =
     tie.close
     (tie.spec
-    group-of-requires
-    group-of-requires-2
     mul-a
     array-copy-out-a
     mul-b
