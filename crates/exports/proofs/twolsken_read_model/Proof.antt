@@ -7,27 +7,6 @@ use Rattle.exports.specs.Records.{headOf}
 use Rattle.exports.proofs.twolsken_read_model.Statement.{statement}
 use Rattle.exports.proofs.twolsken_read_model.Tie as tie
 
-read-model-requires : tie.Need-read-model-requires
-read-model-requires c κs = search needs
-
-enum-known-outcome : tie.Need-enum-known-outcome
-enum-known-outcome c = search needs
-
-cast-result : tie.Need-cast-result
-cast-result c = search needs
-
-enum-told : tie.Need-enum-told
-enum-told c = search needs
-
-cast-t11 : tie.Need-cast-t11
-cast-t11 c = search needs
-
-cast-t12 : tie.Need-cast-t12
-cast-t12 c = search needs
-
-rows-of-requires : tie.Need-rows-of-requires
-rows-of-requires c κs = search needs
-
 returns : tie.Need-returns
 returns c =
     let e = ap replyOf (c .before .outcome .given .1) in
@@ -61,12 +40,12 @@ pub twolsken-read-model-spec : {M : Type 1} → statement M
 twolsken-read-model-spec =
     tie.close
     (tie.spec
-    read-model-requires
-    enum-known-outcome
-    cast-result
-    enum-told
-    cast-t11
-    cast-t12
-    rows-of-requires
+    (λ c κs. search needs)
+    (λ c. search needs)
+    (λ c. search needs)
+    (λ c. search needs)
+    (λ c. search needs)
+    (λ c. search needs)
+    (λ c κs. search needs)
     returns
     returns-2)

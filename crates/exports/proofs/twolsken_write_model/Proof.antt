@@ -8,18 +8,6 @@ use Rattle.exports.specs.Records.{WritesModel}
 use Rattle.exports.proofs.twolsken_write_model.Statement.{statement}
 use Rattle.exports.proofs.twolsken_write_model.Tie as tie
 
-holding-requires : tie.Need-holding-requires
-holding-requires c κs = search needs
-
-write-model-requires : tie.Need-write-model-requires
-write-model-requires c κs = search needs
-
-written-code-requires : tie.Need-written-code-requires
-written-code-requires c κs = search needs
-
-same-length : tie.Need-same-length
-same-length c = search needs
-
 -- the model that is written is that of the lent parts
 returns : tie.Need-returns
 returns c =
@@ -31,4 +19,4 @@ returns c =
 
 pub twolsken-write-model-spec : {M : Type 1} → statement M
 twolsken-write-model-spec =
-    tie.close (tie.spec holding-requires write-model-requires written-code-requires same-length returns)
+    tie.close (tie.spec (λ c κs. search needs) (λ c κs. search needs) (λ c κs. search needs) (λ c. search needs) returns)

@@ -5,18 +5,6 @@ use Rattle.exports.specs.Records.{codeOf}
 use Rattle.exports.proofs.written_code.Statement.{statement}
 use Rattle.exports.proofs.written_code.Tie as tie
 
-enum-known-written : tie.Need-enum-known-written
-enum-known-written c = search needs
-
-enum-known-written-2 : tie.Need-enum-known-written-2
-enum-known-written-2 c = search needs
-
-cast-result : tie.Need-cast-result
-cast-result c = search needs
-
-add-result : tie.Need-add-result
-add-result c = search needs
-
 returns : tie.Need-returns
 unfolding codeOf
 returns c = sym (ap codeOf (c .before .written .given .1))
@@ -26,4 +14,4 @@ unfolding codeOf
 returns-2 c = sym (ap codeOf (c .before .written2 .given .1))
 
 pub written-code-spec : {M : Type 1} → statement M
-written-code-spec = tie.close (tie.spec enum-known-written enum-known-written-2 cast-result add-result returns returns-2)
+written-code-spec = tie.close (tie.spec (λ c. search needs) (λ c. search needs) (λ c. search needs) (λ c. search needs) returns returns-2)

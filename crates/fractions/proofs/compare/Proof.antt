@@ -7,15 +7,6 @@ use Rattle.fractions.proofs.Operands.{crosses-back}
 use Rattle.fractions.proofs.compare.Statement.{statement}
 use Rattle.fractions.proofs.compare.Tie as tie
 
-cross-requires : tie.Need-cross-requires
-cross-requires c κs = search needs
-
-cross-requires-2 : tie.Need-cross-requires-2
-cross-requires-2 c κs = search needs
-
-relate-requires : tie.Need-relate-requires
-relate-requires c κs = search needs
-
 returns : tie.Need-returns
 unfolding compared
 returns c =
@@ -25,4 +16,4 @@ returns c =
     (c .before .before .cross .ensures) (c .before .cross2 .ensures)
 
 pub compare-spec : {M : Type 1} → statement M
-compare-spec = tie.close (tie.spec cross-requires cross-requires-2 relate-requires returns)
+compare-spec = tie.close (tie.spec (λ c κs. search needs) (λ c κs. search needs) (λ c κs. search needs) returns)

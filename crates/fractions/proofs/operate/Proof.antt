@@ -25,9 +25,6 @@ differences : (c : tie.After-enum-told2) →
 unfolding sized
 differences c = crossed (c .before .before .pre) (ap sized (c .enum-told2 .given .1))
 
-enum-told : tie.Need-enum-told
-enum-told c = search needs
-
 cross-requires : tie.Need-cross-requires
 cross-requires c κs = cross-asked (sums c .each .first) (c .before .before .fits .a)
 
@@ -40,9 +37,6 @@ plus-requires c κs =
     let fits = told .before .before .fits in
     crosses-fit (sums told) (fits .a) (fits .b) (c .before .cross .ensures) (c .cross2 .ensures)
 
-enum-told-2 : tie.Need-enum-told-2
-enum-told-2 c = search needs
-
 cross-requires-3 : tie.Need-cross-requires-3
 cross-requires-3 c κs = cross-asked (differences c .each .first) (c .before .before .fits .a)
 
@@ -54,9 +48,6 @@ minus-requires c κs =
     let told = c .before .before in
     let fits = told .before .before .fits in
     crosses-fit (differences told) (fits .a) (fits .b) (c .before .cross3 .ensures) (c .cross4 .ensures)
-
-enum-told-3 : tie.Need-enum-told-3
-enum-told-3 c = search needs
 
 times-requires : tie.Need-times-requires
 unfolding sized mulS
@@ -96,15 +87,15 @@ pub operate-spec : {M : Type 1} → statement M
 operate-spec =
     tie.close
     (tie.spec
-    enum-told
+    (λ c. search needs)
     cross-requires
     cross-requires-2
     plus-requires
-    enum-told-2
+    (λ c. search needs)
     cross-requires-3
     cross-requires-4
     minus-requires
-    enum-told-3
+    (λ c. search needs)
     times-requires
     returns
     returns-2

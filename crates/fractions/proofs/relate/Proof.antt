@@ -20,21 +20,6 @@ as-told {known = known} {a = a} {b = b} e fits-a fits-b p =
     ap₂ (related (relationOf known)) (toZ-ofZ fits-a) (toZ-ofZ fits-b) ∙
     sym (ap (λ r. related (relationOf r) a b) e)
 
-enum-told : tie.Need-enum-told
-enum-told c = search needs
-
-enum-told-2 : tie.Need-enum-told-2
-enum-told-2 c = search needs
-
-enum-told-3 : tie.Need-enum-told-3
-enum-told-3 c = search needs
-
-enum-told-4 : tie.Need-enum-told-4
-enum-told-4 c = search needs
-
-enum-told-5 : tie.Need-enum-told-5
-enum-told-5 c = search needs
-
 returns : tie.Need-returns
 unfolding related
 returns c = as-told (c .enum-told .given .1) (c .before .before .fits .a) (c .before .before .fits .b) refl
@@ -59,11 +44,11 @@ pub relate-spec : {M : Type 1} → statement M
 relate-spec =
     tie.close
     (tie.spec
-    enum-told
-    enum-told-2
-    enum-told-3
-    enum-told-4
-    enum-told-5
+    (λ c. search needs)
+    (λ c. search needs)
+    (λ c. search needs)
+    (λ c. search needs)
+    (λ c. search needs)
     returns
     returns-2
     returns-3

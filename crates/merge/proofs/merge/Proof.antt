@@ -17,15 +17,6 @@ use Rattle.merge.proofs.Numbers.{group-rows, merge-rows, file-refused, 
 use Rattle.merge.proofs.merge.Statement.{statement}
 use Rattle.merge.proofs.merge.Tie as tie
 
-read-model-requires : tie.Need-read-model-requires
-read-model-requires c κs = search needs
-
-enum-known-outcome : tie.Need-enum-known-outcome
-enum-known-outcome c = search needs
-
-enum-told : tie.Need-enum-told
-enum-told c = search needs
-
 -- an answer of the reader: the file is accepted, and the model is that of its fields
 read : (c : tie.After-enum-told) → fileNumber (c .before .before .before .before .before .before .args .file .now) ≡ 0
 read c =
@@ -53,9 +44,6 @@ returns c =
     (file-refused (a .file .now) (a .grouping .now) (length (a .out .now)) (refusal .0) (refusal .1))
     (ap Unwritten (refusal .2)) refl
 
-same-length : tie.Need-same-length
-same-length c = search needs
-
 returns-2 : tie.Need-returns-2
 unfolding mergeNumber
 returns-2 c =
@@ -75,10 +63,10 @@ pub merge-spec : {M : Type 1} → statement M
 merge-spec =
     tie.close
     (tie.spec
-    read-model-requires
-    enum-known-outcome
-    enum-told
+    (λ c κs. search needs)
+    (λ c. search needs)
+    (λ c. search needs)
     merge-model-requires
     returns
-    same-length
+    (λ c. search needs)
     returns-2)

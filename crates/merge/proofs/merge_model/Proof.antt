@@ -25,12 +25,6 @@ use Rattle.refusal.proofs.Listed.{writes-refused, rows-changed}
 use Rattle.merge.proofs.merge_model.Statement.{statement}
 use Rattle.merge.proofs.merge_model.Tie as tie
 
-cast-n : tie.Need-cast-n
-cast-n c = search needs
-
-grouping-right-requires : tie.Need-grouping-right-requires
-grouping-right-requires c κs = search needs
-
 -- what the tests say
 grouped : (c : tie.Else1) →
     let a = c .before .before .before .before .before .args in
@@ -70,12 +64,6 @@ returns c =
     writes-refused (group-rows (a .m) (a .grouping .now) (length (a .out .now))) (fileOf (mergedModel (a .m) (a .grouping .now))) 11
     (groups-12 (a .m) (a .grouping .now) (length (a .out .now))
     (sym (c .before .grouping-right .ensures) ∙ not-true _ (c .if1 .taken))) refl refl
-
-group-count-requires : tie.Need-group-count-requires
-group-count-requires c κs = search needs
-
-rows-of-requires : tie.Need-rows-of-requires
-rows-of-requires c κs = search needs
 
 totals-of-requires : tie.Need-totals-of-requires
 totals-of-requires c κs =
@@ -119,12 +107,6 @@ model-of-groups-requires c κs =
       subst (λ (k : ℕ). every k (isUsed (a .grouping .now)) ≡ true) (sym count) (all-used (a .m .n) (a .grouping .now) (grouped e)),
     )
 
-write-model-requires : tie.Need-write-model-requires
-write-model-requires c κs = search needs
-
-same-length : tie.Need-same-length
-same-length c = search needs
-
 -- what the writer is given
 built : (c : tie.After-model-of-groups) →
     let a = c .before .before .before .before .before .before .before .before .before .before .before .before .before .before .args in
@@ -163,15 +145,15 @@ pub merge-model-spec : {M : Type 1} → statement M
 merge-model-spec =
     tie.close
     (tie.spec
-    cast-n
-    grouping-right-requires
+    (λ c. search needs)
+    (λ c κs. search needs)
     returns
-    group-count-requires
-    rows-of-requires
+    (λ c κs. search needs)
+    (λ c κs. search needs)
     totals-of-requires
     states-alike-requires
     returns-2
     model-of-groups-requires
-    write-model-requires
-    same-length
+    (λ c κs. search needs)
+    (λ c. search needs)
     returns-3)

@@ -10,12 +10,6 @@ use Rattle.numerator.proofs.asks_right.Tie as tie
 path-place-requires : tie.Need-path-place-requires
 path-place-requires c κs = count-few (c .before .before .pre .read .sentence)
 
-cast-tuple-right : tie.Need-cast-tuple-right
-cast-tuple-right c = search needs
-
-tuple-right-requires : tie.Need-tuple-right-requires
-tuple-right-requires c κs = search needs
-
 returns : tie.Need-returns
 returns c = record {
   each = λ text b. ap₂ (λ (x y : Bool). x && y) (c .tuple-right .ensures) (place-test b (c .before .before .path-place .ensures));
@@ -23,4 +17,4 @@ returns c = record {
 
 pub asks-right-spec : {M : Type 1} → statement M
 asks-right-spec =
-    tie.close (tie.spec path-place-requires cast-tuple-right tuple-right-requires returns)
+    tie.close (tie.spec path-place-requires (λ c. search needs) (λ c κs. search needs) returns)

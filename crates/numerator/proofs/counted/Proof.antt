@@ -8,12 +8,6 @@ use Rattle.numerator.proofs.Counting.{tuple-ready, tuple-inside, path-r
 use Rattle.numerator.proofs.counted.Statement.{statement}
 use Rattle.numerator.proofs.counted.Tie as tie
 
-setting-of-requires : tie.Need-setting-of-requires
-setting-of-requires c κs = search needs
-
-rows-of-requires : tie.Need-rows-of-requires
-rows-of-requires c κs = search needs
-
 path-place-requires : tie.Need-path-place-requires
 path-place-requires c κs = count-few (c .before .before .before .before .before .before .pre .0 .ready .read .sentence)
 
@@ -46,9 +40,6 @@ slice-read-t20 c =
     let inside = low (c .before) in
     omega (arith, long, inside)
 
-same-length : tie.Need-same-length
-same-length c = search needs
-
 returns : tie.Need-returns
 returns c = record {
   each = λ text b.
@@ -64,12 +55,12 @@ pub counted-spec : {M : Type 1} → statement M
 counted-spec =
     tie.close
     (tie.spec
-    setting-of-requires
-    rows-of-requires
+    (λ c κs. search needs)
+    (λ c κs. search needs)
     path-place-requires
     path-requires
     tuple-place-requires
     mul-t18
     slice-read-t20
-    same-length
+    (λ c. search needs)
     returns)

@@ -16,15 +16,6 @@ use Rattle.numerator.proofs.Answering.{refused-so, refused-15, answered
 use Rattle.numerator.proofs.numerator.Statement.{statement}
 use Rattle.numerator.proofs.numerator.Tie as tie
 
-read-model-requires : tie.Need-read-model-requires
-read-model-requires c κs = search needs
-
-read-sentence-requires : tie.Need-read-sentence-requires
-read-sentence-requires c κs = search needs
-
-first-number-requires : tie.Need-first-number-requires
-first-number-requires c κs = search needs
-
 returns : tie.Need-returns
 returns c =
     let asked = c .before in
@@ -91,9 +82,6 @@ zero-requires c κs =
     let room = space (none free) in
     omega (arith, long, room)
 
-same-length : tie.Need-same-length
-same-length c = search needs
-
 returns-3 : tie.Need-returns-3
 returns-3 c =
     let counted = c .before .before .before .before .before .before in
@@ -110,9 +98,9 @@ pub numerator-spec : {M : Type 1} → statement M
 numerator-spec =
     tie.close
     (tie.spec
-    read-model-requires
-    read-sentence-requires
-    first-number-requires
+    (λ c κs. search needs)
+    (λ c κs. search needs)
+    (λ c κs. search needs)
     returns
     asks-right-requires
     returns-2
@@ -120,5 +108,5 @@ numerator-spec =
     slice-aggregate-counted
     counted-requires
     zero-requires
-    same-length
+    (λ c. search needs)
     returns-3)

@@ -16,9 +16,6 @@ use Rattle.question.proofs.first_number.Tie as tie
 returns : tie.Need-returns
 returns c = record { each = λ file text reads said. gives-1 (c .if1 .taken) }
 
-number-of-requires : tie.Need-number-of-requires
-number-of-requires c κs = search needs
-
 -- the reader's number is the file's
 of-file : (c : tie.After-number-of) (file : List ℕ) → Reads file (c .before .before .args .m) → fileNumber file ≡ c .number-of .result
 of-file c file reads = sym (reads-number reads) ∙ sym (c .number-of .ensures)
@@ -27,9 +24,6 @@ returns-2 : tie.Need-returns-2
 returns-2 c = record {
   each = λ file text reads said. gives-file (c .before .before .if1 .left) (of-file (c .before) file reads) (c .if2 .taken);
 }
-
-number-of-requires-2 : tie.Need-number-of-requires-2
-number-of-requires-2 c κs = search needs
 
 -- the file is accepted
 free : (c : tie.Else2) (file : List ℕ) → Reads file (c .before .before .before .args .m) → fileNumber file ≡ 0
@@ -71,9 +65,9 @@ first-number-spec =
     tie.close
     (tie.spec
     returns
-    number-of-requires
+    (λ c κs. search needs)
     returns-2
-    number-of-requires-2
+    (λ c κs. search needs)
     returns-3
     late-number-requires
     returns-4)

@@ -22,25 +22,10 @@ abbrev μ-loop : tie.MeasureT-loop
 loop-holds : tie.Need-loop-holds Inv-loop μ-loop
 loop-holds c = left-none
 
-mul-slot : tie.Need-mul-slot Inv-loop μ-loop
-mul-slot c = search needs
-
-array-copy-out-slot : tie.Need-array-copy-out-slot Inv-loop μ-loop
-array-copy-out-slot c = search needs
-
-label-right-requires : tie.Need-label-right-requires Inv-loop μ-loop
-label-right-requires c κs = search needs
-
 returns : tie.Need-returns Inv-loop μ-loop
 returns c =
     left-failed (slot True) (c .before .before .before .before .loop .inv) (omega arith) (let long = c .before .before .before .before .before .good .0 .1 .0 .1 in let few = c .before .before .before .before .before .pre in omega arith)
     (sym (c .before .label-right .ensures) ∙ not-true _ (c .if1 .taken))
-
-add-i : tie.Need-add-i Inv-loop μ-loop
-add-i c = search needs
-
-loop-less : tie.Need-loop-less Inv-loop μ-loop
-loop-less c = search needs
 
 loop-again : tie.Need-loop-again Inv-loop μ-loop
 loop-again c =
@@ -57,11 +42,11 @@ labels-right-spec =
     Inv-loop
     μ-loop
     loop-holds
-    mul-slot
-    array-copy-out-slot
-    label-right-requires
+    (λ c. search needs)
+    (λ c. search needs)
+    (λ c κs. search needs)
     returns
-    add-i
-    loop-less
+    (λ c. search needs)
+    (λ c. search needs)
     loop-again
     returns-2)

@@ -35,9 +35,6 @@ right : (c : tie.Else1) (file text : List ℕ) → (a : ModelRead file (c .befor
     every (labelRight (fieldsOf file .a)) (formulaNodes (b .body)) ≡ true
 right c file text a b = sym (labels-same a b) ∙ sym (c .before .labels-right .ensures) ∙ not-false _ (c .if1 .left)
 
-cast-exceeds : tie.Need-cast-exceeds
-cast-exceeds c = search needs
-
 exceeds-requires : tie.Need-exceeds-requires
 exceeds-requires c κs = letters-few (c .before .before .before .before .pre .sentence)
 
@@ -53,9 +50,6 @@ small : (c : tie.Else2) (file text : List ℕ) → (a : ModelRead file (c .befor
     (b : SentenceRead text (c .before .before .before .before .before .before .args .s)) →
     exceeds (b .body) (fieldsOf file .d) (length (b .prefix)) ≡ false
 small c file text a b = sym (size-same a b) ∙ sym (c .before .exceeds .ensures (b .body) _ (stands b)) ∙ c .if2 .left
-
-cast-tuple-count : tie.Need-cast-tuple-count
-cast-tuple-count c = search needs
 
 tuple-count-requires : tie.Need-tuple-count-requires
 tuple-count-requires c κs =
@@ -86,10 +80,10 @@ late-number-spec =
     (tie.spec
     labels-right-requires
     returns
-    cast-exceeds
+    (λ c. search needs)
     exceeds-requires
     returns-2
-    cast-tuple-count
+    (λ c. search needs)
     tuple-count-requires
     returns-3
     returns-4)

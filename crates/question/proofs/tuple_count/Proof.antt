@@ -24,12 +24,6 @@ mul-product c =
     let small = power-small _ _ _ (c .before .loop .inv .2) (c .before .before .pre .0) (omega arith) .1 in
     omega arith
 
-add-i : tie.Need-add-i Inv-loop μ-loop
-add-i c = search needs
-
-loop-less : tie.Need-loop-less Inv-loop μ-loop
-loop-less c = search needs
-
 loop-again : tie.Need-loop-again Inv-loop μ-loop
 loop-again c = (omega arith, power-next _ _ _ (c .before .loop .inv .1), power-small _ _ _ (c .before .loop .inv .2) (c .before .before .pre .0) (omega arith) .0)
 
@@ -40,4 +34,4 @@ returns c =
 
 pub tuple-count-spec : {M : Type 1} → statement M
 tuple-count-spec =
-    tie.close (tie.spec Inv-loop μ-loop loop-holds mul-product add-i loop-less loop-again returns)
+    tie.close (tie.spec Inv-loop μ-loop loop-holds mul-product (λ c. search needs) (λ c. search needs) loop-again returns)

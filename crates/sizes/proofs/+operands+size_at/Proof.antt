@@ -62,64 +62,16 @@ size-at-claims t = (
   of-two-reads.Learnt,
 )
 
-operands-size-at-requires : (t : ℕ) → operands-lts.Need-size-at-requires (operands-claims t) (operands-at t) operands.Post
-operands-size-at-requires t c κs = search needs
-
-operands-size-at-requires-2 : (t : ℕ) → operands-lts.Need-size-at-requires-2 (operands-claims t) (operands-at t) operands.Post
-operands-size-at-requires-2 t c κs = search needs
-
 operands-returns : (t : ℕ) → operands-lts.Need-returns (operands-claims t) (operands-at t) operands.Post
 operands-returns t c =
     let s = c .before .before .before .before in
     sized-two (s .args .nodes) (s .args .at) (s .args .base) (s .args .n) (c .before .before .before .size-at .result) (c .before .before .size-at2 .result)
     (c .before .before .before .size-at .ensures) (c .before .before .size-at2 .ensures)
 
-size-at-plain-requires : (t : ℕ) → size-at-lts.Need-plain-requires (size-at-claims t) (size-at-at t) size-at.Post
-size-at-plain-requires t c κs = search needs
-
 size-at-returns : (t : ℕ) → size-at-lts.Need-returns (size-at-claims t) (size-at-at t) size-at.Post
 size-at-returns t c =
     let s = c .before .before in
     sized-past (s .args .t1) (s .args .at) (s .args .base) (s .args .n) _ (c .before .if1 .taken) (s .pre .1 .0) (c .plain .ensures .0)
-
-size-at-mul-slot : (t : ℕ) → size-at-lts.Need-mul-slot (size-at-claims t) (size-at-at t) size-at.Post
-size-at-mul-slot t c = search needs
-
-size-at-array-copy-out-slot : (t : ℕ) → size-at-lts.Need-array-copy-out-slot (size-at-claims t) (size-at-at t) size-at.Post
-size-at-array-copy-out-slot t c = search needs
-
-size-at-wants-of-requires : (t : ℕ) → size-at-lts.Need-wants-of-requires (size-at-claims t) (size-at-at t) size-at.Post
-size-at-wants-of-requires t c κs = search needs
-
-size-at-enum-told : (t : ℕ) → size-at-lts.Need-enum-told (size-at-claims t) (size-at-at t) size-at.Post
-size-at-enum-told t c = search needs
-
-size-at-of-none-requires : (t : ℕ) → size-at-lts.Need-of-none-requires (size-at-claims t) (size-at-at t) size-at.Post
-size-at-of-none-requires t c κs = search needs
-
-size-at-enum-told-2 : (t : ℕ) → size-at-lts.Need-enum-told-2 (size-at-claims t) (size-at-at t) size-at.Post
-size-at-enum-told-2 t c = search needs
-
-size-at-add-size-at : (t : ℕ) → size-at-lts.Need-add-size-at (size-at-claims t) (size-at-at t) size-at.Post
-size-at-add-size-at t c = search needs
-
-size-at-size-at-requires : (t : ℕ) → size-at-lts.Need-size-at-requires (size-at-claims t) (size-at-at t) size-at.Post
-size-at-size-at-requires t c κs = search needs
-
-size-at-of-one-requires : (t : ℕ) → size-at-lts.Need-of-one-requires (size-at-claims t) (size-at-at t) size-at.Post
-size-at-of-one-requires t c κs = search needs
-
-size-at-enum-told-3 : (t : ℕ) → size-at-lts.Need-enum-told-3 (size-at-claims t) (size-at-at t) size-at.Post
-size-at-enum-told-3 t c = search needs
-
-size-at-add-operands : (t : ℕ) → size-at-lts.Need-add-operands (size-at-claims t) (size-at-at t) size-at.Post
-size-at-add-operands t c = search needs
-
-size-at-operands-requires : (t : ℕ) → size-at-lts.Need-operands-requires (size-at-claims t) (size-at-at t) size-at.Post
-size-at-operands-requires t c κs = search needs
-
-size-at-of-two-requires : (t : ℕ) → size-at-lts.Need-of-two-requires (size-at-claims t) (size-at-at t) size-at.Post
-size-at-of-two-requires t c κs = search needs
 
 size-at-returns-2 : (t : ℕ) → size-at-lts.Need-returns-2 (size-at-claims t) (size-at-at t) size-at.Post
 size-at-returns-2 t c =
@@ -148,8 +100,8 @@ pub +operands+size-at-spec : {M : Type 1} → statement M
 )
     (operands-at t)
     operands.Post
-    (operands-size-at-requires t)
-    (operands-size-at-requires-2 t)
+    (λ c κs. search needs)
+    (λ c κs. search needs)
     (operands-returns t))
     λ t. size-at-lts.spec (
       plain-reads.Asked,
@@ -169,21 +121,21 @@ pub +operands+size-at-spec : {M : Type 1} → statement M
     )
     (size-at-at t)
     size-at.Post
-    (size-at-plain-requires t)
+    (λ c κs. search needs)
     (size-at-returns t)
-    (size-at-mul-slot t)
-    (size-at-array-copy-out-slot t)
-    (size-at-wants-of-requires t)
-    (size-at-enum-told t)
-    (size-at-of-none-requires t)
-    (size-at-enum-told-2 t)
-    (size-at-add-size-at t)
-    (size-at-size-at-requires t)
-    (size-at-of-one-requires t)
-    (size-at-enum-told-3 t)
-    (size-at-add-operands t)
-    (size-at-operands-requires t)
-    (size-at-of-two-requires t)
+    (λ c. search needs)
+    (λ c. search needs)
+    (λ c κs. search needs)
+    (λ c. search needs)
+    (λ c κs. search needs)
+    (λ c. search needs)
+    (λ c. search needs)
+    (λ c κs. search needs)
+    (λ c κs. search needs)
+    (λ c. search needs)
+    (λ c. search needs)
+    (λ c κs. search needs)
+    (λ c κs. search needs)
     (size-at-returns-2 t)
     (size-at-returns-3 t)
     (size-at-returns-4 t)

@@ -5,20 +5,8 @@ use Rattle.sizes.proofs.Capped.{capped-result}
 use Rattle.sizes.proofs.added.Statement.{statement}
 use Rattle.sizes.proofs.added.Tie as tie
 
-times-requires : tie.Need-times-requires
-times-requires c κs = search needs
-
-times-requires-2 : tie.Need-times-requires-2
-times-requires-2 c κs = search needs
-
-times-requires-3 : tie.Need-times-requires-3
-times-requires-3 c κs = search needs
-
 plus-requires : tie.Need-plus-requires
 plus-requires c κs = (capped-result _ _ (c .before .times2 .ensures), capped-result _ _ (c .times3 .ensures))
-
-judged-requires : tie.Need-judged-requires
-judged-requires c κs = search needs
 
 returns : tie.Need-returns
 returns c =
@@ -30,9 +18,9 @@ pub added-spec : {M : Type 1} → statement M
 added-spec =
     tie.close
     (tie.spec
-    times-requires
-    times-requires-2
-    times-requires-3
+    (λ c κs. search needs)
+    (λ c κs. search needs)
+    (λ c κs. search needs)
     plus-requires
-    judged-requires
+    (λ c κs. search needs)
     returns)

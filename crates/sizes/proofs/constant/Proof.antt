@@ -6,9 +6,6 @@ use Rattle.sizes.proofs.Capped.{capped-small}
 use Rattle.sizes.proofs.constant.Statement.{statement}
 use Rattle.sizes.proofs.constant.Tie as tie
 
-judged-requires : tie.Need-judged-requires
-judged-requires c κs = search needs
-
 returns : tie.Need-returns
 returns c =
     let j = c .judged .ensures in
@@ -16,4 +13,4 @@ returns c =
     (j .0, j .1, j .2 ∙ sym (capped-small _ (omega (arith, f .bottom))), j .3 ∙ sym (capped-small _ (omega (arith, f .top))))
 
 pub constant-spec : {M : Type 1} → statement M
-constant-spec = tie.close (tie.spec judged-requires returns)
+constant-spec = tie.close (tie.spec (λ c κs. search needs) returns)

@@ -3,11 +3,8 @@ use borrow.Author.Needs.{needs}
 use Rattle.sizes.proofs.exceeds.Statement.{statement}
 use Rattle.sizes.proofs.exceeds.Tie as tie
 
-size-at-requires : tie.Need-size-at-requires
-size-at-requires c κs = search needs
-
 returns : tie.Need-returns
 returns c = λ f q h. c .size-at .ensures .formula f q h .1
 
 pub exceeds-spec : {M : Type 1} → statement M
-exceeds-spec = tie.close (tie.spec size-at-requires returns)
+exceeds-spec = tie.close (tie.spec (λ c κs. search needs) returns)

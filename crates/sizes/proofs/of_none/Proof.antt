@@ -6,36 +6,6 @@ use Rattle.sizes.proofs.Walk.{sized-true, sized-label, sized-constant, 
 use Rattle.sizes.proofs.of_none.Statement.{statement}
 use Rattle.sizes.proofs.of_none.Tie as tie
 
-enum-told : tie.Need-enum-told
-enum-told c = search needs
-
-add-plain : tie.Need-add-plain
-add-plain c = search needs
-
-plain-requires : tie.Need-plain-requires
-plain-requires c κs = search needs
-
-enum-told-2 : tie.Need-enum-told-2
-enum-told-2 c = search needs
-
-add-plain-2 : tie.Need-add-plain-2
-add-plain-2 c = search needs
-
-plain-requires-2 : tie.Need-plain-requires-2
-plain-requires-2 c κs = search needs
-
-enum-known-node : tie.Need-enum-known-node
-enum-known-node c = search needs
-
-add-constant : tie.Need-add-constant
-add-constant c = search needs
-
-constant-requires : tie.Need-constant-requires
-constant-requires c κs = search needs
-
-plain-requires-3 : tie.Need-plain-requires-3
-plain-requires-3 c κs = search needs
-
 returns : tie.Need-returns
 returns c = record { each = λ slots D n e w. sized-true slots _ D n (c .before .before .before .pre) _ (c .plain .ensures .0) (c .plain .ensures .1) (e ∙ c .before .enum-told .given .1) }
 
@@ -55,16 +25,16 @@ pub of-none-spec : {M : Type 1} → statement M
 of-none-spec =
     tie.close
     (tie.spec
-    enum-told
-    add-plain
-    plain-requires
-    enum-told-2
-    add-plain-2
-    plain-requires-2
-    enum-known-node
-    add-constant
-    constant-requires
-    plain-requires-3
+    (λ c. search needs)
+    (λ c. search needs)
+    (λ c κs. search needs)
+    (λ c. search needs)
+    (λ c. search needs)
+    (λ c κs. search needs)
+    (λ c. search needs)
+    (λ c. search needs)
+    (λ c κs. search needs)
+    (λ c κs. search needs)
     returns
     returns-2
     returns-3

@@ -6,24 +6,6 @@ use Rattle.sizes.proofs.Walk.{sized-not, sized-probability, sized-next,
 use Rattle.sizes.proofs.of_one.Statement.{statement}
 use Rattle.sizes.proofs.of_one.Tie as tie
 
-enum-told : tie.Need-enum-told
-enum-told c = search needs
-
-enum-told-2 : tie.Need-enum-told-2
-enum-told-2 c = search needs
-
-probable-requires : tie.Need-probable-requires
-probable-requires c κs = search needs
-
-enum-told-3 : tie.Need-enum-told-3
-enum-told-3 c = search needs
-
-power-requires : tie.Need-power-requires
-power-requires c κs = search needs
-
-stepped-requires : tie.Need-stepped-requires
-stepped-requires c κs = search needs
-
 returns : tie.Need-returns
 returns c = record { each = λ slots at room e w s. sized-not slots at _ _ room _ s (e ∙ c .enum-told .given .1) }
 
@@ -43,12 +25,12 @@ pub of-one-spec : {M : Type 1} → statement M
 of-one-spec =
     tie.close
     (tie.spec
-    enum-told
-    enum-told-2
-    probable-requires
-    enum-told-3
-    power-requires
-    stepped-requires
+    (λ c. search needs)
+    (λ c. search needs)
+    (λ c κs. search needs)
+    (λ c. search needs)
+    (λ c κs. search needs)
+    (λ c κs. search needs)
     returns
     returns-2
     returns-3

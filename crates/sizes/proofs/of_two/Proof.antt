@@ -6,48 +6,6 @@ use Rattle.sizes.proofs.Walk.{sized-and, sized-compare, sized-sum, size
 use Rattle.sizes.proofs.of_two.Statement.{statement}
 use Rattle.sizes.proofs.of_two.Tie as tie
 
-enum-told : tie.Need-enum-told
-enum-told c = search needs
-
-joined-requires : tie.Need-joined-requires
-joined-requires c κs = search needs
-
-enum-told-2 : tie.Need-enum-told-2
-enum-told-2 c = search needs
-
-crossed-requires : tie.Need-crossed-requires
-crossed-requires c κs = search needs
-
-enum-told-3 : tie.Need-enum-told-3
-enum-told-3 c = search needs
-
-added-requires : tie.Need-added-requires
-added-requires c κs = search needs
-
-enum-told-4 : tie.Need-enum-told-4
-enum-told-4 c = search needs
-
-added-requires-2 : tie.Need-added-requires-2
-added-requires-2 c κs = search needs
-
-enum-told-5 : tie.Need-enum-told-5
-enum-told-5 c = search needs
-
-multiplied-requires : tie.Need-multiplied-requires
-multiplied-requires c κs = search needs
-
-enum-known-node : tie.Need-enum-known-node
-enum-known-node c = search needs
-
-until-denominator-requires : tie.Need-until-denominator-requires
-until-denominator-requires c κs = search needs
-
-stepped-requires : tie.Need-stepped-requires
-stepped-requires c κs = search needs
-
-joined-requires-2 : tie.Need-joined-requires-2
-joined-requires-2 c κs = search needs
-
 returns : tie.Need-returns
 returns c = record { each = λ slots at room e w s. sized-and slots at _ _ room _ s _ (c .joined .ensures .0) (c .joined .ensures .1) (e ∙ c .before .enum-told .given .1) }
 
@@ -76,20 +34,20 @@ pub of-two-spec : {M : Type 1} → statement M
 of-two-spec =
     tie.close
     (tie.spec
-    enum-told
-    joined-requires
-    enum-told-2
-    crossed-requires
-    enum-told-3
-    added-requires
-    enum-told-4
-    added-requires-2
-    enum-told-5
-    multiplied-requires
-    enum-known-node
-    until-denominator-requires
-    stepped-requires
-    joined-requires-2
+    (λ c. search needs)
+    (λ c κs. search needs)
+    (λ c. search needs)
+    (λ c κs. search needs)
+    (λ c. search needs)
+    (λ c κs. search needs)
+    (λ c. search needs)
+    (λ c κs. search needs)
+    (λ c. search needs)
+    (λ c κs. search needs)
+    (λ c. search needs)
+    (λ c κs. search needs)
+    (λ c κs. search needs)
+    (λ c κs. search needs)
     returns
     returns-2
     returns-3

@@ -6,9 +6,6 @@ use Rattle.sizes.proofs.Capped.{capped-small, capped-large}
 use Rattle.sizes.proofs.plus.Statement.{statement}
 use Rattle.sizes.proofs.plus.Tie as tie
 
-add-s : tie.Need-add-s
-add-s c = search needs
-
 returns : tie.Need-returns
 returns c = sym (capped-large _ (c .if1 .taken))
 
@@ -18,4 +15,4 @@ returns-2 c =
     sym (capped-small _ (omega arith))
 
 pub plus-spec : {M : Type 1} → statement M
-plus-spec = tie.close (tie.spec add-s returns returns-2)
+plus-spec = tie.close (tie.spec (λ c. search needs) returns returns-2)

@@ -20,15 +20,6 @@ loop-holds c =
     let one : c .args .base ^ 0 ≡ 1 = pow-zero (c .args .base) in
     (omega arith, sym (ap capped one ∙ capped-small 1 (omega arith)))
 
-times-requires : tie.Need-times-requires Inv-loop μ-loop
-times-requires c κs = search needs
-
-add-i : tie.Need-add-i Inv-loop μ-loop
-add-i c = search needs
-
-loop-less : tie.Need-loop-less Inv-loop μ-loop
-loop-less c = search needs
-
 loop-again : tie.Need-loop-again Inv-loop μ-loop
 loop-again c = (search needs, c .times .ensures ∙ capped-power _ _ _ (c .before .before .loop .inv .1))
 
@@ -40,4 +31,4 @@ returns c =
 pub power-spec : {M : Type 1} → statement M
 power-spec =
     tie.close
-    (tie.spec Inv-loop μ-loop loop-holds times-requires add-i loop-less loop-again returns)
+    (tie.spec Inv-loop μ-loop loop-holds (λ c κs. search needs) (λ c. search needs) (λ c. search needs) loop-again returns)

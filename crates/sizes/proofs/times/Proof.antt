@@ -14,9 +14,6 @@ returns c =
     let z : c .before .args .a * c .before .args .b ≡ 0 = omega (arith, ap (λ (x : ℕ). c .before .args .a * x) (c .if1 .taken)) in
     sym (capped-small _ (omega (arith, z)) ∙ z)
 
-div-if2 : tie.Need-div-if2
-div-if2 c = search needs
-
 returns-2 : tie.Need-returns-2
 returns-2 c =
     let h : 1 ≤ c .before .before .args .b = omega (arith, c .before .if1 .left) in
@@ -33,4 +30,4 @@ returns-3 : tie.Need-returns-3
 returns-3 c = sym (capped-small _ (omega (arith, small c)))
 
 pub times-spec : {M : Type 1} → statement M
-times-spec = tie.close (tie.spec returns div-if2 returns-2 mul-result returns-3)
+times-spec = tie.close (tie.spec returns (λ c. search needs) returns-2 mul-result returns-3)

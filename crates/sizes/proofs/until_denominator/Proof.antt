@@ -11,11 +11,5 @@ mul-power c =
     let few : c .args .n * c .args .to ≤ 4 * c .args .to = mul-le-mul-right (c .args .to) (c .pre) in
     omega (arith, few, c .fits .to)
 
-power-requires : tie.Need-power-requires
-power-requires c κs = search needs
-
-returns : tie.Need-returns
-returns c = search needs
-
 pub until-denominator-spec : {M : Type 1} → statement M
-until-denominator-spec = tie.close (tie.spec mul-power power-requires returns)
+until-denominator-spec = tie.close (tie.spec mul-power (λ c κs. search needs) (λ c. search needs))

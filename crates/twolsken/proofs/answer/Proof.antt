@@ -9,15 +9,6 @@ use Rattle.twolsken.specs.Texts.{withoutNewline}
 use Rattle.twolsken.proofs.answer.Statement.{statement}
 use Rattle.twolsken.proofs.answer.Tie as tie
 
-without-newline-requires : tie.Need-without-newline-requires
-without-newline-requires c κs = search needs
-
-slice-aggregate-verdict : tie.Need-slice-aggregate-verdict
-slice-aggregate-verdict c = search needs
-
-verdict-requires : tie.Need-verdict-requires
-verdict-requires c κs = search needs
-
 returns : tie.Need-returns
 returns c = record {
   before = replicate 8192 0;
@@ -28,4 +19,4 @@ returns c = record {
 
 pub answer-spec : {M : Type 1} → statement M
 answer-spec =
-    tie.close (tie.spec without-newline-requires slice-aggregate-verdict verdict-requires returns)
+    tie.close (tie.spec (λ c κs. search needs) (λ c. search needs) (λ c κs. search needs) returns)

@@ -21,42 +21,6 @@ sentence c =
     let at-read = c .before .before .before .before in
     counts-read (at-read .read-file2 .last .1 .0) (c .before .s .given .1) (at-read .read-file2 .ensures)
 
-slice-aggregate-read-file : tie.Need-slice-aggregate-read-file
-slice-aggregate-read-file c = search needs
-
-slice-aggregate-read-file-2 : tie.Need-slice-aggregate-read-file-2
-slice-aggregate-read-file-2 c = search needs
-
-read-file-requires : tie.Need-read-file-requires
-read-file-requires c κs = search needs
-
-enum-known-m : tie.Need-enum-known-m
-enum-known-m c = search needs
-
-enum-told : tie.Need-enum-told
-enum-told c = search needs
-
-returns : tie.Need-returns
-returns c = search needs
-
-slice-aggregate-read-file-3 : tie.Need-slice-aggregate-read-file-3
-slice-aggregate-read-file-3 c = search needs
-
-slice-aggregate-read-file-4 : tie.Need-slice-aggregate-read-file-4
-slice-aggregate-read-file-4 c = search needs
-
-read-file-requires-2 : tie.Need-read-file-requires-2
-read-file-requires-2 c κs = search needs
-
-enum-known-s : tie.Need-enum-known-s
-enum-known-s c = search needs
-
-enum-told-2 : tie.Need-enum-told-2
-enum-told-2 c = search needs
-
-returns-2 : tie.Need-returns-2
-returns-2 c = search needs
-
 array-share-prefix-model : tie.Need-array-share-prefix-model
 array-share-prefix-model c = model (c .before .before .before .before .before .before .before) .0
 
@@ -69,35 +33,26 @@ array-share-prefix-sentence c = sentence (c .before) .0
 slice-aggregate-answer-2 : tie.Need-slice-aggregate-answer-2
 slice-aggregate-answer-2 c = sentence (c .before .before) .1
 
-answer-requires : tie.Need-answer-requires
-answer-requires c κs = search needs
-
-print-requires : tie.Need-print-requires
-print-requires c κs = search needs
-
-returns-3 : tie.Need-returns-3
-returns-3 c = search needs
-
 pub main-spec : {M : Type 1} → statement M
 main-spec =
     tie.close
     (tie.spec
-    slice-aggregate-read-file
-    slice-aggregate-read-file-2
-    read-file-requires
-    enum-known-m
-    enum-told
-    returns
-    slice-aggregate-read-file-3
-    slice-aggregate-read-file-4
-    read-file-requires-2
-    enum-known-s
-    enum-told-2
-    returns-2
+    (λ c. search needs)
+    (λ c. search needs)
+    (λ c κs. search needs)
+    (λ c. search needs)
+    (λ c. search needs)
+    (λ c. search needs)
+    (λ c. search needs)
+    (λ c. search needs)
+    (λ c κs. search needs)
+    (λ c. search needs)
+    (λ c. search needs)
+    (λ c. search needs)
     array-share-prefix-model
     slice-aggregate-answer
     array-share-prefix-sentence
     slice-aggregate-answer-2
-    answer-requires
-    print-requires
-    returns-3)
+    (λ c κs. search needs)
+    (λ c κs. search needs)
+    (λ c. search needs))

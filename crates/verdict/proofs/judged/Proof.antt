@@ -5,12 +5,6 @@ use Rattle.verdict.proofs.Judging.{formula-ready, descent-ready, judged
 use Rattle.verdict.proofs.judged.Statement.{statement}
 use Rattle.verdict.proofs.judged.Tie as tie
 
-setting-of-requires : tie.Need-setting-of-requires
-setting-of-requires c κs = search needs
-
-rows-of-requires : tie.Need-rows-of-requires
-rows-of-requires c κs = search needs
-
 state-formula-requires : tie.Need-state-formula-requires
 state-formula-requires c κs =
     let settled = c .before .before .before .before .before .before .before in
@@ -24,9 +18,6 @@ holds-from-requires c κs =
     let pre = settled .before .before .pre in
     descent-ready (pre .0) (settled .setting-of .ensures) (evaluated .before .before .before .before .rows-of .ensures)
     (evaluated .state-formula .kept .1 .1 .1 .1 .1 .0 ∙ pre .1)
-
-same-length : tie.Need-same-length
-same-length c = search needs
 
 returns : tie.Need-returns
 returns c = record {
@@ -42,9 +33,9 @@ pub judged-spec : {M : Type 1} → statement M
 judged-spec =
     tie.close
     (tie.spec
-    setting-of-requires
-    rows-of-requires
+    (λ c κs. search needs)
+    (λ c κs. search needs)
     state-formula-requires
     holds-from-requires
-    same-length
+    (λ c. search needs)
     returns)

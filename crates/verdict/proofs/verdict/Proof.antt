@@ -14,15 +14,6 @@ use Rattle.verdict.proofs.Answering.{refused-so, answered-so}
 use Rattle.verdict.proofs.verdict.Statement.{statement}
 use Rattle.verdict.proofs.verdict.Tie as tie
 
-read-model-requires : tie.Need-read-model-requires
-read-model-requires c κs = search needs
-
-read-sentence-requires : tie.Need-read-sentence-requires
-read-sentence-requires c κs = search needs
-
-first-number-requires : tie.Need-first-number-requires
-first-number-requires c κs = search needs
-
 returns : tie.Need-returns
 returns c =
     let asked = c .before in
@@ -67,12 +58,6 @@ zero-requires c κs =
     let room = space (none free) in
     omega (arith, long, room)
 
-answer-of-requires : tie.Need-answer-of-requires
-answer-of-requires c κs = search needs
-
-same-length : tie.Need-same-length
-same-length c = search needs
-
 returns-2 : tie.Need-returns-2
 returns-2 c =
     let judged = c .before .before .before .before .before .before .before in
@@ -87,14 +72,14 @@ pub verdict-spec : {M : Type 1} → statement M
 verdict-spec =
     tie.close
     (tie.spec
-    read-model-requires
-    read-sentence-requires
-    first-number-requires
+    (λ c κs. search needs)
+    (λ c κs. search needs)
+    (λ c κs. search needs)
     returns
     slice-relend-prefix-judged
     slice-aggregate-judged
     judged-requires
     zero-requires
-    answer-of-requires
-    same-length
+    (λ c κs. search needs)
+    (λ c. search needs)
     returns-2)

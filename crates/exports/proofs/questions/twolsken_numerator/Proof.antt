@@ -8,21 +8,6 @@ use Rattle.exports.proofs.Theorems.{values-given, values-refused}
 use Rattle.exports.proofs.questions.twolsken_numerator.Statement.{statement}
 use Rattle.exports.proofs.questions.twolsken_numerator.Tie as tie
 
-numerator-requires : tie.Need-numerator-requires
-numerator-requires c κs = search needs
-
-enum-known-answer : tie.Need-enum-known-answer
-enum-known-answer c = search needs
-
-enum-known-answer-2 : tie.Need-enum-known-answer-2
-enum-known-answer-2 c = search needs
-
-cast-result : tie.Need-cast-result
-cast-result c = search needs
-
-same-length : tie.Need-same-length
-same-length c = search needs
-
 returns : tie.Need-returns
 returns c =
     let e = c .before .before .answer .given .1 in
@@ -33,9 +18,6 @@ returns c =
       answered = sym (ap (λ (a : Answer). numberIn (replyOf a)) e);
       value-left = sym (values-given (ap replyOf e) _);
     }
-
-same-length-2 : tie.Need-same-length-2
-same-length-2 c = search needs
 
 returns-2 : tie.Need-returns-2
 returns-2 c =
@@ -52,11 +34,11 @@ pub twolsken-numerator-spec : {M : Type 1} → statement M
 twolsken-numerator-spec =
     tie.close
     (tie.spec
-    numerator-requires
-    enum-known-answer
-    enum-known-answer-2
-    cast-result
-    same-length
+    (λ c κs. search needs)
+    (λ c. search needs)
+    (λ c. search needs)
+    (λ c. search needs)
+    (λ c. search needs)
     returns
-    same-length-2
+    (λ c. search needs)
     returns-2)

@@ -7,9 +7,6 @@ use Rattle.exports.proofs.Arms.{past-arms}
 use Rattle.exports.proofs.sentences.comparison_of.Statement.{statement}
 use Rattle.exports.proofs.sentences.comparison_of.Tie as tie
 
-no-node-requires : tie.Need-no-node-requires
-no-node-requires c κs = search needs
-
 returns : tie.Need-returns
 returns c = ap comparisonOf (sym (c .match .keys1))
 
@@ -32,4 +29,4 @@ returns-6 c =
 
 pub comparison-of-spec : {M : Type 1} → statement M
 comparison-of-spec =
-    tie.close (tie.spec no-node-requires returns returns-2 returns-3 returns-4 returns-5 returns-6)
+    tie.close (tie.spec (λ c κs. search needs) returns returns-2 returns-3 returns-4 returns-5 returns-6)

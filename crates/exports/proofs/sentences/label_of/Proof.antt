@@ -17,9 +17,6 @@ cast-t7 c = omega (arith, leb-true (c .before .args .label) 255 (left-of (leb (c
 cast-t8 : tie.Need-cast-t8
 cast-t8 c = omega (arith, leb-true (c .before .args .variable) 255 (right-of (leb (c .before .args .label) 255) (leb (c .before .args .variable) 255) (c .if1 .taken)))
 
-no-node-requires : tie.Need-no-node-requires
-no-node-requires c κs = search needs
-
 returns : tie.Need-returns
 returns c =
     let a = c .before .args in
@@ -31,4 +28,4 @@ returns-2 c =
     c .no-node .ensures ∙ ap (λ (b : Bool). cond b (Label (a .label) (a .variable)) unspelled) (sym (c .before .if1 .left))
 
 pub label-of-spec : {M : Type 1} → statement M
-label-of-spec = tie.close (tie.spec cast-t7 cast-t8 no-node-requires returns returns-2)
+label-of-spec = tie.close (tie.spec cast-t7 cast-t8 (λ c κs. search needs) returns returns-2)

@@ -8,15 +8,6 @@ use Rattle.exports.proofs.Arms.{past-arms}
 use Rattle.exports.proofs.sentences.node_of.Statement.{statement}
 use Rattle.exports.proofs.sentences.node_of.Tie as tie
 
-label-of-requires : tie.Need-label-of-requires
-label-of-requires c κs = search needs
-
-comparison-of-requires : tie.Need-comparison-of-requires
-comparison-of-requires c κs = search needs
-
-no-node-requires : tie.Need-no-node-requires
-no-node-requires c κs = search needs
-
 -- the node of a tag that is known
 tagged : {tag k : ℕ} (x y : ℕ) → tag ≡ k → nodeOf k x y ≡ nodeOf tag x y
 tagged x y e = ap (λ (t : ℕ). nodeOf t x y) (sym e)
@@ -80,9 +71,9 @@ pub node-of-spec : {M : Type 1} → statement M
 node-of-spec =
     tie.close
     (tie.spec
-    label-of-requires
-    comparison-of-requires
-    no-node-requires
+    (λ c κs. search needs)
+    (λ c κs. search needs)
+    (λ c κs. search needs)
     returns
     returns-2
     returns-3

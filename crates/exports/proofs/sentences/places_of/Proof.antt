@@ -21,27 +21,6 @@ abbrev μ-loop : tie.MeasureT-loop
 loop-holds : tie.Need-loop-holds Inv-loop μ-loop
 loop-holds c = filled-none refl
 
-mul-code : tie.Need-mul-code Inv-loop μ-loop
-mul-code c = search needs
-
-array-copy-out-code : tie.Need-array-copy-out-code Inv-loop μ-loop
-array-copy-out-code c = search needs
-
-node-of-code-requires : tie.Need-node-of-code-requires Inv-loop μ-loop
-node-of-code-requires c κs = search needs
-
-mul-nodes : tie.Need-mul-nodes Inv-loop μ-loop
-mul-nodes c = search needs
-
-array-set-from-nodes : tie.Need-array-set-from-nodes Inv-loop μ-loop
-array-set-from-nodes c = search needs
-
-add-place : tie.Need-add-place Inv-loop μ-loop
-add-place c = search needs
-
-loop-less : tie.Need-loop-less Inv-loop μ-loop
-loop-less c = search needs
-
 loop-again : tie.Need-loop-again Inv-loop μ-loop
 loop-again c = filled-next (c .before .before .before .loop .inv) (omega arith) (ap slot (c .node-of-code .ensures))
 
@@ -55,12 +34,12 @@ places-of-spec =
     Inv-loop
     μ-loop
     loop-holds
-    mul-code
-    array-copy-out-code
-    node-of-code-requires
-    mul-nodes
-    array-set-from-nodes
-    add-place
-    loop-less
+    (λ c. search needs)
+    (λ c. search needs)
+    (λ c κs. search needs)
+    (λ c. search needs)
+    (λ c. search needs)
+    (λ c. search needs)
+    (λ c. search needs)
     loop-again
     returns)

@@ -7,24 +7,6 @@ use Rattle.exports.specs.Sentences.{sentenceHead, letterCodes, codesOf}
 use Rattle.exports.proofs.sentences.twolsken_read_sentence.Statement.{statement}
 use Rattle.exports.proofs.sentences.twolsken_read_sentence.Tie as tie
 
-read-sentence-requires : tie.Need-read-sentence-requires
-read-sentence-requires c κs = search needs
-
-enum-known-outcome : tie.Need-enum-known-outcome
-enum-known-outcome c = search needs
-
-cast-result : tie.Need-cast-result
-cast-result c = search needs
-
-enum-told : tie.Need-enum-told
-enum-told c = search needs
-
-letter-codes-requires : tie.Need-letter-codes-requires
-letter-codes-requires c κs = search needs
-
-codes-of-requires : tie.Need-codes-of-requires
-codes-of-requires c κs = search needs
-
 returns : tie.Need-returns
 returns c =
     let e = ap replyOf (c .before .outcome .given .1) in
@@ -58,11 +40,11 @@ pub twolsken-read-sentence-spec : {M : Type 1} → statement M
 twolsken-read-sentence-spec =
     tie.close
     (tie.spec
-    read-sentence-requires
-    enum-known-outcome
-    cast-result
-    enum-told
-    letter-codes-requires
-    codes-of-requires
+    (λ c κs. search needs)
+    (λ c. search needs)
+    (λ c. search needs)
+    (λ c. search needs)
+    (λ c κs. search needs)
+    (λ c κs. search needs)
     returns
     returns-2)

@@ -9,21 +9,6 @@ use Rattle.exports.specs.Sentences.{WritesSentence}
 use Rattle.exports.proofs.sentences.twolsken_write_sentence.Statement.{statement}
 use Rattle.exports.proofs.sentences.twolsken_write_sentence.Tie as tie
 
-letters-of-requires : tie.Need-letters-of-requires
-letters-of-requires c κs = search needs
-
-places-of-requires : tie.Need-places-of-requires
-places-of-requires c κs = search needs
-
-write-sentence-requires : tie.Need-write-sentence-requires
-write-sentence-requires c κs = search needs
-
-written-code-requires : tie.Need-written-code-requires
-written-code-requires c κs = search needs
-
-same-length : tie.Need-same-length
-same-length c = search needs
-
 -- the record that is written is that of the lent parts
 returns : tie.Need-returns
 returns c =
@@ -38,9 +23,9 @@ pub twolsken-write-sentence-spec : {M : Type 1} → statement M
 twolsken-write-sentence-spec =
     tie.close
     (tie.spec
-    letters-of-requires
-    places-of-requires
-    write-sentence-requires
-    written-code-requires
-    same-length
+    (λ c κs. search needs)
+    (λ c κs. search needs)
+    (λ c κs. search needs)
+    (λ c κs. search needs)
+    (λ c. search needs)
     returns)

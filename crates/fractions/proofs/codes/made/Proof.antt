@@ -31,15 +31,6 @@ truth-byte : (b : Bool) → boolByte b ≡ cond b 1 0
 truth-byte false = refl
 truth-byte true = refl
 
-decode-requires : tie.Need-decode-requires
-decode-requires c κs = search needs
-
-decode-requires-2 : tie.Need-decode-requires-2
-decode-requires-2 c κs = search needs
-
-enum-known-making : tie.Need-enum-known-making
-enum-known-making c = search needs
-
 operate-requires : tie.Need-operate-requires
 operate-requires c κs = both-fit (c .before .before .before) (c .before .making .given .1)
 
@@ -49,14 +40,8 @@ code-requires c κs =
     let small = operated-small (known .0 .0) (both-fit (c .before .before .before .before) (known .1)) in
     subst Small (sym (back (c .operate .ensures) (small .size))) small
 
-enum-known-making-2 : tie.Need-enum-known-making-2
-enum-known-making-2 c = search needs
-
 compare-requires : tie.Need-compare-requires
 compare-requires c κs = both-fit (c .before .before .before) (c .before .making2 .given .1)
-
-cast-result : tie.Need-cast-result
-cast-result c = search needs
 
 returns : tie.Need-returns
 returns c =
@@ -80,13 +65,13 @@ pub made-spec : {M : Type 1} → statement M
 made-spec =
     tie.close
     (tie.spec
-    decode-requires
-    decode-requires-2
-    enum-known-making
+    (λ c κs. search needs)
+    (λ c κs. search needs)
+    (λ c. search needs)
     operate-requires
     code-requires
-    enum-known-making-2
+    (λ c. search needs)
     compare-requires
-    cast-result
+    (λ c. search needs)
     returns
     returns-2)

@@ -27,20 +27,8 @@ unread {T} {k} h l = (ap decoded (h .high k (omega arith)), ap decoded (h .high 
 loop-holds : tie.Need-loop-holds Inv-loop μ-loop
 loop-holds c = writing-none (omega (arith, c .before .pre .room))
 
-mul-made : tie.Need-mul-made Inv-loop μ-loop
-mul-made c = search needs
-
-slice-read-made : tie.Need-slice-read-made Inv-loop μ-loop
-slice-read-made c = search needs
-
 add-made : tie.Need-add-made Inv-loop μ-loop
 add-made c = omega (arith, c .before .before .before .before .pre .room)
-
-mul-made-2 : tie.Need-mul-made-2 Inv-loop μ-loop
-mul-made-2 c = search needs
-
-slice-read-made-2 : tie.Need-slice-read-made-2 Inv-loop μ-loop
-slice-read-made-2 c = search needs
 
 made-requires : tie.Need-made-requires Inv-loop μ-loop
 made-requires c κs =
@@ -50,18 +38,6 @@ made-requires c κs =
     fits-as (start .args .d1) (start .args .d2) {making = start .args .making} refl (same .0) (same .1)
     (start .pre .fits (at-loop .loop .k) (omega arith))
 
-mul-work : tie.Need-mul-work Inv-loop μ-loop
-mul-work c = search needs
-
-slice-write-work : tie.Need-slice-write-work Inv-loop μ-loop
-slice-write-work c = search needs
-
-add-k : tie.Need-add-k Inv-loop μ-loop
-add-k c = search needs
-
-loop-less : tie.Need-loop-less Inv-loop μ-loop
-loop-less c = search needs
-
 loop-again : tie.Need-loop-again Inv-loop μ-loop
 loop-again c =
     let at-loop = c .before .before .before .before in
@@ -69,9 +45,6 @@ loop-again c =
     let same = unread (at-loop .loop .inv) (omega arith) in
     writing-next (at-loop .loop .inv) (omega arith) (omega arith)
     (c .made .ensures ∙ made-as (args .d1) (args .d2) {making = args .making} refl (same .0) (same .1))
-
-same-length : tie.Need-same-length Inv-loop μ-loop
-same-length c = search needs
 
 returns : tie.Need-returns Inv-loop μ-loop
 returns c = writing-all (c .before .loop .inv) (omega arith)
@@ -83,16 +56,16 @@ make-spec =
     Inv-loop
     μ-loop
     loop-holds
-    mul-made
-    slice-read-made
+    (λ c. search needs)
+    (λ c. search needs)
     add-made
-    mul-made-2
-    slice-read-made-2
+    (λ c. search needs)
+    (λ c. search needs)
     made-requires
-    mul-work
-    slice-write-work
-    add-k
-    loop-less
+    (λ c. search needs)
+    (λ c. search needs)
+    (λ c. search needs)
+    (λ c. search needs)
     loop-again
-    same-length
+    (λ c. search needs)
     returns)

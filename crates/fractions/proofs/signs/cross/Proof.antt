@@ -8,9 +8,6 @@ use Rattle.fractions.proofs.Operands.{back, sizes-fit, cross-size}
 use Rattle.fractions.proofs.signs.cross.Statement.{statement}
 use Rattle.fractions.proofs.signs.cross.Tie as tie
 
-signed-requires : tie.Need-signed-requires
-signed-requires c κs = search needs
-
 times-requires : tie.Need-times-requires
 times-requires c κs =
     let start = c .before in
@@ -23,4 +20,4 @@ returns c =
     (cross-size (start .pre))
 
 pub cross-spec : {M : Type 1} → statement M
-cross-spec = tie.close (tie.spec signed-requires times-requires returns)
+cross-spec = tie.close (tie.spec (λ c κs. search needs) times-requires returns)

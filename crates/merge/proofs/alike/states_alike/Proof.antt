@@ -46,12 +46,6 @@ tested c =
 loop-holds : tie.Need-loop-holds Inv-loop μ-loop
 loop-holds c = passed-none
 
-group-of-requires : tie.Need-group-of-requires Inv-loop μ-loop
-group-of-requires c κs = search needs
-
-first-of-requires : tie.Need-first-of-requires Inv-loop μ-loop
-first-of-requires c κs = search needs
-
 pair-alike-requires : tie.Need-pair-alike-requires Inv-loop μ-loop
 pair-alike-requires c κs =
     let small = first c .0 in
@@ -60,12 +54,6 @@ pair-alike-requires c κs =
 returns : tie.Need-returns Inv-loop μ-loop
 returns c =
     failed-at (c .before .before .before .before .before .loop .inv) (omega arith) (tested (c .before) ∙ not-true _ (c .if1 .taken))
-
-add-s : tie.Need-add-s Inv-loop μ-loop
-add-s c = search needs
-
-loop-less : tie.Need-loop-less Inv-loop μ-loop
-loop-less c = search needs
 
 loop-again : tie.Need-loop-again Inv-loop μ-loop
 loop-again c =
@@ -81,11 +69,11 @@ states-alike-spec =
     Inv-loop
     μ-loop
     loop-holds
-    group-of-requires
-    first-of-requires
+    (λ c κs. search needs)
+    (λ c κs. search needs)
     pair-alike-requires
     returns
-    add-s
-    loop-less
+    (λ c. search needs)
+    (λ c. search needs)
     loop-again
     returns-2)

@@ -18,17 +18,8 @@ abbrev μ-loop : tie.MeasureT-loop
 loop-holds : tie.Need-loop-holds Inv-loop μ-loop
 loop-holds c = passed-none
 
-is-used-requires : tie.Need-is-used-requires Inv-loop μ-loop
-is-used-requires c κs = search needs
-
 returns : tie.Need-returns Inv-loop μ-loop
 returns c = failed-at (c .before .before .before .loop .inv) (omega arith) (sym (c .before .is-used .ensures) ∙ not-true _ (c .if1 .taken))
-
-add-g : tie.Need-add-g Inv-loop μ-loop
-add-g c = search needs
-
-loop-less : tie.Need-loop-less Inv-loop μ-loop
-loop-less c = search needs
 
 loop-again : tie.Need-loop-again Inv-loop μ-loop
 loop-again c = passed-next (c .before .before .before .loop .inv) (omega arith) (sym (c .before .is-used .ensures) ∙ not-false _ (c .if1 .left))
@@ -43,9 +34,9 @@ all-used-spec =
     Inv-loop
     μ-loop
     loop-holds
-    is-used-requires
+    (λ c κs. search needs)
     returns
-    add-g
-    loop-less
+    (λ c. search needs)
+    (λ c. search needs)
     loop-again
     returns-2)

@@ -18,9 +18,6 @@ abbrev μ-loop : tie.MeasureT-loop
 loop-holds : tie.Need-loop-holds Inv-loop μ-loop
 loop-holds c = (search needs, below-none _)
 
-group-of-requires : tie.Need-group-of-requires Inv-loop μ-loop
-group-of-requires c κs = search needs
-
 returns : tie.Need-returns Inv-loop μ-loop
 returns c =
     record {
@@ -28,12 +25,6 @@ returns c =
       before = c .before .before .before .loop .inv .1;
       found = λ less. sym (c .before .group-of .ensures .0) ∙ c .if1 .taken;
     }
-
-add-s : tie.Need-add-s Inv-loop μ-loop
-add-s c = search needs
-
-loop-less : tie.Need-loop-less Inv-loop μ-loop
-loop-less c = search needs
 
 loop-again : tie.Need-loop-again Inv-loop μ-loop
 loop-again c = (search needs, below-more _ _ (c .before .before .before .loop .inv .1) (λ e. c .if1 .left (c .before .group-of .ensures .0 ∙ e)))
@@ -48,9 +39,9 @@ first-of-spec =
     Inv-loop
     μ-loop
     loop-holds
-    group-of-requires
+    (λ c κs. search needs)
     returns
-    add-s
-    loop-less
+    (λ c. search needs)
+    (λ c. search needs)
     loop-again
     returns-2)

@@ -10,12 +10,6 @@ use Rattle.merge.specs.Groups.{isUsed, groupingRight}
 use Rattle.merge.proofs.grouping.grouping_right.Statement.{statement}
 use Rattle.merge.proofs.grouping.grouping_right.Tie as tie
 
-group-count-requires : tie.Need-group-count-requires
-group-count-requires c κs = search needs
-
-all-used-requires : tie.Need-all-used-requires
-all-used-requires c κs = search needs
-
 returns : tie.Need-returns
 unfolding groupingRight
 returns c =
@@ -24,4 +18,4 @@ returns c =
     (c .all-used .ensures ∙ ap (λ (k : ℕ). every k (isUsed (a .grouping .now))) (c .before .group-count .ensures .0))
 
 pub grouping-right-spec : {M : Type 1} → statement M
-grouping-right-spec = tie.close (tie.spec group-count-requires all-used-requires returns)
+grouping-right-spec = tie.close (tie.spec (λ c κs. search needs) (λ c κs. search needs) returns)

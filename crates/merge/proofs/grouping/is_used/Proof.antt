@@ -5,13 +5,10 @@ use Rattle.merge.proofs.Members.{used-first}
 use Rattle.merge.proofs.grouping.is_used.Statement.{statement}
 use Rattle.merge.proofs.grouping.is_used.Tie as tie
 
-first-of-requires : tie.Need-first-of-requires
-first-of-requires c κs = search needs
-
 returns : tie.Need-returns
 returns c =
     let a = c .before .before .args in
     used-first (groupOf (a .grouping .now)) (a .g) (c .first-of .ensures)
 
 pub is-used-spec : {M : Type 1} → statement M
-is-used-spec = tie.close (tie.spec first-of-requires returns)
+is-used-spec = tie.close (tie.spec (λ c κs. search needs) returns)

@@ -32,38 +32,17 @@ small c =
 loop-holds : tie.Need-loop-holds Inv-loop μ-loop
 loop-holds c = (fronted-none, fronted-none)
 
-first-of-requires : tie.Need-first-of-requires Inv-loop μ-loop
-first-of-requires c κs = search needs
-
-mul-merged : tie.Need-mul-merged Inv-loop μ-loop
-mul-merged c = search needs
-
 element-copy-out-merged : tie.Need-element-copy-out-merged Inv-loop μ-loop
 element-copy-out-merged c = omega (arith, small c)
-
-mul-merged-2 : tie.Need-mul-merged-2 Inv-loop μ-loop
-mul-merged-2 c = search needs
 
 array-write-merged : tie.Need-array-write-merged Inv-loop μ-loop
 array-write-merged c = omega arith
 
-mul-rows : tie.Need-mul-rows Inv-loop μ-loop
-mul-rows c = search needs
-
 array-copy-out-rows : tie.Need-array-copy-out-rows Inv-loop μ-loop
 array-copy-out-rows c = omega (arith, small (c .before))
 
-mul-rows-2 : tie.Need-mul-rows-2 Inv-loop μ-loop
-mul-rows-2 c = search needs
-
 array-set-from-rows : tie.Need-array-set-from-rows Inv-loop μ-loop
 array-set-from-rows c = omega arith
-
-add-g : tie.Need-add-g Inv-loop μ-loop
-add-g c = search needs
-
-loop-less : tie.Need-loop-less Inv-loop μ-loop
-loop-less c = search needs
 
 loop-again : tie.Need-loop-again Inv-loop μ-loop
 loop-again c =
@@ -75,12 +54,6 @@ loop-again c =
           (ap (λ s. getD (start .args .masks .now) s 0) (sym own)),
       fronted-next (at-loop .loop .inv .1) (omega arith) (omega arith) (ap (λ s. getD (start .args .t4) s []) (sym own)),
     )
-
-holding-requires : tie.Need-holding-requires Inv-loop μ-loop
-holding-requires c κs = search needs
-
-cast-t28 : tie.Need-cast-t28 Inv-loop μ-loop
-cast-t28 c = search needs
 
 returns : tie.Need-returns Inv-loop μ-loop
 unfolding table
@@ -101,18 +74,18 @@ model-of-groups-spec =
     Inv-loop
     μ-loop
     loop-holds
-    first-of-requires
-    mul-merged
+    (λ c κs. search needs)
+    (λ c. search needs)
     element-copy-out-merged
-    mul-merged-2
+    (λ c. search needs)
     array-write-merged
-    mul-rows
+    (λ c. search needs)
     array-copy-out-rows
-    mul-rows-2
+    (λ c. search needs)
     array-set-from-rows
-    add-g
-    loop-less
+    (λ c. search needs)
+    (λ c. search needs)
     loop-again
-    holding-requires
-    cast-t28
+    (λ c κs. search needs)
+    (λ c. search needs)
     returns)

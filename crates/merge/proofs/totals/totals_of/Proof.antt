@@ -22,28 +22,10 @@ abbrev μ-loop : tie.MeasureT-loop
 loop-holds : tie.Need-loop-holds Inv-loop μ-loop
 loop-holds c = filled-none refl
 
-mul-row : tie.Need-mul-row Inv-loop μ-loop
-mul-row c = search needs
-
-array-copy-out-row : tie.Need-array-copy-out-row Inv-loop μ-loop
-array-copy-out-row c = search needs
-
 totals-row-requires : tie.Need-totals-row-requires Inv-loop μ-loop
 totals-row-requires c κs =
     let start = c .before .before .before .before .before in
     (start .pre .0, start .pre .1 (c .before .before .before .loop .s) (omega arith))
-
-mul-totals : tie.Need-mul-totals Inv-loop μ-loop
-mul-totals c = search needs
-
-array-set-from-totals : tie.Need-array-set-from-totals Inv-loop μ-loop
-array-set-from-totals c = search needs
-
-add-s : tie.Need-add-s Inv-loop μ-loop
-add-s c = search needs
-
-loop-less : tie.Need-loop-less Inv-loop μ-loop
-loop-less c = search needs
 
 loop-again : tie.Need-loop-again Inv-loop μ-loop
 loop-again c = filled-next (c .before .before .before .before .loop .inv) (omega arith) (c .totals-row .ensures)
@@ -58,12 +40,12 @@ totals-of-spec =
     Inv-loop
     μ-loop
     loop-holds
-    mul-row
-    array-copy-out-row
+    (λ c. search needs)
+    (λ c. search needs)
     totals-row-requires
-    mul-totals
-    array-set-from-totals
-    add-s
-    loop-less
+    (λ c. search needs)
+    (λ c. search needs)
+    (λ c. search needs)
+    (λ c. search needs)
     loop-again
     returns)

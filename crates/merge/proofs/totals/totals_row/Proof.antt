@@ -22,9 +22,6 @@ abbrev μ-loop : tie.MeasureT-loop
 loop-holds : tie.Need-loop-holds Inv-loop μ-loop
 loop-holds c = filled-none refl
 
-total-into-requires : tie.Need-total-into-requires Inv-loop μ-loop
-total-into-requires c κs = search needs
-
 cast-totals : tie.Need-cast-totals Inv-loop μ-loop
 cast-totals c =
     let a = c .before .before .before .before .args in
@@ -33,18 +30,6 @@ cast-totals c =
       sum-part (a .n) (λ t. eqb (groupOf (a .grouping .now) t) (c .before .before .loop .h)) (λ t. getD (a .row .now) t 0),
       c .total-into .ensures,
     )
-
-mul-totals : tie.Need-mul-totals Inv-loop μ-loop
-mul-totals c = search needs
-
-array-write-totals : tie.Need-array-write-totals Inv-loop μ-loop
-array-write-totals c = search needs
-
-add-h : tie.Need-add-h Inv-loop μ-loop
-add-h c = search needs
-
-loop-less : tie.Need-loop-less Inv-loop μ-loop
-loop-less c = search needs
 
 loop-again : tie.Need-loop-again Inv-loop μ-loop
 loop-again c = filled-next (c .before .before .loop .inv) (omega arith) (c .total-into .ensures)
@@ -59,11 +44,11 @@ totals-row-spec =
     Inv-loop
     μ-loop
     loop-holds
-    total-into-requires
+    (λ c κs. search needs)
     cast-totals
-    mul-totals
-    array-write-totals
-    add-h
-    loop-less
+    (λ c. search needs)
+    (λ c. search needs)
+    (λ c. search needs)
+    (λ c. search needs)
     loop-again
     returns)

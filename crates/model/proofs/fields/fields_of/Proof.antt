@@ -6,30 +6,6 @@ use Rattle.model.specs.Layout.{fieldsOf}
 use Rattle.model.proofs.fields.fields_of.Statement.{statement}
 use Rattle.model.proofs.fields.fields_of.Tie as tie
 
-numbers-at-requires : tie.Need-numbers-at-requires
-numbers-at-requires c κs = search needs
-
-weights-at-requires : tie.Need-weights-at-requires
-weights-at-requires c κs = search needs
-
-holding-requires : tie.Need-holding-requires
-holding-requires c κs = search needs
-
-block-byte-requires : tie.Need-block-byte-requires
-block-byte-requires c κs = search needs
-
-block-byte-requires-2 : tie.Need-block-byte-requires-2
-block-byte-requires-2 c κs = search needs
-
-two-at-requires : tie.Need-two-at-requires
-two-at-requires c κs = search needs
-
-two-at-requires-2 : tie.Need-two-at-requires-2
-two-at-requires-2 c κs = search needs
-
-four-of-requires : tie.Need-four-of-requires
-four-of-requires c κs = search needs
-
 returns : tie.Need-returns
 unfolding fieldsOf
 returns c =
@@ -47,12 +23,12 @@ pub fields-of-spec : {M : Type 1} → statement M
 fields-of-spec =
     tie.close
     (tie.spec
-    numbers-at-requires
-    weights-at-requires
-    holding-requires
-    block-byte-requires
-    block-byte-requires-2
-    two-at-requires
-    two-at-requires-2
-    four-of-requires
+    (λ c κs. search needs)
+    (λ c κs. search needs)
+    (λ c κs. search needs)
+    (λ c κs. search needs)
+    (λ c κs. search needs)
+    (λ c κs. search needs)
+    (λ c κs. search needs)
+    (λ c κs. search needs)
     returns)

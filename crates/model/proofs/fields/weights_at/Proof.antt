@@ -19,30 +19,6 @@ abbrev μ-loop : tie.MeasureT-loop
 loop-holds : tie.Need-loop-holds Inv-loop μ-loop
 loop-holds c = filled-none refl
 
-add-numbers-at : tie.Need-add-numbers-at Inv-loop μ-loop
-add-numbers-at c = search needs
-
-mul-numbers-at : tie.Need-mul-numbers-at Inv-loop μ-loop
-mul-numbers-at c = search needs
-
-add-numbers-at-2 : tie.Need-add-numbers-at-2 Inv-loop μ-loop
-add-numbers-at-2 c = search needs
-
-numbers-at-requires : tie.Need-numbers-at-requires Inv-loop μ-loop
-numbers-at-requires c κs = search needs
-
-mul-rows : tie.Need-mul-rows Inv-loop μ-loop
-mul-rows c = search needs
-
-array-set-from-rows : tie.Need-array-set-from-rows Inv-loop μ-loop
-array-set-from-rows c = search needs
-
-add-s : tie.Need-add-s Inv-loop μ-loop
-add-s c = search needs
-
-loop-less : tie.Need-loop-less Inv-loop μ-loop
-loop-less c = search needs
-
 loop-again : tie.Need-loop-again Inv-loop μ-loop
 loop-again c = filled-next (c .before .before .loop .inv) (omega arith) (c .numbers-at .ensures)
 
@@ -56,13 +32,13 @@ weights-at-spec =
     Inv-loop
     μ-loop
     loop-holds
-    add-numbers-at
-    mul-numbers-at
-    add-numbers-at-2
-    numbers-at-requires
-    mul-rows
-    array-set-from-rows
-    add-s
-    loop-less
+    (λ c. search needs)
+    (λ c. search needs)
+    (λ c. search needs)
+    (λ c κs. search needs)
+    (λ c. search needs)
+    (λ c. search needs)
+    (λ c. search needs)
+    (λ c. search needs)
     loop-again
     returns)

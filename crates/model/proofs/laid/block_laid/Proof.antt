@@ -9,20 +9,11 @@ use Rattle.model.specs.Layout.{fieldsOf, contentByte}
 use Rattle.model.proofs.laid.block_laid.Statement.{statement}
 use Rattle.model.proofs.laid.block_laid.Tie as tie
 
-head-laid-requires : tie.Need-head-laid-requires
-head-laid-requires c κs = search needs
-
-row-block-laid-requires : tie.Need-row-block-laid-requires
-row-block-laid-requires c κs = search needs
-
 returns : tie.Need-returns
 returns c =
     let file = c .before .before .before .args .file .now in
     c .head-laid .ensures ∙
     ap (λ (i : ℕ). every 510 (λ j. eqb (byteOf file i j) (contentByte (fieldsOf file) i j))) (sym (c .before .if1 .taken))
 
-returns-2 : tie.Need-returns-2
-returns-2 c = search needs
-
 pub block-laid-spec : {M : Type 1} → statement M
-block-laid-spec = tie.close (tie.spec head-laid-requires row-block-laid-requires returns returns-2)
+block-laid-spec = tie.close (tie.spec (λ c κs. search needs) (λ c κs. search needs) returns (λ c. search needs))

@@ -21,17 +21,8 @@ abbrev μ-loop : tie.MeasureT-loop
 loop-holds : tie.Need-loop-holds Inv-loop μ-loop
 loop-holds c = passed-none
 
-block-laid-requires : tie.Need-block-laid-requires Inv-loop μ-loop
-block-laid-requires c κs = search needs
-
 returns : tie.Need-returns Inv-loop μ-loop
 returns c = failed-at (c .before .before .before .loop .inv) (omega arith) (sym (c .before .block-laid .ensures) ∙ not-true _ (c .if1 .taken))
-
-add-i : tie.Need-add-i Inv-loop μ-loop
-add-i c = search needs
-
-loop-less : tie.Need-loop-less Inv-loop μ-loop
-loop-less c = search needs
 
 loop-again : tie.Need-loop-again Inv-loop μ-loop
 loop-again c = passed-next (c .before .before .before .loop .inv) (omega arith) (sym (c .before .block-laid .ensures) ∙ not-false _ (c .if1 .left))
@@ -46,9 +37,9 @@ blocks-laid-spec =
     Inv-loop
     μ-loop
     loop-holds
-    block-laid-requires
+    (λ c κs. search needs)
     returns
-    add-i
-    loop-less
+    (λ c. search needs)
+    (λ c. search needs)
     loop-again
     returns-2)

@@ -8,15 +8,6 @@ use Rattle.model.proofs.Standing.{head-test}
 use Rattle.model.proofs.laid.head_laid.Statement.{statement}
 use Rattle.model.proofs.laid.head_laid.Tie as tie
 
-block-byte-requires : tie.Need-block-byte-requires
-block-byte-requires c κs = search needs
-
-block-byte-requires-2 : tie.Need-block-byte-requires-2
-block-byte-requires-2 c κs = search needs
-
-zeros-requires : tie.Need-zeros-requires
-zeros-requires c κs = search needs
-
 returns : tie.Need-returns
 returns c =
     let file = c .before .before .before .before .args .file .now in
@@ -26,4 +17,4 @@ returns c =
     head-test file (λ k. c .before .before .before .shared-slice-known .given k .fits)
 
 pub head-laid-spec : {M : Type 1} → statement M
-head-laid-spec = tie.close (tie.spec block-byte-requires block-byte-requires-2 zeros-requires returns)
+head-laid-spec = tie.close (tie.spec (λ c κs. search needs) (λ c κs. search needs) (λ c κs. search needs) returns)

@@ -15,18 +15,6 @@ use Rattle.model.proofs.Rightness.{states-few}
 use Rattle.model.proofs.laid.laid_out.Statement.{statement}
 use Rattle.model.proofs.laid.laid_out.Tie as tie
 
-cast-wanted : tie.Need-cast-wanted
-cast-wanted c = search needs
-
-add-wanted : tie.Need-add-wanted
-add-wanted c = search needs
-
-add-wanted-2 : tie.Need-add-wanted-2
-add-wanted-2 c = search needs
-
-fields-right-requires : tie.Need-fields-right-requires
-fields-right-requires c κs = search needs
-
 -- past the first test the fields are right
 right : (c : tie.Else1) → fieldsRight (c .before .before .before .before .args .m) ≡ true
 right c = sym (c .before .fields-right .ensures) ∙ not-false _ (c .if1 .left)
@@ -60,10 +48,10 @@ pub laid-out-spec : {M : Type 1} → statement M
 laid-out-spec =
     tie.close
     (tie.spec
-    cast-wanted
-    add-wanted
-    add-wanted-2
-    fields-right-requires
+    (λ c. search needs)
+    (λ c. search needs)
+    (λ c. search needs)
+    (λ c κs. search needs)
     returns
     returns-2
     blocks-laid-requires

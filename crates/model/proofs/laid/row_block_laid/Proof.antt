@@ -11,21 +11,6 @@ use Rattle.model.proofs.Standing.{row-test}
 use Rattle.model.proofs.laid.row_block_laid.Statement.{statement}
 use Rattle.model.proofs.laid.row_block_laid.Tie as tie
 
-block-byte-requires : tie.Need-block-byte-requires
-block-byte-requires c κs = search needs
-
-block-byte-requires-2 : tie.Need-block-byte-requires-2
-block-byte-requires-2 c κs = search needs
-
-cast-marked : tie.Need-cast-marked
-cast-marked c = search needs
-
-zeros-requires : tie.Need-zeros-requires
-zeros-requires c κs = search needs
-
-zeros-requires-2 : tie.Need-zeros-requires-2
-zeros-requires-2 c κs = search needs
-
 -- the two marks, of the block in the file
 marked : (c : tie.After-block-byte2) →
     let a = c .before .before .before .args in
@@ -54,10 +39,10 @@ pub row-block-laid-spec : {M : Type 1} → statement M
 row-block-laid-spec =
     tie.close
     (tie.spec
-    block-byte-requires
-    block-byte-requires-2
-    cast-marked
-    zeros-requires
-    zeros-requires-2
+    (λ c κs. search needs)
+    (λ c κs. search needs)
+    (λ c. search needs)
+    (λ c κs. search needs)
+    (λ c κs. search needs)
     returns
     returns-2)

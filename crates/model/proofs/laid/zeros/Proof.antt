@@ -19,20 +19,8 @@ abbrev μ-loop : tie.MeasureT-loop
 loop-holds : tie.Need-loop-holds Inv-loop μ-loop
 loop-holds c = passed-none
 
-add-block-byte : tie.Need-add-block-byte Inv-loop μ-loop
-add-block-byte c = search needs
-
-block-byte-requires : tie.Need-block-byte-requires Inv-loop μ-loop
-block-byte-requires c κs = search needs
-
 returns : tie.Need-returns Inv-loop μ-loop
 returns c = failed-at (c .before .before .before .loop .inv) (omega arith) (ap (λ (x : ℕ). eqb x 0) (sym (c .before .block-byte .ensures)) ∙ not-true _ (c .if1 .taken))
-
-add-k : tie.Need-add-k Inv-loop μ-loop
-add-k c = search needs
-
-loop-less : tie.Need-loop-less Inv-loop μ-loop
-loop-less c = search needs
 
 loop-again : tie.Need-loop-again Inv-loop μ-loop
 loop-again c = passed-next (c .before .before .before .loop .inv) (omega arith) (ap (λ (x : ℕ). eqb x 0) (sym (c .before .block-byte .ensures)) ∙ not-false _ (c .if1 .left))
@@ -47,10 +35,10 @@ zeros-spec =
     Inv-loop
     μ-loop
     loop-holds
-    add-block-byte
-    block-byte-requires
+    (λ c. search needs)
+    (λ c κs. search needs)
     returns
-    add-k
-    loop-less
+    (λ c. search needs)
+    (λ c. search needs)
     loop-again
     returns-2)

@@ -6,12 +6,9 @@ use Rattle.model.specs.Rows.{emptyModel}
 use Rattle.model.proofs.reader.empty_model.Statement.{statement}
 use Rattle.model.proofs.reader.empty_model.Tie as tie
 
-holding-requires : tie.Need-holding-requires
-holding-requires c κs = search needs
-
 returns : tie.Need-returns
 unfolding emptyModel table
 returns c = λ i. record { n = 0; a = 0; d = 0; masks = replicate 32 0; weights = record { rows = c .holding .ensures i } }
 
 pub empty-model-spec : {M : Type 1} → statement M
-empty-model-spec = tie.close (tie.spec holding-requires returns)
+empty-model-spec = tie.close (tie.spec (λ c κs. search needs) returns)

@@ -11,12 +11,6 @@ use Rattle.model.proofs.Answer.{number-2, number-3, number-4, number-5,
 use Rattle.model.proofs.reader.read_model.Statement.{statement}
 use Rattle.model.proofs.reader.read_model.Tie as tie
 
-length-right-requires : tie.Need-length-right-requires
-length-right-requires c κs = search needs
-
-refused-requires : tie.Need-refused-requires
-refused-requires c κs = search needs
-
 -- what the tests say of the file
 long : (c : tie.Else1) → lengthRight (c .before .before .before .args .file .now) ≡ true
 long c = sym (c .before .length-right .ensures) ∙ not-false _ (c .if1 .left)
@@ -46,27 +40,12 @@ returns c =
     reads-refused file 1 (number-2 file (sym (c .before .before .length-right .ensures) ∙ not-true _ (c .before .if1 .taken)))
     (c .refused .ensures .0) (c .refused .ensures .1)
 
-checks-right-requires : tie.Need-checks-right-requires
-checks-right-requires c κs = search needs
-
-refused-requires-2 : tie.Need-refused-requires-2
-refused-requires-2 c κs = search needs
-
 returns-2 : tie.Need-returns-2
 returns-2 c =
     let e = c .before .before .before in
     let file = e .before .before .before .args .file .now in
     reads-refused file 2 (number-3 file (long e) (sym (c .before .before .checks-right .ensures) ∙ not-true _ (c .before .if2 .taken)))
     (c .refused2 .ensures .0) (c .refused2 .ensures .1)
-
-fields-of-requires : tie.Need-fields-of-requires
-fields-of-requires c κs = search needs
-
-laid-out-requires : tie.Need-laid-out-requires
-laid-out-requires c κs = search needs
-
-refused-requires-3 : tie.Need-refused-requires-3
-refused-requires-3 c κs = search needs
 
 returns-3 : tie.Need-returns-3
 returns-3 c =
@@ -75,12 +54,6 @@ returns-3 c =
     let file = e .before .before .before .args .file .now in
     reads-refused file 3 (number-4 file (long e) (checked d) (laid (c .before .before) ∙ not-true _ (c .before .if3 .taken)))
     (c .refused3 .ensures .0) (c .refused3 .ensures .1)
-
-rows-right-requires : tie.Need-rows-right-requires
-rows-right-requires c κs = search needs
-
-refused-requires-4 : tie.Need-refused-requires-4
-refused-requires-4 c κs = search needs
 
 returns-4 : tie.Need-returns-4
 returns-4 c =
@@ -105,17 +78,17 @@ pub read-model-spec : {M : Type 1} → statement M
 read-model-spec =
     tie.close
     (tie.spec
-    length-right-requires
-    refused-requires
+    (λ c κs. search needs)
+    (λ c κs. search needs)
     returns
-    checks-right-requires
-    refused-requires-2
+    (λ c κs. search needs)
+    (λ c κs. search needs)
     returns-2
-    fields-of-requires
-    laid-out-requires
-    refused-requires-3
+    (λ c κs. search needs)
+    (λ c κs. search needs)
+    (λ c κs. search needs)
     returns-3
-    rows-right-requires
-    refused-requires-4
+    (λ c κs. search needs)
+    (λ c κs. search needs)
     returns-4
     returns-5)

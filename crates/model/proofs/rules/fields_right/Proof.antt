@@ -29,18 +29,6 @@ and-both : (a b c : Bool) → (a && (b && c)) ≡ (a && b && c)
 and-both true b c = refl
 and-both false b c = refl
 
-rows-of-requires : tie.Need-rows-of-requires
-rows-of-requires c κs = search needs
-
-cast-n : tie.Need-cast-n
-cast-n c = search needs
-
-numbers-right-requires : tie.Need-numbers-right-requires
-numbers-right-requires c κs = search needs
-
-states-right-requires : tie.Need-states-right-requires
-states-right-requires c κs = search needs
-
 returns : tie.Need-returns
 unfolding fieldsRight
 returns c =
@@ -57,4 +45,4 @@ returns c =
 
 pub fields-right-spec : {M : Type 1} → statement M
 fields-right-spec =
-    tie.close (tie.spec rows-of-requires cast-n numbers-right-requires states-right-requires returns)
+    tie.close (tie.spec (λ c κs. search needs) (λ c. search needs) (λ c κs. search needs) (λ c κs. search needs) returns)

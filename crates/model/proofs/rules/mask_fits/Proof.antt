@@ -9,12 +9,6 @@ use borrow.Author.Tests.{lt-ltb}
 use Rattle.model.proofs.rules.mask_fits.Statement.{statement}
 use Rattle.model.proofs.rules.mask_fits.Tie as tie
 
-wide16-requires : tie.Need-wide16-requires
-wide16-requires c κs = search needs
-
-shl-result : tie.Need-shl-result
-shl-result c = search needs
-
 returns : tie.Need-returns
 returns c =
     let above : 2 ^ 16 ≤ 2 ^ c .before .args .a = pow-mono (c .if1 .taken) in
@@ -28,4 +22,4 @@ returns-2 c =
     ap₂ ltb (c .wide16 .ensures .0) shifted
 
 pub mask-fits-spec : {M : Type 1} → statement M
-mask-fits-spec = tie.close (tie.spec wide16-requires shl-result returns returns-2)
+mask-fits-spec = tie.close (tie.spec (λ c κs. search needs) (λ c. search needs) returns returns-2)

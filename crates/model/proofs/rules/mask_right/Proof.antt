@@ -2,11 +2,8 @@ use borrow.Author.Needs.{needs}
 use Rattle.model.proofs.rules.mask_right.Statement.{statement}
 use Rattle.model.proofs.rules.mask_right.Tie as tie
 
-mask-fits-requires : tie.Need-mask-fits-requires
-mask-fits-requires c κs = search needs
-
 returns : tie.Need-returns
 returns c = cc
 
 pub mask-right-spec : {M : Type 1} → statement M
-mask-right-spec = tie.close (tie.spec mask-fits-requires returns)
+mask-right-spec = tie.close (tie.spec (λ c κs. search needs) returns)

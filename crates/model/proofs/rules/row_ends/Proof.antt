@@ -11,12 +11,6 @@ use Rattle.counting.proofs.Laws.{every-same}
 use Rattle.model.proofs.rules.row_ends.Statement.{statement}
 use Rattle.model.proofs.rules.row_ends.Tie as tie
 
-zero-from-requires : tie.Need-zero-from-requires
-zero-from-requires c κs = search needs
-
-zero-from-requires-2 : tie.Need-zero-from-requires-2
-zero-from-requires-2 c κs = search needs
-
 returns : tie.Need-returns
 returns c =
     let row = c .before .before .args .row .now in
@@ -35,4 +29,4 @@ returns-2 c =
     ap (λ (b : Bool). b && ltb t n || eqb (getD row t 0) 0) (sym (le-ltb _ n (c .before .if1 .left))))
 
 pub row-ends-spec : {M : Type 1} → statement M
-row-ends-spec = tie.close (tie.spec zero-from-requires zero-from-requires-2 returns returns-2)
+row-ends-spec = tie.close (tie.spec (λ c κs. search needs) (λ c κs. search needs) returns returns-2)

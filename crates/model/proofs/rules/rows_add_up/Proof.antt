@@ -22,15 +22,6 @@ abbrev μ-loop : tie.MeasureT-loop
 loop-holds : tie.Need-loop-holds Inv-loop μ-loop
 loop-holds c = passed-none
 
-mul-row : tie.Need-mul-row Inv-loop μ-loop
-mul-row c = search needs
-
-array-copy-out-row : tie.Need-array-copy-out-row Inv-loop μ-loop
-array-copy-out-row c = search needs
-
-row-sum-requires : tie.Need-row-sum-requires Inv-loop μ-loop
-row-sum-requires c κs = search needs
-
 -- the test of the invariant is the code's
 summed : (c : tie.After-row-sum Inv-loop μ-loop) →
     let s = c .before .before .before .before .loop .s in
@@ -43,12 +34,6 @@ summed c =
 
 returns : tie.Need-returns Inv-loop μ-loop
 returns c = failed-at (c .before .before .before .before .before .loop .inv) (omega arith) (summed (c .before) ∙ not-true _ (c .if1 .taken))
-
-add-s : tie.Need-add-s Inv-loop μ-loop
-add-s c = search needs
-
-loop-less : tie.Need-loop-less Inv-loop μ-loop
-loop-less c = search needs
 
 loop-again : tie.Need-loop-again Inv-loop μ-loop
 loop-again c = passed-next (c .before .before .before .before .before .loop .inv) (omega arith) (summed (c .before) ∙ not-false _ (c .if1 .left))
@@ -63,11 +48,11 @@ rows-add-up-spec =
     Inv-loop
     μ-loop
     loop-holds
-    mul-row
-    array-copy-out-row
-    row-sum-requires
+    (λ c. search needs)
+    (λ c. search needs)
+    (λ c κs. search needs)
     returns
-    add-s
-    loop-less
+    (λ c. search needs)
+    (λ c. search needs)
     loop-again
     returns-2)

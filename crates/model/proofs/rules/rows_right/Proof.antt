@@ -11,15 +11,6 @@ use Rattle.model.specs.Rows.{rowsRight}
 use Rattle.model.proofs.rules.rows_right.Statement.{statement}
 use Rattle.model.proofs.rules.rows_right.Tie as tie
 
-rows-of-requires : tie.Need-rows-of-requires
-rows-of-requires c κs = search needs
-
-cast-rows-add-up : tie.Need-cast-rows-add-up
-cast-rows-add-up c = search needs
-
-rows-add-up-requires : tie.Need-rows-add-up-requires
-rows-add-up-requires c κs = search needs
-
 returns : tie.Need-returns
 unfolding rowsRight
 returns c =
@@ -29,4 +20,4 @@ returns c =
 
 pub rows-right-spec : {M : Type 1} → statement M
 rows-right-spec =
-    tie.close (tie.spec rows-of-requires cast-rows-add-up rows-add-up-requires returns)
+    tie.close (tie.spec (λ c κs. search needs) (λ c. search needs) (λ c κs. search needs) returns)

@@ -25,35 +25,11 @@ abbrev μ-loop : tie.MeasureT-loop
 loop-holds : tie.Need-loop-holds Inv-loop μ-loop
 loop-holds c = passed-none
 
-mul-mask-right : tie.Need-mul-mask-right Inv-loop μ-loop
-mul-mask-right c = search needs
-
-element-copy-out-mask-right : tie.Need-element-copy-out-mask-right Inv-loop μ-loop
-element-copy-out-mask-right c = search needs
-
-mask-right-requires : tie.Need-mask-right-requires Inv-loop μ-loop
-mask-right-requires c κs = search needs
-
-mul-row-ends : tie.Need-mul-row-ends Inv-loop μ-loop
-mul-row-ends c = search needs
-
-index-1-row-ends : tie.Need-index-1-row-ends Inv-loop μ-loop
-index-1-row-ends c = search needs
-
-row-ends-requires : tie.Need-row-ends-requires Inv-loop μ-loop
-row-ends-requires c κs = search needs
-
 returns : tie.Need-returns Inv-loop μ-loop
 returns c =
     failed-at (c .before .before .before .before .before .before .loop .inv) (omega arith)
     (sym (ap₂ _&&_ (c .before .before .before .mask-right .ensures) (c .before .row-ends .ensures)) ∙
     not-true _ (c .if1 .taken))
-
-add-s : tie.Need-add-s Inv-loop μ-loop
-add-s c = search needs
-
-loop-less : tie.Need-loop-less Inv-loop μ-loop
-loop-less c = search needs
 
 loop-again : tie.Need-loop-again Inv-loop μ-loop
 loop-again c =
@@ -71,14 +47,14 @@ states-right-spec =
     Inv-loop
     μ-loop
     loop-holds
-    mul-mask-right
-    element-copy-out-mask-right
-    mask-right-requires
-    mul-row-ends
-    index-1-row-ends
-    row-ends-requires
+    (λ c. search needs)
+    (λ c. search needs)
+    (λ c κs. search needs)
+    (λ c. search needs)
+    (λ c. search needs)
+    (λ c κs. search needs)
     returns
-    add-s
-    loop-less
+    (λ c. search needs)
+    (λ c. search needs)
     loop-again
     returns-2)

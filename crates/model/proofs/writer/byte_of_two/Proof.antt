@@ -7,12 +7,6 @@ use Rattle.block.specs.Block.{lowByte, highByte}
 use Rattle.model.proofs.writer.byte_of_two.Statement.{statement}
 use Rattle.model.proofs.writer.byte_of_two.Tie as tie
 
-cast-result : tie.Need-cast-result
-cast-result c = search needs
-
-cast-result-2 : tie.Need-cast-result-2
-cast-result-2 c = search needs
-
 returns : tie.Need-returns
 returns c = sym (ap (λ (b : Bool). cond b (lowByte (c .before .args .x)) (highByte (c .before .args .x))) (lt-ltb _ 1 (c .if1 .taken)))
 
@@ -20,4 +14,4 @@ returns-2 : tie.Need-returns-2
 returns-2 c = sym (ap (λ (b : Bool). cond b (lowByte (c .before .args .x)) (highByte (c .before .args .x))) (le-ltb _ 1 (c .if1 .left)))
 
 pub byte-of-two-spec : {M : Type 1} → statement M
-byte-of-two-spec = tie.close (tie.spec cast-result cast-result-2 returns returns-2)
+byte-of-two-spec = tie.close (tie.spec (λ c. search needs) (λ c. search needs) returns returns-2)

@@ -9,12 +9,6 @@ use Rattle.model.proofs.Standing.{content-head, content-row}
 use Rattle.model.proofs.writer.content_byte.Statement.{statement}
 use Rattle.model.proofs.writer.content_byte.Tie as tie
 
-head-byte-requires : tie.Need-head-byte-requires
-head-byte-requires c κs = search needs
-
-row-byte-requires : tie.Need-row-byte-requires
-row-byte-requires c κs = search needs
-
 -- the model of the fields at hand
 abbrev fields : tie.Start → Model
 fields c = modelOf (c .args .n) (c .args .a) (c .args .d) (c .args .masks .now) (c .args .rows .now)
@@ -33,4 +27,4 @@ returns-2 c =
     c .row-byte .ensures ∙ sym (content-row (fields (c .before .before)) (a .i) (a .j) (omega arith))
 
 pub content-byte-spec : {M : Type 1} → statement M
-content-byte-spec = tie.close (tie.spec head-byte-requires row-byte-requires returns returns-2)
+content-byte-spec = tie.close (tie.spec (λ c κs. search needs) (λ c κs. search needs) returns returns-2)

@@ -10,18 +10,6 @@ use Rattle.model.proofs.Standing.{head-rest}
 use Rattle.model.proofs.writer.head_byte.Statement.{statement}
 use Rattle.model.proofs.writer.head_byte.Tie as tie
 
-cast-result : tie.Need-cast-result
-cast-result c = search needs
-
-cast-result-2 : tie.Need-cast-result-2
-cast-result-2 c = search needs
-
-cast-result-3 : tie.Need-cast-result-3
-cast-result-3 c = search needs
-
-cast-result-4 : tie.Need-cast-result-4
-cast-result-4 c = search needs
-
 -- the model of the fields at hand
 abbrev fields : tie.Start → Model
 fields c = modelOf (c .args .n) (c .args .a) (c .args .d) (c .args .masks .now) []
@@ -41,9 +29,6 @@ past c =
 
 sub-mask-byte : tie.Need-sub-mask-byte
 sub-mask-byte c = past c
-
-mask-byte-requires : tie.Need-mask-byte-requires
-mask-byte-requires c κs = search needs
 
 returns : tie.Need-returns
 unfolding headByte
@@ -85,12 +70,12 @@ pub head-byte-spec : {M : Type 1} → statement M
 head-byte-spec =
     tie.close
     (tie.spec
-    cast-result
-    cast-result-2
-    cast-result-3
-    cast-result-4
+    (λ c. search needs)
+    (λ c. search needs)
+    (λ c. search needs)
+    (λ c. search needs)
     sub-mask-byte
-    mask-byte-requires
+    (λ c κs. search needs)
     returns
     returns-2
     returns-3

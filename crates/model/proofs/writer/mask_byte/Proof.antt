@@ -8,21 +8,6 @@ use Rattle.model.specs.Layout.{byteOfTwo}
 use Rattle.model.proofs.writer.mask_byte.Statement.{statement}
 use Rattle.model.proofs.writer.mask_byte.Tie as tie
 
-mul-byte-of-two : tie.Need-mul-byte-of-two
-mul-byte-of-two c = search needs
-
-element-copy-out-byte-of-two : tie.Need-element-copy-out-byte-of-two
-element-copy-out-byte-of-two c = search needs
-
-byte-of-two-requires : tie.Need-byte-of-two-requires
-byte-of-two-requires c κs = search needs
-
-byte-of-two-requires-2 : tie.Need-byte-of-two-requires-2
-byte-of-two-requires-2 c κs = search needs
-
-returns : tie.Need-returns
-returns c = search needs
-
 returns-2 : tie.Need-returns-2
 returns-2 c =
     let a = c .before .before .args in
@@ -33,9 +18,9 @@ pub mask-byte-spec : {M : Type 1} → statement M
 mask-byte-spec =
     tie.close
     (tie.spec
-    mul-byte-of-two
-    element-copy-out-byte-of-two
-    byte-of-two-requires
-    byte-of-two-requires-2
-    returns
+    (λ c. search needs)
+    (λ c. search needs)
+    (λ c κs. search needs)
+    (λ c κs. search needs)
+    (λ c. search needs)
     returns-2)

@@ -18,21 +18,6 @@ fields c = modelOf 0 0 0 [] (c .args .rows .now)
 past : (c : tie.At-match-rest) → 2 ≤ c .before .args .j
 past c = omega arith
 
-cast-result : tie.Need-cast-result
-cast-result c = search needs
-
-sub-weight-byte : tie.Need-sub-weight-byte
-sub-weight-byte c = search needs
-
-mul-weight-byte : tie.Need-mul-weight-byte
-mul-weight-byte c = search needs
-
-sub-weight-byte-2 : tie.Need-sub-weight-byte-2
-sub-weight-byte-2 c = search needs
-
-weight-byte-requires : tie.Need-weight-byte-requires
-weight-byte-requires c κs = search needs
-
 returns : tie.Need-returns
 unfolding rowByte
 returns c = sym (ap (rowByte (fields (c .before)) _) (c .match .keys1))
@@ -53,11 +38,11 @@ pub row-byte-spec : {M : Type 1} → statement M
 row-byte-spec =
     tie.close
     (tie.spec
-    cast-result
-    sub-weight-byte
-    mul-weight-byte
-    sub-weight-byte-2
-    weight-byte-requires
+    (λ c. search needs)
+    (λ c. search needs)
+    (λ c. search needs)
+    (λ c. search needs)
+    (λ c κs. search needs)
     returns
     returns-2
     returns-3

@@ -9,30 +9,6 @@ use Rattle.model.specs.Layout.{byteOfTwo}
 use Rattle.model.proofs.writer.weight_byte.Statement.{statement}
 use Rattle.model.proofs.writer.weight_byte.Tie as tie
 
-add-state : tie.Need-add-state
-add-state c = search needs
-
-mul-byte-of-two : tie.Need-mul-byte-of-two
-mul-byte-of-two c = search needs
-
-mul-byte-of-two-2 : tie.Need-mul-byte-of-two-2
-mul-byte-of-two-2 c = search needs
-
-index-1-byte-of-two : tie.Need-index-1-byte-of-two
-index-1-byte-of-two c = search needs
-
-index-2-byte-of-two : tie.Need-index-2-byte-of-two
-index-2-byte-of-two c = search needs
-
-byte-of-two-requires : tie.Need-byte-of-two-requires
-byte-of-two-requires c κs = search needs
-
-byte-of-two-requires-2 : tie.Need-byte-of-two-requires-2
-byte-of-two-requires-2 c κs = search needs
-
-returns : tie.Need-returns
-returns c = search needs
-
 returns-2 : tie.Need-returns-2
 returns-2 c =
     let a = c .before .before .args in
@@ -44,12 +20,12 @@ pub weight-byte-spec : {M : Type 1} → statement M
 weight-byte-spec =
     tie.close
     (tie.spec
-    add-state
-    mul-byte-of-two
-    mul-byte-of-two-2
-    index-1-byte-of-two
-    index-2-byte-of-two
-    byte-of-two-requires
-    byte-of-two-requires-2
-    returns
+    (λ c. search needs)
+    (λ c. search needs)
+    (λ c. search needs)
+    (λ c. search needs)
+    (λ c. search needs)
+    (λ c κs. search needs)
+    (λ c κs. search needs)
+    (λ c. search needs)
     returns-2)

@@ -24,27 +24,6 @@ fields c = modelOf (c .args .n) (c .args .a) (c .args .d) (c .args .masks .now) 
 loop-holds : tie.Need-loop-holds Inv-loop μ-loop
 loop-holds c = (search needs, refl, blocks-none (fields (c .before)) (c .before .args .out .now))
 
-mul-at : tie.Need-mul-at Inv-loop μ-loop
-mul-at c = search needs
-
-sub-write-block : tie.Need-sub-write-block Inv-loop μ-loop
-sub-write-block c = search needs
-
-part-write-block-start : tie.Need-part-write-block-start Inv-loop μ-loop
-part-write-block-start c = search needs
-
-part-write-block-end : tie.Need-part-write-block-end Inv-loop μ-loop
-part-write-block-end c = search needs
-
-write-block-requires : tie.Need-write-block-requires Inv-loop μ-loop
-write-block-requires c κs = search needs
-
-add-i : tie.Need-add-i Inv-loop μ-loop
-add-i c = search needs
-
-loop-less : tie.Need-loop-less Inv-loop μ-loop
-loop-less c = search needs
-
 loop-again : tie.Need-loop-again Inv-loop μ-loop
 loop-again c =
     let l = c .before .before .before .before .before .loop in
@@ -66,13 +45,13 @@ write-blocks-spec =
     Inv-loop
     μ-loop
     loop-holds
-    mul-at
-    sub-write-block
-    part-write-block-start
-    part-write-block-end
-    write-block-requires
-    add-i
-    loop-less
+    (λ c. search needs)
+    (λ c. search needs)
+    (λ c. search needs)
+    (λ c. search needs)
+    (λ c κs. search needs)
+    (λ c. search needs)
+    (λ c. search needs)
     loop-again
     same-length
     returns)

@@ -16,18 +16,6 @@ abbrev μ-loop : tie.MeasureT-loop
 loop-holds : tie.Need-loop-holds Inv-loop μ-loop
 loop-holds c = fronted-none
 
-content-byte-requires : tie.Need-content-byte-requires Inv-loop μ-loop
-content-byte-requires c κs = search needs
-
-slice-write-out : tie.Need-slice-write-out Inv-loop μ-loop
-slice-write-out c = search needs
-
-add-j : tie.Need-add-j Inv-loop μ-loop
-add-j c = search needs
-
-loop-less : tie.Need-loop-less Inv-loop μ-loop
-loop-less c = search needs
-
 loop-again : tie.Need-loop-again Inv-loop μ-loop
 loop-again c = fronted-next (c .before .before .loop .inv) (omega arith) (omega arith) (c .content-byte .ensures)
 
@@ -44,10 +32,10 @@ write-content-spec =
     Inv-loop
     μ-loop
     loop-holds
-    content-byte-requires
-    slice-write-out
-    add-j
-    loop-less
+    (λ c κs. search needs)
+    (λ c. search needs)
+    (λ c. search needs)
+    (λ c. search needs)
     loop-again
     same-length
     returns)

@@ -19,9 +19,6 @@ use Rattle.model.proofs.Written.{length-blocks}
 use Rattle.model.proofs.writer.write_model.Statement.{statement}
 use Rattle.model.proofs.writer.write_model.Tie as tie
 
-fields-right-requires : tie.Need-fields-right-requires
-fields-right-requires c κs = search needs
-
 -- what the tests say of the record
 right : (c : tie.Else1) → fieldsRight (c .before .before .before .args .m) ≡ true
 right c = sym (c .before .fields-right .ensures) ∙ not-false _ (c .if1 .left)
@@ -35,9 +32,6 @@ returns c =
     let a = c .before .before .before .args in
     writes-refused (record-rows (a .m) (length (a .out .now))) (fileOf (a .m)) 3 (record-4 (a .m) (length (a .out .now)) (sym (c .before .fields-right .ensures) ∙ not-true _ (c .if1 .taken))) refl refl
 
-rows-right-requires : tie.Need-rows-right-requires
-rows-right-requires c κs = search needs
-
 returns-2 : tie.Need-returns-2
 unfolding recordNumber
 returns-2 c =
@@ -45,27 +39,12 @@ returns-2 c =
     writes-refused (record-rows (a .m) (length (a .out .now))) (fileOf (a .m)) 4
     (record-5 (a .m) (length (a .out .now)) (right (c .before .before)) (sym (c .before .rows-right .ensures) ∙ not-true _ (c .if2 .taken))) refl refl
 
-cast-count : tie.Need-cast-count
-cast-count c = search needs
-
-add-count : tie.Need-add-count
-add-count c = search needs
-
-add-count-2 : tie.Need-add-count-2
-add-count-2 c = search needs
-
-mul-if3 : tie.Need-mul-if3
-mul-if3 c = search needs
-
 returns-3 : tie.Need-returns-3
 unfolding recordNumber
 returns-3 c =
     let a = c .before .before .before .before .before .before .before .args in
     writes-refused (record-rows (a .m) (length (a .out .now))) (fileOf (a .m)) 13
     (record-14 (a .m) (length (a .out .now)) (right (c .before .before .before .before)) (adding (c .before .before)) (c .if3 .taken)) refl refl
-
-rows-of-requires : tie.Need-rows-of-requires
-rows-of-requires c κs = search needs
 
 write-blocks-requires : tie.Need-write-blocks-requires
 write-blocks-requires c κs =
@@ -77,9 +56,6 @@ write-blocks-requires c κs =
       omega arith,
       e .if3 .left,
     )
-
-mul-t9 : tie.Need-mul-t9
-mul-t9 c = search needs
 
 same-length : tie.Need-same-length
 same-length c = c .before .before .write-blocks .kept .1 .1 .1 .1 .1 .1 .0
@@ -101,17 +77,17 @@ pub write-model-spec : {M : Type 1} → statement M
 write-model-spec =
     tie.close
     (tie.spec
-    fields-right-requires
+    (λ c κs. search needs)
     returns
-    rows-right-requires
+    (λ c κs. search needs)
     returns-2
-    cast-count
-    add-count
-    add-count-2
-    mul-if3
+    (λ c. search needs)
+    (λ c. search needs)
+    (λ c. search needs)
+    (λ c. search needs)
     returns-3
-    rows-of-requires
+    (λ c κs. search needs)
     write-blocks-requires
-    mul-t9
+    (λ c. search needs)
     same-length
     returns-4)

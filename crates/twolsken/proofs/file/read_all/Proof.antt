@@ -41,27 +41,6 @@ ahead c =
     within (at-loop .loop .done) (at-loop .loop .buf) (at-buf .before .read-once .last .1 .0) (at-loop .loop .inv .0)
     (at-buf .before .read-once .kept .1 .0) (c .before .n .given .1) (at-buf .before .read-once .ensures)
 
-loop-holds : tie.Need-loop-holds Inv-loop μ-loop
-loop-holds c = search needs
-
-sub-read-once : tie.Need-sub-read-once Inv-loop μ-loop
-sub-read-once c = search needs
-
-part-read-once-start : tie.Need-part-read-once-start Inv-loop μ-loop
-part-read-once-start c = search needs
-
-part-read-once-end : tie.Need-part-read-once-end Inv-loop μ-loop
-part-read-once-end c = search needs
-
-read-once-requires : tie.Need-read-once-requires Inv-loop μ-loop
-read-once-requires c κs = search needs
-
-enum-known-n : tie.Need-enum-known-n Inv-loop μ-loop
-enum-known-n c = search needs
-
-enum-told : tie.Need-enum-told Inv-loop μ-loop
-enum-told c = search needs
-
 same-length : tie.Need-same-length Inv-loop μ-loop
 same-length c =
     let at-buf = c .before .before .before in
@@ -104,13 +83,13 @@ read-all-spec =
     (tie.spec
     Inv-loop
     μ-loop
-    loop-holds
-    sub-read-once
-    part-read-once-start
-    part-read-once-end
-    read-once-requires
-    enum-known-n
-    enum-told
+    (λ c. search needs)
+    (λ c. search needs)
+    (λ c. search needs)
+    (λ c. search needs)
+    (λ c κs. search needs)
+    (λ c. search needs)
+    (λ c. search needs)
     same-length
     returns
     add-done

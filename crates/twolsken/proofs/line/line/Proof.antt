@@ -6,18 +6,6 @@ use Rattle.twolsken.specs.Lines.{lineOf}
 use Rattle.twolsken.proofs.line.line.Statement.{statement}
 use Rattle.twolsken.proofs.line.line.Tie as tie
 
-enum-told : tie.Need-enum-told
-enum-told c = search needs
-
-enum-told-2 : tie.Need-enum-told-2
-enum-told-2 c = search needs
-
-enum-known-answer : tie.Need-enum-known-answer
-enum-known-answer c = search needs
-
-refused-line-requires : tie.Need-refused-line-requires
-refused-line-requires c κs = search needs
-
 returns : tie.Need-returns
 unfolding lineOf
 returns c = ((lit≤ tt, refl), sym (ap lineOf (c .before .before .enum-told .given .1)))
@@ -35,10 +23,10 @@ pub line-spec : {M : Type 1} → statement M
 line-spec =
     tie.close
     (tie.spec
-    enum-told
-    enum-told-2
-    enum-known-answer
-    refused-line-requires
+    (λ c. search needs)
+    (λ c. search needs)
+    (λ c. search needs)
+    (λ c κs. search needs)
     returns
     returns-2
     returns-3)

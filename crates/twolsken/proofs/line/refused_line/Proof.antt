@@ -37,26 +37,11 @@ three n low high =
     ap (λ (t : List ℕ). t ++ (48 + n % 10) ∷ []) (two (n / 10) (omega arith) (omega arith)) ∙
     ap (λ (k : ℕ). (48 + k) ∷ (48 + n / 10 % 10) ∷ (48 + n % 10) ∷ []) (omega arith)
 
-add-ones : tie.Need-add-ones
-add-ones c = search needs
-
-element-write-out : tie.Need-element-write-out
-element-write-out c = search needs
-
 returns : tie.Need-returns
 unfolding refusedLine
 returns c =
     let at-if1 = c .before .before in
     ((omega arith, refl), ap framed (sym (one (at-if1 .before .args .number) (at-if1 .if1 .taken))))
-
-add-tens : tie.Need-add-tens
-add-tens c = search needs
-
-element-write-out-2 : tie.Need-element-write-out-2
-element-write-out-2 c = search needs
-
-element-write-out-3 : tie.Need-element-write-out-3
-element-write-out-3 c = search needs
 
 returns-2 : tie.Need-returns-2
 unfolding refusedLine
@@ -64,18 +49,6 @@ returns-2 c =
     let at-if2 = c .before .before in
     let at-if1 = at-if2 .before in
     ((omega arith, refl), ap framed (sym (two (at-if1 .before .args .number) (at-if1 .if1 .left) (at-if2 .if2 .taken))))
-
-add-out : tie.Need-add-out
-add-out c = search needs
-
-element-write-out-4 : tie.Need-element-write-out-4
-element-write-out-4 c = search needs
-
-element-write-out-5 : tie.Need-element-write-out-5
-element-write-out-5 c = search needs
-
-element-write-out-6 : tie.Need-element-write-out-6
-element-write-out-6 c = search needs
 
 returns-3 : tie.Need-returns-3
 unfolding refusedLine
@@ -87,15 +60,15 @@ pub refused-line-spec : {M : Type 1} → statement M
 refused-line-spec =
     tie.close
     (tie.spec
-    add-ones
-    element-write-out
+    (λ c. search needs)
+    (λ c. search needs)
     returns
-    add-tens
-    element-write-out-2
-    element-write-out-3
+    (λ c. search needs)
+    (λ c. search needs)
+    (λ c. search needs)
     returns-2
-    add-out
-    element-write-out-4
-    element-write-out-5
-    element-write-out-6
+    (λ c. search needs)
+    (λ c. search needs)
+    (λ c. search needs)
+    (λ c. search needs)
     returns-3)

@@ -30,12 +30,6 @@ open-ended s other = rw (ne-eqb _ _ other) refl
 returns : tie.Need-returns
 returns c = empty _ (c .if1 .taken)
 
-sub-last : tie.Need-sub-last
-sub-last c = search needs
-
-shared-slice-read-if2 : tie.Need-shared-slice-read-if2
-shared-slice-read-if2 c = search needs
-
 slice-aggregate-result : tie.Need-slice-aggregate-result
 slice-aggregate-result c = sym (length-take-le _ _ (omega arith))
 
@@ -48,4 +42,4 @@ returns-3 c = open-ended _ (c .if2 .left)
 pub without-newline-spec : {M : Type 1} → statement M
 without-newline-spec =
     tie.close
-    (tie.spec returns sub-last shared-slice-read-if2 slice-aggregate-result returns-2 returns-3)
+    (tie.spec returns (λ c. search needs) (λ c. search needs) slice-aggregate-result returns-2 returns-3)
