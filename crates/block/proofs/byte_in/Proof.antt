@@ -9,18 +9,6 @@ use Rattle.block.proofs.byte_in.Tie as tie
 returns : tie.Need-returns
 returns c = sym (List·getD-eq-default (c .before .args .file .now) 0 (omega arith))
 
-mul-at : tie.Need-mul-at
-mul-at c = search needs
-
-sub-if2 : tie.Need-sub-if2
-sub-if2 c = search needs
-
-add-result : tie.Need-add-result
-add-result c = search needs
-
-shared-slice-read-result : tie.Need-shared-slice-read-result
-shared-slice-read-result c = search needs
-
 returns-2 : tie.Need-returns-2
 returns-2 c = refl
 
@@ -30,4 +18,4 @@ returns-3 c = sym (List·getD-eq-default (c .before .before .args .file .now) 0 
 pub byte-in-spec : {M : Type 1} → statement M
 byte-in-spec =
     tie.close
-    (tie.spec returns mul-at sub-if2 add-result shared-slice-read-result returns-2 returns-3)
+    (tie.spec returns (λ c. search needs) (λ c. search needs) (λ c. search needs) (λ c. search needs) returns-2 returns-3)

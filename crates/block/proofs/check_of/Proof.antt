@@ -4,12 +4,9 @@ use Rattle.block.specs.Block.{checkOf}
 use Rattle.block.proofs.check_of.Statement.{statement}
 use Rattle.block.proofs.check_of.Tie as tie
 
-weighed-requires : tie.Need-weighed-requires
-weighed-requires c κs = search needs
-
 returns : tie.Need-returns
 unfolding checkOf
 returns c = search needs
 
 pub check-of-spec : {M : Type 1} → statement M
-check-of-spec = tie.close (tie.spec weighed-requires returns)
+check-of-spec = tie.close (tie.spec (λ c κs. search needs) returns)

@@ -7,15 +7,6 @@ use native.Mathlib.Omega.{arith}
 use Rattle.block.proofs.term.Statement.{statement}
 use Rattle.block.proofs.term.Tie as tie
 
-cast-result : tie.Need-cast-result
-cast-result c = search needs
-
-add-result : tie.Need-add-result
-add-result c = search needs
-
-wide-requires : tie.Need-wide-requires
-wide-requires c κs = search needs
-
 -- the product is at most 510 × 255
 small : (c : tie.After-wide) → (c .before .args .i + 1) * c .wide .result ≤ 510 * 255
 small c = mul-le-mul {n₂ = 510} {m₂ = 255} (omega arith) (omega arith)
@@ -27,4 +18,4 @@ returns : tie.Need-returns
 returns c = (ap (λ (x : ℕ). (c .before .args .i + 1) * x) (c .wide .ensures .0), omega (arith, small c))
 
 pub term-spec : {M : Type 1} → statement M
-term-spec = tie.close (tie.spec cast-result add-result wide-requires mul-result returns)
+term-spec = tie.close (tie.spec (λ c. search needs) (λ c. search needs) (λ c κs. search needs) mul-result returns)

@@ -18,21 +18,6 @@ abbrev μ-loop : tie.MeasureT-loop
 loop-holds : tie.Need-loop-holds Inv-loop μ-loop
 loop-holds c = (search needs, sym (sum-none _), search needs)
 
-block-byte-requires : tie.Need-block-byte-requires Inv-loop μ-loop
-block-byte-requires c κs = search needs
-
-term-requires : tie.Need-term-requires Inv-loop μ-loop
-term-requires c κs = search needs
-
-add-total : tie.Need-add-total Inv-loop μ-loop
-add-total c = search needs
-
-add-i : tie.Need-add-i Inv-loop μ-loop
-add-i c = search needs
-
-loop-less : tie.Need-loop-less Inv-loop μ-loop
-loop-less c = search needs
-
 loop-again : tie.Need-loop-again Inv-loop μ-loop
 loop-again c = (search needs, cc (sum-more (c .before .before .before .loop .i) (λ j. (j + 1) * byteOf (c .before .before .before .before .before .args .file .now) (c .before .before .before .before .before .args .block) j)), search needs)
 
@@ -48,10 +33,10 @@ weighed-spec =
     Inv-loop
     μ-loop
     loop-holds
-    block-byte-requires
-    term-requires
-    add-total
-    add-i
-    loop-less
+    (λ c κs. search needs)
+    (λ c κs. search needs)
+    (λ c. search needs)
+    (λ c. search needs)
+    (λ c. search needs)
     loop-again
     returns)

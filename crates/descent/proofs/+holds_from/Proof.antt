@@ -71,14 +71,8 @@ holds-from-returns t c =
     sym (descended-none (a .states) (a .base) (lettersFrom (a .t1) (a .count) (a .i)) (a .layer .now)
     (letters-none (a .t1) (a .count) (a .i) (c .before .if1 .taken) (flags-room t (c .before .before .before))))
 
-holds-from-array-read-exists : (t : ℕ) → holds-from-lts.Need-array-read-exists (holds-from-claims t) (holds-from-at t) holds-from.Post holds-from-Inv-loop holds-from-μ-loop
-holds-from-array-read-exists t c = search needs
-
 holds-from-loop-holds : (t : ℕ) → holds-from-lts.Need-loop-holds (holds-from-claims t) (holds-from-at t) holds-from.Post holds-from-Inv-loop holds-from-μ-loop
 holds-from-loop-holds t c = (omega arith, refl, λ k l. absurd (omega arith))
-
-holds-from-add-holds-from : (t : ℕ) → holds-from-lts.Need-add-holds-from (holds-from-claims t) (holds-from-at t) holds-from.Post holds-from-Inv-loop holds-from-μ-loop
-holds-from-add-holds-from t c = search needs
 
 -- the place of the next states lies in the layer
 place-small : (t : ℕ) (c : holds-from-lts.In-loop (holds-from-claims t) (holds-from-at t) holds-from.Post holds-from-Inv-loop holds-from-μ-loop) →
@@ -125,12 +119,6 @@ holds-from-returns-3 t c =
     sym (decided false _ (start .args .states) (l .loop .s) (h .before .loop-test .taken) (sym (h .holds-from .ensures) ∙ not-true _ (c .if4 .taken))) ∙
     tested t start false (sym (c .before .if2 .left) ∙ l .loop .inv .1) (l .before .if1 .left)
 
-holds-from-add-s : (t : ℕ) → holds-from-lts.Need-add-s (holds-from-claims t) (holds-from-at t) holds-from.Post holds-from-Inv-loop holds-from-μ-loop
-holds-from-add-s t c = search needs
-
-holds-from-loop-less : (t : ℕ) → holds-from-lts.Need-loop-less (holds-from-claims t) (holds-from-at t) holds-from.Post holds-from-Inv-loop holds-from-μ-loop
-holds-from-loop-less t c = search needs
-
 -- the state of this turn does not decide
 missed : (t : ℕ) (c : holds-from-lts.Joined2 (holds-from-claims t) (holds-from-at t) holds-from.Post holds-from-Inv-loop holds-from-μ-loop) →
     let l = c .before .before .before in
@@ -166,15 +154,15 @@ pub +holds-from-spec : {M : Type 1} → statement M
     holds-from-μ-loop
     (holds-from-met-at-requires t)
     (holds-from-returns t)
-    (holds-from-array-read-exists t)
+    (λ c. search needs)
     (holds-from-loop-holds t)
-    (holds-from-add-holds-from t)
+    (λ c. search needs)
     (holds-from-mul-holds-from t)
     (holds-from-add-holds-from-2 t)
     (holds-from-holds-from-requires t)
     (holds-from-returns-2 t)
     (holds-from-returns-3 t)
-    (holds-from-add-s t)
-    (holds-from-loop-less t)
+    (λ c. search needs)
+    (λ c. search needs)
     (holds-from-loop-again t)
     (holds-from-returns-4 t)

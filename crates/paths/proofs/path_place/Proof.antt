@@ -16,29 +16,11 @@ abbrev μ-loop : tie.MeasureT-loop
 loop-holds : tie.Need-loop-holds Inv-loop μ-loop
 loop-holds c = sought-none
 
-mul-slot : tie.Need-mul-slot Inv-loop μ-loop
-mul-slot c = search needs
-
-array-copy-out-slot : tie.Need-array-copy-out-slot Inv-loop μ-loop
-array-copy-out-slot c = search needs
-
-starts-path-requires : tie.Need-starts-path-requires Inv-loop μ-loop
-starts-path-requires c κs = search needs
-
 returns : tie.Need-returns Inv-loop μ-loop
 returns c =
     let call = c .before .before in
     let turn = call .before .before in
     sought-here (turn .before .loop .inv) (turn .loop-test .taken) (sym (call .starts-path .ensures) ∙ c .before .if1 .taken) (c .if2 .taken)
-
-add-before : tie.Need-add-before Inv-loop μ-loop
-add-before c = search needs
-
-add-at : tie.Need-add-at Inv-loop μ-loop
-add-at c = search needs
-
-loop-less : tie.Need-loop-less Inv-loop μ-loop
-loop-less c = search needs
 
 loop-again : tie.Need-loop-again Inv-loop μ-loop
 loop-again c =
@@ -59,12 +41,12 @@ path-place-spec =
     Inv-loop
     μ-loop
     loop-holds
-    mul-slot
-    array-copy-out-slot
-    starts-path-requires
+    (λ c. search needs)
+    (λ c. search needs)
+    (λ c κs. search needs)
     returns
-    add-before
-    add-at
-    loop-less
+    (λ c. search needs)
+    (λ c. search needs)
+    (λ c. search needs)
     loop-again
     returns-2)

@@ -7,9 +7,6 @@ use Rattle.paths.specs.Tuples.{membersBelow}
 use Rattle.paths.proofs.tuple_right.Statement.{statement}
 use Rattle.paths.proofs.tuple_right.Tie as tie
 
-members-below-requires : tie.Need-members-below-requires
-members-below-requires c κs = search needs
-
 returns : tie.Need-returns
 returns c =
     let a = c .before .before .before .args in
@@ -21,4 +18,4 @@ returns-2 c =
     ap (λ (b : Bool). b && membersBelow (a .states) (a .tuple .now)) (sym (ne-eqb _ _ (c .if1 .left)))
 
 pub tuple-right-spec : {M : Type 1} → statement M
-tuple-right-spec = tie.close (tie.spec members-below-requires returns returns-2)
+tuple-right-spec = tie.close (tie.spec (λ c κs. search needs) returns returns-2)

@@ -231,9 +231,6 @@ combined-mul-t14 t c =
     small-fits _ (bottoms-small (c .before .before .before .before .before .before .before .two-expressions .ensures)
     (c .before .before .before .before .before .before .before .before .before .before .pre .1))
 
-combined-same-length : (t : ℕ) → combined-lts.Need-same-length (combined-claims t) (combined-at t) combined.Post
-combined-same-length t c = search needs
-
 combined-returns : (t : ℕ) → combined-lts.Need-returns (combined-claims t) (combined-at t) combined.Post
 combined-returns t c =
     combined-done (c .before .before .before .before .before .before .before .two-expressions .ensures)
@@ -245,9 +242,6 @@ expression-mul-slot t c = place-fits (c .before .args .at) (expression-inside (c
 expression-array-copy-out-slot : (t : ℕ) → expression-lts.Need-array-copy-out-slot (expression-claims t)
     (expression-at t) expression.Post
 expression-array-copy-out-slot t c = expression-inside (c .before .pre .1)
-
-expression-enum-told : (t : ℕ) → expression-lts.Need-enum-told (expression-claims t) (expression-at t) expression.Post
-expression-enum-told t c = search needs
 
 expression-add-path : (t : ℕ) → expression-lts.Need-add-path (expression-claims t) (expression-at t) expression.Post
 expression-add-path t c =
@@ -278,9 +272,6 @@ expression-add-t25 : (t : ℕ) → expression-lts.Need-add-t25 (expression-claim
 expression-add-t25 t c =
     let start = c .before .before .before .before .before .before .before .before .before in
     next-fits (start .args .at) (expression-inside (start .pre .1))
-
-expression-cast-t22 : (t : ℕ) → expression-lts.Need-cast-t22 (expression-claims t) (expression-at t) expression.Post
-expression-cast-t22 t c = search needs
 
 expression-enum-told-2 : (t : ℕ) → expression-lts.Need-enum-told-2 (expression-claims t) (expression-at t)
     expression.Post
@@ -460,9 +451,6 @@ path-mul-slot t c = place-fits (c .before .args .at) (path-inside (c .before .pr
 path-array-copy-out-slot : (t : ℕ) → path-lts.Need-array-copy-out-slot (path-claims t) (path-at t) path.Post
 path-array-copy-out-slot t c = path-inside (c .before .pre .1)
 
-path-enum-told : (t : ℕ) → path-lts.Need-enum-told (path-claims t) (path-at t) path.Post
-path-enum-told t c = search needs
-
 path-add-state-formula : (t : ℕ) → path-lts.Need-add-state-formula (path-claims t) (path-at t) path.Post
 path-add-state-formula t c =
     let start = c .before .before .before .before in
@@ -488,9 +476,6 @@ path-scaled-requires t c κs =
     (c .before .before .before .before .before .before .before .before .enum-told .given .1) in
     (scales .0, scales .1)
 
-path-enum-known-node : (t : ℕ) → path-lts.Need-enum-known-node (path-claims t) (path-at t) path.Post
-path-enum-known-node t c = search needs
-
 path-add-two-formulas : (t : ℕ) → path-lts.Need-add-two-formulas (path-claims t) (path-at t) path.Post
 path-add-two-formulas t c =
     let start = c .before .before .before .before .before in
@@ -511,9 +496,6 @@ path-until-within-requires t c κs =
     taking-ready (c .before .before .before .before .before .before .before .before .before .before .pre .1)
     (node .0 .0) (node .0 .1 .0) (node .1) (call .ensures) (call .kept .1 .1 .1 .1 .1 .0)
 
-path-cast-scaled : (t : ℕ) → path-lts.Need-cast-scaled (path-claims t) (path-at t) path.Post
-path-cast-scaled t c = search needs
-
 path-mul-scaled : (t : ℕ) → path-lts.Need-mul-scaled (path-claims t) (path-at t) path.Post
 path-mul-scaled t c =
     let node = c .before .before .before .before .before .before .before .before .before .before .node .given in
@@ -525,77 +507,11 @@ path-scaled-requires-2 t c κs =
     let node = c .before .before .before .before .before .before .before .before .before .before .node .given in
     until-scales (c .before .before .before .before .before .before .before .before .before .before .before .before .before .before .pre .1) (node .0 .0) (node .0 .1 .0) (node .1)
 
-path-enum-told-2 : (t : ℕ) → path-lts.Need-enum-told-2 (path-claims t) (path-at t) path.Post
-path-enum-told-2 t c = search needs
-
-path-nothing-requires : (t : ℕ) → path-lts.Need-nothing-requires (path-claims t) (path-at t) path.Post
-path-nothing-requires t c κs = search needs
-
-path-enum-told-3 : (t : ℕ) → path-lts.Need-enum-told-3 (path-claims t) (path-at t) path.Post
-path-enum-told-3 t c = search needs
-
-path-nothing-requires-2 : (t : ℕ) → path-lts.Need-nothing-requires-2 (path-claims t) (path-at t) path.Post
-path-nothing-requires-2 t c κs = search needs
-
-path-enum-told-4 : (t : ℕ) → path-lts.Need-enum-told-4 (path-claims t) (path-at t) path.Post
-path-enum-told-4 t c = search needs
-
-path-nothing-requires-3 : (t : ℕ) → path-lts.Need-nothing-requires-3 (path-claims t) (path-at t) path.Post
-path-nothing-requires-3 t c κs = search needs
-
-path-enum-told-5 : (t : ℕ) → path-lts.Need-enum-told-5 (path-claims t) (path-at t) path.Post
-path-enum-told-5 t c = search needs
-
-path-nothing-requires-4 : (t : ℕ) → path-lts.Need-nothing-requires-4 (path-claims t) (path-at t) path.Post
-path-nothing-requires-4 t c κs = search needs
-
-path-enum-told-6 : (t : ℕ) → path-lts.Need-enum-told-6 (path-claims t) (path-at t) path.Post
-path-enum-told-6 t c = search needs
-
-path-nothing-requires-5 : (t : ℕ) → path-lts.Need-nothing-requires-5 (path-claims t) (path-at t) path.Post
-path-nothing-requires-5 t c κs = search needs
-
-path-enum-told-7 : (t : ℕ) → path-lts.Need-enum-told-7 (path-claims t) (path-at t) path.Post
-path-enum-told-7 t c = search needs
-
-path-nothing-requires-6 : (t : ℕ) → path-lts.Need-nothing-requires-6 (path-claims t) (path-at t) path.Post
-path-nothing-requires-6 t c κs = search needs
-
-path-enum-told-8 : (t : ℕ) → path-lts.Need-enum-told-8 (path-claims t) (path-at t) path.Post
-path-enum-told-8 t c = search needs
-
-path-nothing-requires-7 : (t : ℕ) → path-lts.Need-nothing-requires-7 (path-claims t) (path-at t) path.Post
-path-nothing-requires-7 t c κs = search needs
-
-path-enum-told-9 : (t : ℕ) → path-lts.Need-enum-told-9 (path-claims t) (path-at t) path.Post
-path-enum-told-9 t c = search needs
-
-path-nothing-requires-8 : (t : ℕ) → path-lts.Need-nothing-requires-8 (path-claims t) (path-at t) path.Post
-path-nothing-requires-8 t c κs = search needs
-
-path-enum-told-10 : (t : ℕ) → path-lts.Need-enum-told-10 (path-claims t) (path-at t) path.Post
-path-enum-told-10 t c = search needs
-
-path-nothing-requires-9 : (t : ℕ) → path-lts.Need-nothing-requires-9 (path-claims t) (path-at t) path.Post
-path-nothing-requires-9 t c κs = search needs
-
-path-enum-told-11 : (t : ℕ) → path-lts.Need-enum-told-11 (path-claims t) (path-at t) path.Post
-path-enum-told-11 t c = search needs
-
-path-nothing-requires-10 : (t : ℕ) → path-lts.Need-nothing-requires-10 (path-claims t) (path-at t) path.Post
-path-nothing-requires-10 t c κs = search needs
-
-path-same-length : (t : ℕ) → path-lts.Need-same-length (path-claims t) (path-at t) path.Post
-path-same-length t c = search needs
-
 path-returns : (t : ℕ) → path-lts.Need-returns (path-claims t) (path-at t) path.Post
 path-returns t c =
     next-done (c .before .before .before .before .before .before .before .before .before .enum-told .given .1)
     (c .before .before .before .before .before .before .before .state-formula .ensures)
     (c .before .before .before .joint-step .ensures) (c .scaled .ensures)
-
-path-same-length-2 : (t : ℕ) → path-lts.Need-same-length-2 (path-claims t) (path-at t) path.Post
-path-same-length-2 t c = search needs
 
 path-returns-2 : (t : ℕ) → path-lts.Need-returns-2 (path-claims t) (path-at t) path.Post
 path-returns-2 t c =
@@ -1172,7 +1088,7 @@ pub +combined+expression+path+state-formula+two-expressions+two-formulas-spec :
     (combined-two-expressions-requires t)
     (combined-combine-requires t)
     (combined-mul-t14 t)
-    (combined-same-length t)
+    (λ c. search needs)
     (combined-returns t))
     (λ t. expression-lts.spec (
       path-below t,
@@ -1188,14 +1104,14 @@ pub +combined+expression+path+state-formula+two-expressions+two-formulas-spec :
     expression.Post
     (expression-mul-slot t)
     (expression-array-copy-out-slot t)
-    (expression-enum-told t)
+    (λ c. search needs)
     (expression-add-path t)
     (expression-path-requires t)
     (expression-enum-known-node t)
     (expression-cast-constant t)
     (expression-constant-requires t)
     (expression-add-t25 t)
-    (expression-cast-t22 t)
+    (λ c. search needs)
     (expression-enum-told-2 t)
     (expression-add-combined t)
     (expression-combined-requires t)
@@ -1254,41 +1170,41 @@ pub +combined+expression+path+state-formula+two-expressions+two-formulas-spec :
     path.Post
     (path-mul-slot t)
     (path-array-copy-out-slot t)
-    (path-enum-told t)
+    (λ c. search needs)
     (path-add-state-formula t)
     (path-state-formula-requires t)
     (path-joint-step-requires t)
     (path-scaled-requires t)
-    (path-enum-known-node t)
+    (λ c. search needs)
     (path-add-two-formulas t)
     (path-two-formulas-requires t)
     (path-until-within-requires t)
-    (path-cast-scaled t)
+    (λ c. search needs)
     (path-mul-scaled t)
     (path-scaled-requires-2 t)
-    (path-enum-told-2 t)
-    (path-nothing-requires t)
-    (path-enum-told-3 t)
-    (path-nothing-requires-2 t)
-    (path-enum-told-4 t)
-    (path-nothing-requires-3 t)
-    (path-enum-told-5 t)
-    (path-nothing-requires-4 t)
-    (path-enum-told-6 t)
-    (path-nothing-requires-5 t)
-    (path-enum-told-7 t)
-    (path-nothing-requires-6 t)
-    (path-enum-told-8 t)
-    (path-nothing-requires-7 t)
-    (path-enum-told-9 t)
-    (path-nothing-requires-8 t)
-    (path-enum-told-10 t)
-    (path-nothing-requires-9 t)
-    (path-enum-told-11 t)
-    (path-nothing-requires-10 t)
-    (path-same-length t)
+    (λ c. search needs)
+    (λ c κs. search needs)
+    (λ c. search needs)
+    (λ c κs. search needs)
+    (λ c. search needs)
+    (λ c κs. search needs)
+    (λ c. search needs)
+    (λ c κs. search needs)
+    (λ c. search needs)
+    (λ c κs. search needs)
+    (λ c. search needs)
+    (λ c κs. search needs)
+    (λ c. search needs)
+    (λ c κs. search needs)
+    (λ c. search needs)
+    (λ c κs. search needs)
+    (λ c. search needs)
+    (λ c κs. search needs)
+    (λ c. search needs)
+    (λ c κs. search needs)
+    (λ c. search needs)
     (path-returns t)
-    (path-same-length-2 t)
+    (λ c. search needs)
     (path-returns-2 t)
     (path-returns-3 t)
     (path-returns-4 t)

@@ -12,9 +12,6 @@ use Rattle.layers.proofs.Places.{pow-some}
 use Rattle.evaluate.proofs.plain.label.Statement.{statement}
 use Rattle.evaluate.proofs.plain.label.Tie as tie
 
-sub-scaled : tie.Need-sub-scaled
-sub-scaled c = search needs
-
 -- a power of N that is no tuple count is no larger than T
 stride-small : {N n T : ℕ} (k : ℕ) → Sizes N n T → k ≤ n → N ^ k ≤ 1024
 stride-small {N} {n} k h l =
@@ -35,9 +32,6 @@ labelled-requires c κs =
     let p = pow-some (g .states) (g .variables - start .args .variable) (start .pre .sizes .some) in
     (start .pre .letter, start .pre .sizes .some, start .pre .sizes .states, omega arith, start .pre .room)
 
-same-length : tie.Need-same-length
-same-length c = search needs
-
 returns : tie.Need-returns
 returns c =
     let start = c .before .before .before .before .before .before .before in
@@ -57,4 +51,4 @@ returns c =
     }
 
 pub label-spec : {M : Type 1} → statement M
-label-spec = tie.close (tie.spec sub-scaled scaled-requires labelled-requires same-length returns)
+label-spec = tie.close (tie.spec (λ c. search needs) scaled-requires labelled-requires (λ c. search needs) returns)

@@ -16,41 +16,8 @@ abbrev μ-loop : tie.MeasureT-loop
 loop-holds : tie.Need-loop-holds Inv-loop μ-loop
 loop-holds c = swapping-none
 
-mul-first : tie.Need-mul-first Inv-loop μ-loop
-mul-first c = search needs
-
-slice-read-first : tie.Need-slice-read-first Inv-loop μ-loop
-slice-read-first c = search needs
-
-add-work : tie.Need-add-work Inv-loop μ-loop
-add-work c = search needs
-
-mul-work : tie.Need-mul-work Inv-loop μ-loop
-mul-work c = search needs
-
-slice-read-work : tie.Need-slice-read-work Inv-loop μ-loop
-slice-read-work c = search needs
-
-mul-work-2 : tie.Need-mul-work-2 Inv-loop μ-loop
-mul-work-2 c = search needs
-
-slice-write-work : tie.Need-slice-write-work Inv-loop μ-loop
-slice-write-work c = search needs
-
-add-work-2 : tie.Need-add-work-2 Inv-loop μ-loop
-add-work-2 c = search needs
-
-mul-work-3 : tie.Need-mul-work-3 Inv-loop μ-loop
-mul-work-3 c = search needs
-
 slice-write-work-2 : tie.Need-slice-write-work-2 Inv-loop μ-loop
 slice-write-work-2 c = simp length-set (omega arith)
-
-add-k : tie.Need-add-k Inv-loop μ-loop
-add-k c = search needs
-
-loop-less : tie.Need-loop-less Inv-loop μ-loop
-loop-less c = search needs
 
 loop-again : tie.Need-loop-again Inv-loop μ-loop
 loop-again c =
@@ -70,18 +37,18 @@ swap-spec =
     Inv-loop
     μ-loop
     loop-holds
-    mul-first
-    slice-read-first
-    add-work
-    mul-work
-    slice-read-work
-    mul-work-2
-    slice-write-work
-    add-work-2
-    mul-work-3
+    (λ c. search needs)
+    (λ c. search needs)
+    (λ c. search needs)
+    (λ c. search needs)
+    (λ c. search needs)
+    (λ c. search needs)
+    (λ c. search needs)
+    (λ c. search needs)
+    (λ c. search needs)
     slice-write-work-2
-    add-k
-    loop-less
+    (λ c. search needs)
+    (λ c. search needs)
     loop-again
     same-length
     returns)

@@ -54,9 +54,6 @@ survey-claims t = (
   of-two-reads.Learnt,
 )
 
-operands-survey-requires : (t : ℕ) → operands-lts.Need-survey-requires (operands-claims t) (operands-at t) operands.Post
-operands-survey-requires t c κs = search needs
-
 operands-survey-requires-2 : (t : ℕ) → operands-lts.Need-survey-requires-2 (operands-claims t) (operands-at t)
     operands.Post
 operands-survey-requires-2 t c κs = search needs
@@ -74,42 +71,6 @@ operands-returns t c =
 survey-returns : (t : ℕ) → survey-lts.Need-returns (survey-claims t) (survey-at t) survey.Post
 survey-returns t c = surveyed-past (c .before .args .t1) (c .before .args .at) _ (c .if1 .taken) (c .before .pre .1)
     refl refl
-
-survey-mul-slot : (t : ℕ) → survey-lts.Need-mul-slot (survey-claims t) (survey-at t) survey.Post
-survey-mul-slot t c = search needs
-
-survey-array-copy-out-slot : (t : ℕ) → survey-lts.Need-array-copy-out-slot (survey-claims t) (survey-at t) survey.Post
-survey-array-copy-out-slot t c = search needs
-
-survey-wants-of-requires : (t : ℕ) → survey-lts.Need-wants-of-requires (survey-claims t) (survey-at t) survey.Post
-survey-wants-of-requires t c κs = search needs
-
-survey-enum-told : (t : ℕ) → survey-lts.Need-enum-told (survey-claims t) (survey-at t) survey.Post
-survey-enum-told t c = search needs
-
-survey-leaf-requires : (t : ℕ) → survey-lts.Need-leaf-requires (survey-claims t) (survey-at t) survey.Post
-survey-leaf-requires t c κs = search needs
-
-survey-enum-told-2 : (t : ℕ) → survey-lts.Need-enum-told-2 (survey-claims t) (survey-at t) survey.Post
-survey-enum-told-2 t c = search needs
-
-survey-add-survey : (t : ℕ) → survey-lts.Need-add-survey (survey-claims t) (survey-at t) survey.Post
-survey-add-survey t c = search needs
-
-survey-survey-requires : (t : ℕ) → survey-lts.Need-survey-requires (survey-claims t) (survey-at t) survey.Post
-survey-survey-requires t c κs = search needs
-
-survey-enum-told-3 : (t : ℕ) → survey-lts.Need-enum-told-3 (survey-claims t) (survey-at t) survey.Post
-survey-enum-told-3 t c = search needs
-
-survey-add-operands : (t : ℕ) → survey-lts.Need-add-operands (survey-claims t) (survey-at t) survey.Post
-survey-add-operands t c = search needs
-
-survey-operands-requires : (t : ℕ) → survey-lts.Need-operands-requires (survey-claims t) (survey-at t) survey.Post
-survey-operands-requires t c κs = search needs
-
-survey-of-two-requires : (t : ℕ) → survey-lts.Need-of-two-requires (survey-claims t) (survey-at t) survey.Post
-survey-of-two-requires t c κs = search needs
 
 survey-returns-2 : (t : ℕ) → survey-lts.Need-returns-2 (survey-claims t) (survey-at t) survey.Post
 survey-returns-2 t c =
@@ -139,7 +100,7 @@ pub +operands+survey-spec : {M : Type 1} → statement M
 )
     (operands-at t)
     operands.Post
-    (operands-survey-requires t)
+    (λ c κs. search needs)
     (operands-survey-requires-2 t)
     (operands-need-of-requires t)
     (operands-returns t))
@@ -158,18 +119,18 @@ pub +operands+survey-spec : {M : Type 1} → statement M
     (survey-at t)
     survey.Post
     (survey-returns t)
-    (survey-mul-slot t)
-    (survey-array-copy-out-slot t)
-    (survey-wants-of-requires t)
-    (survey-enum-told t)
-    (survey-leaf-requires t)
-    (survey-enum-told-2 t)
-    (survey-add-survey t)
-    (survey-survey-requires t)
-    (survey-enum-told-3 t)
-    (survey-add-operands t)
-    (survey-operands-requires t)
-    (survey-of-two-requires t)
+    (λ c. search needs)
+    (λ c. search needs)
+    (λ c κs. search needs)
+    (λ c. search needs)
+    (λ c κs. search needs)
+    (λ c. search needs)
+    (λ c. search needs)
+    (λ c κs. search needs)
+    (λ c. search needs)
+    (λ c. search needs)
+    (λ c κs. search needs)
+    (λ c κs. search needs)
     (survey-returns-2 t)
     (survey-returns-3 t)
     (survey-returns-4 t)

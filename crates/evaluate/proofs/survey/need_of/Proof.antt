@@ -10,9 +10,6 @@ use lib.Dec.{eqb}
 use Rattle.evaluate.proofs.survey.need_of.Statement.{statement}
 use Rattle.evaluate.proofs.survey.need_of.Tie as tie
 
-add-result : tie.Need-add-result
-add-result c = search needs
-
 -- the contract, by the first test
 by-test : (a b r : ℕ) (t : Bool) → eqb a b ≡ t → r ≡ cond t (suc a) (max a b) → r ≡ cond (eqb a b) (suc a) (max a b)
 by-test a b r t e h = h ∙ sym (ap (λ (t : Bool). cond t (suc a) (max a b)) e)
@@ -31,4 +28,4 @@ returns-3 c =
     (omega arith)
 
 pub need-of-spec : {M : Type 1} → statement M
-need-of-spec = tie.close (tie.spec add-result returns returns-2 returns-3)
+need-of-spec = tie.close (tie.spec (λ c. search needs) returns returns-2 returns-3)

@@ -34,26 +34,8 @@ element-copy-out-bit-of c =
     let start = c .before .before .before in
     omega (arith, mod-lt (c .before .loop .k / start .args .stride) {m = start .args .states} (omega arith))
 
-bit-of-requires : tie.Need-bit-of-requires Inv-loop μ-loop
-bit-of-requires c κs = search needs
-
-mul-work : tie.Need-mul-work Inv-loop μ-loop
-mul-work c = search needs
-
-slice-write-work : tie.Need-slice-write-work Inv-loop μ-loop
-slice-write-work c = search needs
-
-add-k : tie.Need-add-k Inv-loop μ-loop
-add-k c = search needs
-
-loop-less : tie.Need-loop-less Inv-loop μ-loop
-loop-less c = search needs
-
 loop-again : tie.Need-loop-again Inv-loop μ-loop
 loop-again c = writing-next (c .before .before .before .loop .inv) (omega arith) (omega arith) (c .bit-of .ensures)
-
-same-length : tie.Need-same-length Inv-loop μ-loop
-same-length c = search needs
 
 returns : tie.Need-returns Inv-loop μ-loop
 returns c = writing-all (c .before .loop .inv) (omega arith)
@@ -69,11 +51,11 @@ labelled-spec =
     rem-s
     mul-bit-of
     element-copy-out-bit-of
-    bit-of-requires
-    mul-work
-    slice-write-work
-    add-k
-    loop-less
+    (λ c κs. search needs)
+    (λ c. search needs)
+    (λ c. search needs)
+    (λ c. search needs)
+    (λ c. search needs)
     loop-again
-    same-length
+    (λ c. search needs)
     returns)

@@ -19,36 +19,12 @@ abbrev μ-loop : tie.MeasureT-loop
 loop-holds : tie.Need-loop-holds Inv-loop μ-loop
 loop-holds c = writing-none (omega arith)
 
-mul-other : tie.Need-mul-other Inv-loop μ-loop
-mul-other c = search needs
-
-slice-read-other : tie.Need-slice-read-other Inv-loop μ-loop
-slice-read-other c = search needs
-
-other-requires : tie.Need-other-requires Inv-loop μ-loop
-other-requires c κs = search needs
-
-mul-work : tie.Need-mul-work Inv-loop μ-loop
-mul-work c = search needs
-
-slice-write-work : tie.Need-slice-write-work Inv-loop μ-loop
-slice-write-work c = search needs
-
-add-k : tie.Need-add-k Inv-loop μ-loop
-add-k c = search needs
-
-loop-less : tie.Need-loop-less Inv-loop μ-loop
-loop-less c = search needs
-
 loop-again : tie.Need-loop-again Inv-loop μ-loop
 loop-again c =
     let h = c .before .before .before .loop .inv in
     let k = c .before .before .before .loop .k in
     writing-next h (omega arith) (omega arith)
     (c .other .ensures ∙ ap (λ (x : ℕ). cond (eqb x 0) 1 0) (h .high k (omega arith)))
-
-same-length : tie.Need-same-length Inv-loop μ-loop
-same-length c = search needs
 
 returns : tie.Need-returns Inv-loop μ-loop
 returns c = writing-all (c .before .loop .inv) (omega arith)
@@ -60,13 +36,13 @@ negated-spec =
     Inv-loop
     μ-loop
     loop-holds
-    mul-other
-    slice-read-other
-    other-requires
-    mul-work
-    slice-write-work
-    add-k
-    loop-less
+    (λ c. search needs)
+    (λ c. search needs)
+    (λ c κs. search needs)
+    (λ c. search needs)
+    (λ c. search needs)
+    (λ c. search needs)
+    (λ c. search needs)
     loop-again
-    same-length
+    (λ c. search needs)
     returns)

@@ -6,15 +6,6 @@ use borrow.Author.Needs.{needs}
 use Rattle.layers.proofs.sparse.name_anew.Statement.{statement}
 use Rattle.layers.proofs.sparse.name_anew.Tie as tie
 
-zero-in-requires : tie.Need-zero-in-requires
-zero-in-requires c κs = search needs
-
-returns : tie.Need-returns
-returns c = search needs
-
-cast-places : tie.Need-cast-places
-cast-places c = search needs
-
 name-row-requires : tie.Need-name-row-requires
 name-row-requires c κs =
     let start = c .before .before .before .before in
@@ -28,4 +19,4 @@ returns-2 c = λ few. naming-named (c .name-row .ensures) few
 
 pub name-anew-spec : {M : Type 1} → statement M
 name-anew-spec =
-    tie.close (tie.spec zero-in-requires returns cast-places name-row-requires returns-2)
+    tie.close (tie.spec (λ c κs. search needs) (λ c. search needs) (λ c. search needs) name-row-requires returns-2)

@@ -19,12 +19,6 @@ loop-holds c = (omega arith, c .pre .1)
 name-requires : tie.Need-name-requires Inv-loop μ-loop
 name-requires c κs = (omega (arith, c .before .before .before .pre .0), c .before .before .loop .inv .1)
 
-add-t : tie.Need-add-t Inv-loop μ-loop
-add-t c = search needs
-
-loop-less : tie.Need-loop-less Inv-loop μ-loop
-loop-less c = search needs
-
 loop-again : tie.Need-loop-again Inv-loop μ-loop
 loop-again c = (omega arith, c .name .ensures)
 
@@ -36,4 +30,4 @@ returns c =
 pub name-row-spec : {M : Type 1} → statement M
 name-row-spec =
     tie.close
-    (tie.spec Inv-loop μ-loop loop-holds name-requires add-t loop-less loop-again returns)
+    (tie.spec Inv-loop μ-loop loop-holds name-requires (λ c. search needs) (λ c. search needs) loop-again returns)

@@ -21,32 +21,8 @@ abbrev μ-loop : tie.MeasureT-loop
 loop-holds : tie.Need-loop-holds Inv-loop μ-loop
 loop-holds c = (omega arith, omega arith, omega arith, c .pre .1, λ k l. absurd (omega arith))
 
-mul-name-anew : tie.Need-mul-name-anew Inv-loop μ-loop
-mul-name-anew c = search needs
-
-index-1-name-anew : tie.Need-index-1-name-anew Inv-loop μ-loop
-index-1-name-anew c = search needs
-
-mul-name-anew-2 : tie.Need-mul-name-anew-2 Inv-loop μ-loop
-mul-name-anew-2 c = search needs
-
-index-1-name-anew-2 : tie.Need-index-1-name-anew-2 Inv-loop μ-loop
-index-1-name-anew-2 c = search needs
-
-name-anew-requires : tie.Need-name-anew-requires Inv-loop μ-loop
-name-anew-requires c κs = search needs
-
 returns : tie.Need-returns Inv-loop μ-loop
 returns c = record { few = omega arith; each = λ l. absurd (omega arith) }
-
-larger-requires : tie.Need-larger-requires Inv-loop μ-loop
-larger-requires c κs = search needs
-
-add-s : tie.Need-add-s Inv-loop μ-loop
-add-s c = search needs
-
-loop-less : tie.Need-loop-less Inv-loop μ-loop
-loop-less c = search needs
 
 loop-again : tie.Need-loop-again Inv-loop μ-loop
 loop-again c =
@@ -71,14 +47,14 @@ name-rows-spec =
     Inv-loop
     μ-loop
     loop-holds
-    mul-name-anew
-    index-1-name-anew
-    mul-name-anew-2
-    index-1-name-anew-2
-    name-anew-requires
+    (λ c. search needs)
+    (λ c. search needs)
+    (λ c. search needs)
+    (λ c. search needs)
+    (λ c κs. search needs)
     returns
-    larger-requires
-    add-s
-    loop-less
+    (λ c κs. search needs)
+    (λ c. search needs)
+    (λ c. search needs)
     loop-again
     returns-2)

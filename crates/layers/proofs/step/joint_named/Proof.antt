@@ -28,20 +28,11 @@ mul-stride c =
     let start = at-loop .before .before in
     omega (arith, stride-small (start .pre .0) (at-loop .loop .inv) (omega arith))
 
-add-m : tie.Need-add-m Inv-loop μ-loop
-add-m c = search needs
-
-loop-less : tie.Need-loop-less Inv-loop μ-loop
-loop-less c = search needs
-
 loop-again : tie.Need-loop-again Inv-loop μ-loop
 loop-again c =
     let at-loop = c .before .before .before .before .before in
     let start = at-loop .before .before in
     stepping-next (start .pre .0) (at-loop .loop .inv) (omega arith) (c .before .before .step-variable .ensures)
-
-same-length : tie.Need-same-length Inv-loop μ-loop
-same-length c = search needs
 
 returns : tie.Need-returns Inv-loop μ-loop
 returns c =
@@ -58,8 +49,8 @@ joint-named-spec =
     loop-holds
     step-variable-requires
     mul-stride
-    add-m
-    loop-less
+    (λ c. search needs)
+    (λ c. search needs)
     loop-again
-    same-length
+    (λ c. search needs)
     returns)

@@ -29,9 +29,6 @@ shared-slice-read-column c =
     let at-loop = c .before .before in
     omega (arith, at-loop .before .pre .0 .inside (at-loop .loop .s) (omega arith))
 
-mul-column-2 : tie.Need-mul-column-2 Inv-loop μ-loop
-mul-column-2 c = search needs
-
 element-write-column : tie.Need-element-write-column Inv-loop μ-loop
 element-write-column c = omega (arith, c .before .before .before .pre .0 .states)
 
@@ -39,12 +36,6 @@ add-place : tie.Need-add-place Inv-loop μ-loop
 add-place c =
     let at-loop = c .before .before in
     omega (arith, next-near (at-loop .before .pre .0) (at-loop .loop .s) (omega arith))
-
-add-s : tie.Need-add-s Inv-loop μ-loop
-add-s c = search needs
-
-loop-less : tie.Need-loop-less Inv-loop μ-loop
-loop-less c = search needs
 
 loop-again : tie.Need-loop-again Inv-loop μ-loop
 loop-again c =
@@ -66,10 +57,10 @@ read-column-spec =
     loop-holds
     mul-column
     shared-slice-read-column
-    mul-column-2
+    (λ c. search needs)
     element-write-column
     add-place
-    add-s
-    loop-less
+    (λ c. search needs)
+    (λ c. search needs)
     loop-again
     returns)

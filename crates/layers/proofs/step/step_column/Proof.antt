@@ -78,12 +78,6 @@ add-place c =
     let start = at-loop .before .before .before .before .before in
     omega (arith, next-near (start .pre .0 .lies) (at-loop .loop .s) (omega arith))
 
-add-s : tie.Need-add-s Inv-loop μ-loop
-add-s c = search needs
-
-loop-less : tie.Need-loop-less Inv-loop μ-loop
-loop-less c = search needs
-
 loop-again : tie.Need-loop-again Inv-loop μ-loop
 loop-again c =
     let at-loop = c .before .before .before .before .before in
@@ -93,9 +87,6 @@ loop-again c =
     (λ t l. ap (λ (x : ℕ). weightIn (start .args .rows .now) s t * x) (at-loop .before .read-column .ensures .each t l)) in
     let inv = at-loop .loop .inv in
     (omega arith, column-next (start .pre .0) (inv .1) (omega arith) (inv .0) (c .row-sum .ensures ∙ copied))
-
-same-length : tie.Need-same-length Inv-loop μ-loop
-same-length c = search needs
 
 returns : tie.Need-returns Inv-loop μ-loop
 returns c = (column-all (c .before .loop .inv .1) (omega arith), c .before .before .read-column .ensures .long)
@@ -116,8 +107,8 @@ step-column-spec =
     mul-layer
     slice-write-layer
     add-place
-    add-s
-    loop-less
+    (λ c. search needs)
+    (λ c. search needs)
     loop-again
-    same-length
+    (λ c. search needs)
     returns)

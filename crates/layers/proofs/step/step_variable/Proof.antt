@@ -19,9 +19,6 @@ Inv-loop rows places most states stride tuples layer₀ columns column₀ at₀ 
 abbrev μ-loop : tie.MeasureT-loop
 μ-loop rows places most states stride tuples layer₀ columns column₀ at₀ within₀ j₀ layer column at within j = columns - j
 
-div-columns : tie.Need-div-columns Inv-loop μ-loop
-div-columns c = search needs
-
 loop-holds : tie.Need-loop-holds Inv-loop μ-loop
 loop-holds c = (layer-none, counted-none (c .before .pre .0 .some) (c .before .pre .0 .apart), refl)
 
@@ -74,9 +71,6 @@ add-j c =
     let start = at-loop .before .before in
     omega (arith, div-le-self (start .args .tuples) (start .args .states))
 
-loop-less : tie.Need-loop-less Inv-loop μ-loop
-loop-less c = search needs
-
 loop-again : tie.Need-loop-again Inv-loop μ-loop
 loop-again c =
     let at-loop = c .before .before .before .before .before .before .before in
@@ -92,9 +86,6 @@ loop-again c =
       done .1,
     )
 
-same-length : tie.Need-same-length Inv-loop μ-loop
-same-length c = search needs
-
 returns : tie.Need-returns Inv-loop μ-loop
 returns c =
     let at-loop = c .before in
@@ -108,7 +99,7 @@ step-variable-spec =
     (tie.spec
     Inv-loop
     μ-loop
-    div-columns
+    (λ c. search needs)
     loop-holds
     step-column-requires
     add-at
@@ -117,7 +108,7 @@ step-variable-spec =
     sub-at
     add-at-2
     add-j
-    loop-less
+    (λ c. search needs)
     loop-again
-    same-length
+    (λ c. search needs)
     returns)

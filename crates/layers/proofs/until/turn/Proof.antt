@@ -10,21 +10,6 @@ use Rattle.layers.proofs.Untils.{turned-from}
 use Rattle.layers.proofs.until.turn.Statement.{statement}
 use Rattle.layers.proofs.until.turn.Tie as tie
 
-add-from : tie.Need-add-from
-add-from c = search needs
-
-mul-joint-named : tie.Need-mul-joint-named
-mul-joint-named c = search needs
-
-sub-joint-named : tie.Need-sub-joint-named
-sub-joint-named c = search needs
-
-part-joint-named-start : tie.Need-part-joint-named-start
-part-joint-named-start c = search needs
-
-part-joint-named-end : tie.Need-part-joint-named-end
-part-joint-named-end c = search needs
-
 joint-named-requires : tie.Need-joint-named-requires
 joint-named-requires c κs =
     let start = c .before .before in
@@ -44,9 +29,6 @@ choose-requires c κs =
     let back = put-back (T + T) w tail (omega (arith, start .pre .0 .room)) (stepped .kept .long) in
     omega (arith, back .long, start .pre .0 .room)
 
-same-length : tie.Need-same-length
-same-length c = search needs
-
 returns : tie.Need-returns
 returns c =
     let start = c .before .before .before .before .before .before .before .before .before in
@@ -65,12 +47,12 @@ pub turn-spec : {M : Type 1} → statement M
 turn-spec =
     tie.close
     (tie.spec
-    add-from
-    mul-joint-named
-    sub-joint-named
-    part-joint-named-start
-    part-joint-named-end
+    (λ c. search needs)
+    (λ c. search needs)
+    (λ c. search needs)
+    (λ c. search needs)
+    (λ c. search needs)
     joint-named-requires
     choose-requires
-    same-length
+    (λ c. search needs)
     returns)

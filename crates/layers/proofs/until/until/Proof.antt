@@ -33,9 +33,6 @@ loop-holds c =
     let copied = c .before .before .copy .ensures in
     untiling-none (copied-fits pre copied) (copied-same pre copied)
 
-add-next : tie.Need-add-next Inv-loop μ-loop
-add-next c = search needs
-
 scaled-requires : tie.Need-scaled-requires Inv-loop μ-loop
 scaled-requires c κs =
     let at-loop = c .before in
@@ -45,9 +42,6 @@ scaled-requires c κs =
     let h = at-loop .loop .inv in
     (start .pre .weighed, omega (arith, next-power fits h (omega arith), power-fits fits h (omega arith)))
 
-sub-turn : tie.Need-sub-turn Inv-loop μ-loop
-sub-turn c = search needs
-
 turn-requires : tie.Need-turn-requires Inv-loop μ-loop
 turn-requires c κs =
     let at-loop = c .before .before .before .before in
@@ -55,9 +49,6 @@ turn-requires c κs =
     let copied = at-loop .before .before .before .copy .ensures in
     let fits = copied-fits (start .pre) copied in
     (turn-fits fits (at-loop .loop .inv) (omega arith), at-loop .before .before .before .before .before .name-rows .ensures)
-
-loop-less : tie.Need-loop-less Inv-loop μ-loop
-loop-less c = search needs
 
 loop-again : tie.Need-loop-again Inv-loop μ-loop
 loop-again c =
@@ -102,11 +93,11 @@ until-spec =
     add-copy
     copy-requires
     loop-holds
-    add-next
+    (λ c. search needs)
     scaled-requires
-    sub-turn
+    (λ c. search needs)
     turn-requires
-    loop-less
+    (λ c. search needs)
     loop-again
     add-copy-2
     copy-requires-2
