@@ -1,8 +1,8 @@
 -- Demand 2, of verdict and numerator.
-use Prim.Native.Nat.{ℕ, _*_, _^_}
+use Prim.Native.Nat.{ℕ, _^_}
 use mathlib.Core.Bool.{Bool}
 use mathlib.Core.List.{List, map}
-use mathlib.Core.Path.{_≡_, refl, sym, ap, ap₂, _∙_}
+use mathlib.Core.Path.{_≡_, sym, ap, ap₂, _∙_}
 use native.Mathlib.Nat.{le-of-eq, mul-one}
 use lib.ListN.{length}
 use Rattle.refusal.specs.Answers.{gives, numberIn}
@@ -13,7 +13,6 @@ use Rattle.meaning.specs.Chain.{Chain, Tuple, Inside, Sound, runWeight, runs}
 use Rattle.meaning.specs.Tree.{Formula, PathFormula, next, until, letterOf}
 use Rattle.meaning.specs.Meaning.{numerator, denominator, verdict}
 use Rattle.meaning.proofs.Steps.{runs-total}
-use Rattle.chain.specs.Of.{chainOf}
 use Rattle.chain.proofs.Accepted.{sound}
 use Rattle.question.specs.Rows.{SentenceOf}
 use Rattle.question.proofs.Numbers.{none-of}

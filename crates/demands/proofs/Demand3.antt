@@ -10,7 +10,7 @@ use borrow.Author.Tests.{le-ltb}
 use lib.ListN.{length, take, length-map}
 use Rattle.refusal.specs.declared.Written.{Written}
 use Rattle.refusal.specs.declared.Written.the-variants.{Wrote}
-use Rattle.refusal.specs.Answers.{gives, numberIn, replyOfWritten, Writes}
+use Rattle.refusal.specs.Answers.{gives, numberIn, Writes}
 use Rattle.refusal.proofs.Ensuring.{number-decided, right-of, written-told}
 use Rattle.refusal.proofs.Laws.{first-later, first-none}
 use Rattle.refusal.proofs.Listed.{list-number}
@@ -23,7 +23,6 @@ use Rattle.meaning.specs.Meaning.{numerator, denominator, verdict}
 use Rattle.meaning.specs.Size.{exceeds}
 use Rattle.meaning.specs.Merging.{Stable}
 use Rattle.trees.specs.Listed.{formulaNodes}
-use Rattle.chain.specs.Of.{chainOf}
 use Rattle.chain.proofs.Accepted.{fields-right}
 use Rattle.question.specs.Rows.{labelRight, QuestionRow, area, model, sentence, labels, size, tuples}
 use Rattle.question.proofs.Numbers.{none-of}
@@ -35,7 +34,7 @@ use Rattle.numerator.specs.declared.Answer as Counted
 use Rattle.numerator.specs.Calls.{NumeratorRow, question, long, member, missing, NumeratorAnswer, numbered, replyOf as replyCounted}
 use Rattle.numerator.proofs.Single.{reply-told as counted-told}
 use Rattle.paths.proofs.Members.{members-inside}
-use Rattle.merge.specs.Groups.{groupOf, groupCount}
+use Rattle.merge.specs.Groups.{groupOf}
 use Rattle.merge.specs.Rows.{mergeRows, mergeNumber, mergedFile}
 use Rattle.merge.specs.Kept.{Kept}
 use Rattle.merge.proofs.Exact.{refused-13, stable-alike}

@@ -1,20 +1,19 @@
 -- Demand 2, of the readers and writers: both round trips, from what the calls ensure.
 use Prim.Native.Nat.{ℕ, _≤_}
 use mathlib.Core.List.{List}
-use mathlib.Core.Path.{_≡_, refl, sym, ap, ap₂, subst, _∙_}
+use mathlib.Core.Path.{_≡_, refl, sym, ap, subst, _∙_}
 use lib.ListN.{length, take}
 use lib.Seq.{take-at}
-use Rattle.refusal.specs.declared.Outcome.{Outcome}
 use Rattle.refusal.specs.declared.Outcome.the-variants.{Done}
 use Rattle.refusal.specs.declared.Written.{Written}
 use Rattle.refusal.specs.declared.Written.the-variants.{Wrote}
-use Rattle.refusal.specs.Answers.{gives, numberIn, replyOf, atFront, Writes}
+use Rattle.refusal.specs.Answers.{numberIn, replyOf, atFront, Writes}
 use Rattle.refusal.proofs.Ensuring.{right-of}
 use Rattle.refusal.proofs.Listed.{list-number, none-applies, one-writing, writes-done}
 use Rattle.model.specs.declared.Model.{Model}
 use Rattle.model.specs.declared.ModelRead.{ModelRead}
 use Rattle.model.specs.Layout.{Shaped, fieldsOf, fileOf}
-use Rattle.model.specs.Rows.{fileNumber, Reads, recordRows, recordNumber}
+use Rattle.model.specs.Rows.{Reads, recordRows, recordNumber}
 use Rattle.model.proofs.Answer.{record-rows, reads-number, reads-value, reads-done}
 use Rattle.model.proofs.Theorems.{one-reading, write-of-read, write-of-read-fits, read-of-write}
 use Rattle.sentence.proofs.RoundTrips.{read-then-write, write-then-read}

@@ -1,6 +1,5 @@
 -- The three demands of document 00, said of whatever the calls' contracts allow: of every reply, and of all that is left.
 use Prim.Native.Nat.{ℕ, _≤_, _<_}
-use mathlib.Core.Bool.{Bool}
 use mathlib.Core.List.{List, map}
 use mathlib.Core.Logic.{_↔_}
 use mathlib.Core.Path.{_≡_}

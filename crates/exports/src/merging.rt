@@ -1,5 +1,4 @@
 // Merge for other languages, thin over the library's own call.
-ghost use mathlib.Core.Path.{_≡_};
 ghost use Rattle.exports.specs.Records.{Merges};
 use crate::written_code;
 

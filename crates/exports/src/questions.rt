@@ -1,5 +1,4 @@
 // Verdict and numerator for other languages, each thin over the library's own call.
-ghost use mathlib.Core.Path.{_≡_};
 ghost use Rattle.exports.specs.Questions.{GivesVerdict, GivesNumerator};
 
 // Verdict: 256 where the sentence holds on the model and 257 where it does not, the first 8,192 numbers of the work area

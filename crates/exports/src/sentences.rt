@@ -1,8 +1,6 @@
 // Read sentence and write sentence for other languages: a node is a code of three numbers, a tag and what the node holds
 // (specs/Sentences). Each call is thin over the library's own.
-ghost use mathlib.Core.Bool.{true, false, not};
 ghost use mathlib.Core.Path.{_≡_};
-ghost use lib.Dec.{eqb};
 ghost use Rattle.exports.specs.Sentences.{relationCode, codeOfNode, codesOf, letterCode, letterCodes, ReadsSentence, labelOf, comparisonOf, nodeOf, nodeOfCode, placesOf, lettersOf, sentenceOf, unspelled, WritesSentence};
 use crate::written_code;
 use refusal::Outcome;

@@ -1,28 +1,27 @@
 -- Both round trips of demand 2: writing what was read gives the same file, and reading what was written gives the same
 -- model.
-use Prim.Native.Nat.{ℕ, zero, suc, _+_, _-_, _*_, _/_, _%_, _^_, _<_, _≤_}
-use mathlib.Core.Bool.{Bool, true, false, cond, not, _&&_}
-use mathlib.Core.List.{List, [], _∷_, _++_}
-use mathlib.Core.Path.{_≡_, refl, sym, ap, ap₂, subst, _∙_}
+use Prim.Native.Nat.{ℕ, zero, suc, _+_, _-_, _*_, _/_, _%_, _<_, _≤_}
+use mathlib.Core.Bool.{Bool, true, _&&_}
+use mathlib.Core.List.{List, [], _++_}
+use mathlib.Core.Path.{_≡_, sym, ap, ap₂, subst, _∙_}
 use native.Mathlib.Omega.{arith}
 use native.Mathlib.Decide.{decLt}
-use borrow.Author.Tests.{le-ltb, eqb-true, eq-eqb, leb-true, le-leb, ltb-true}
+use borrow.Author.Tests.{le-ltb, eqb-true, eq-eqb, leb-true, le-leb}
 use lib.Dec.{eqb, leb, ltb}
 use lib.ListN.{length, getD, List·getD-append, List·getD-eq-default}
 use lib.Seq.{ext-getD, getD-append-add}
 use Rattle.counting.specs.Below.{every, table}
-use Rattle.counting.proofs.Laws.{table-at, table-is, length-table, every-at, every-all, left-of, right-of, and-true}
-use Rattle.refusal.specs.Rows.{first}
+use Rattle.counting.proofs.Laws.{table-at, table-is, every-at, every-all, left-of, right-of, and-true}
 use Rattle.block.specs.Block.{byteOf, blocksIn, two, lowByte, highByte, checkOf, checkRight, checksRight}
 use Rattle.block.proofs.Laws.{check-same}
 use Rattle.model.specs.declared.Model.{Model}
-use Rattle.model.specs.Layout.{maskOf, weightOf, Shaped, twoAt, fourAt, maskAt, weightAt, byteOfTwo, headByte, rowByte, contentByte, byteAt, blockBytes, blocksBelow, blocks, fileOf, fieldsOf}
+use Rattle.model.specs.Layout.{maskOf, weightOf, Shaped, twoAt, fourAt, maskAt, weightAt, byteOfTwo, headByte, contentByte, byteAt, blockBytes, blocksBelow, blocks, fileOf, fieldsOf}
 use Rattle.model.specs.Rows.{lengthRight, fieldsRight, laidOut, rowsRight, fileNumber}
 use Rattle.model.proofs.Places.{byte-there}
 use Rattle.model.proofs.Rightness.{states-some, states-few, total-few, weight-past}
 use Rattle.model.proofs.Answer.{number-0}
 use Rattle.model.proofs.Standing.{head-rest, row-rest, content-head, content-row}
-use Rattle.model.proofs.Written.{byte-content, byte-low, byte-high, length-block, length-blocks}
+use Rattle.model.proofs.Written.{byte-content, byte-low, byte-high, length-blocks}
 
 -- ---- the bytes of the file of a model
 

@@ -3,17 +3,17 @@
 use Prim.Native.Nat.{ℕ, zero, suc, _+_, _-_, _*_, _/_, _%_, _<_, _≤_}
 use mathlib.Core.Bool.{Bool, true, false, cond, _&&_}
 use mathlib.Core.List.{List, [], _∷_}
-use mathlib.Core.Path.{_≡_, refl, sym, ap, ap₂, _∙_}
+use mathlib.Core.Path.{_≡_, refl, sym, ap, _∙_}
 use native.Mathlib.Omega.{arith}
 use native.Mathlib.Decide.{decLt}
 use borrow.Author.Tests.{lt-ltb, le-ltb, eq-eqb, eqb-true}
 use lib.Dec.{ltb, eqb}
-use lib.ListN.{length, getD, List·getD-eq-default}
+use lib.ListN.{getD, List·getD-eq-default}
 use Rattle.counting.specs.Below.{every, table}
 use Rattle.counting.proofs.Laws.{table-at, length-table, every-at, every-all, same-truth, and-true, left-of, right-of}
-use Rattle.block.specs.Block.{byteOf, lowByte, highByte, two, four}
+use Rattle.block.specs.Block.{byteOf}
 use Rattle.model.specs.declared.Model.{Model}
-use Rattle.model.specs.Layout.{maskOf, weightOf, twoAt, fourAt, maskAt, weightAt, fieldsOf, byteOfTwo, headStart, maskByte, weightByte, headByte, rowByte, contentByte}
+use Rattle.model.specs.Layout.{maskOf, weightOf, twoAt, maskAt, weightAt, fieldsOf, byteOfTwo, headStart, maskByte, weightByte, headByte, rowByte, contentByte}
 use Rattle.model.proofs.Places.{byte-there}
 
 -- a list of bytes

@@ -1,15 +1,15 @@
 -- What a reader of document 01 asks of the two calls, said of their definitions: the number given is the smallest that
 -- applies, the contracts leave one result, and both round trips.
-use Prim.Native.Nat.{ℕ, zero, suc, _*_, _<_, _≤_}
-use mathlib.Core.Bool.{Bool, true, false, not}
-use mathlib.Core.List.{List, [], _∷_}
+use Prim.Native.Nat.{ℕ, _*_, _≤_}
+use mathlib.Core.Bool.{true, not}
+use mathlib.Core.List.{List, []}
 use mathlib.Core.Path.{_≡_, refl, sym, ap, ap₂, _∙_}
 use native.Mathlib.Omega.{arith}
 use borrow.Author.Tests.{not-false, ltb-false}
 use lib.Dec.{ltb}
 use lib.ListN.{length}
 use Rattle.refusal.specs.declared.Outcome.{Outcome}
-use Rattle.refusal.specs.Rows.{first, Given}
+use Rattle.refusal.specs.Rows.{Given}
 use Rattle.refusal.proofs.Ensuring.{one-result, outcome-told}
 use Rattle.refusal.proofs.Laws.{smallest, none-here}
 use Rattle.block.specs.Block.{checksRight}

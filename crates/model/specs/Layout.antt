@@ -1,7 +1,7 @@
 -- Document 01, 'The model file': the layout, said once for reading and writing. `fieldsOf` takes the fields out of a file,
 -- `byteAt` says which byte stands where in the file of a model, and `fileOf` is that file.
 use Prim.Native.Nat.{ℕ, zero, suc, _+_, _-_, _*_, _/_, _%_, _<_}
-use mathlib.Core.Bool.{Bool, cond}
+use mathlib.Core.Bool.{cond}
 use mathlib.Core.List.{List, [], _∷_, _++_}
 use mathlib.Core.Path.{_≡_}
 use lib.Dec.{ltb}

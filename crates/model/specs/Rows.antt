@@ -5,14 +5,14 @@ use mathlib.Core.Bool.{Bool, _&&_, _||_, not}
 use mathlib.Core.List.{List, [], _∷_}
 use mathlib.Core.Path.{_≡_}
 use lib.Dec.{ltb, leb, eqb}
-use lib.ListN.{length, replicate}
+use lib.ListN.{length}
 use Rattle.counting.specs.Below.{sum, every, table}
 use Rattle.refusal.specs.Rows.{Row, first, Applies}
 use Rattle.refusal.specs.Answers.{replyOf, Ensured}
 use Rattle.block.specs.Block.{byteOf, blocksIn, checksRight}
 use Rattle.model.specs.declared.Model.{Model}
 use Rattle.model.specs.declared.ModelRead.{ModelRead}
-use Rattle.model.specs.Layout.{maskOf, weightOf, fieldsOf, contentByte, blocks, fileOf}
+use Rattle.model.specs.Layout.{maskOf, weightOf, fieldsOf, contentByte, blocks}
 
 -- x is one of low..high
 abbrev pub within : ℕ → ℕ → ℕ → Bool

@@ -6,7 +6,6 @@ pub mod reader;
 mod rules;
 pub mod writer;
 
-ghost use mathlib.Core.Path.{_≡_};
 use matrix::Weights;
 use refusal::Outcome;
 

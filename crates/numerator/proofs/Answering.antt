@@ -2,7 +2,7 @@
 use Prim.Native.Nat.{ℕ, _≤_, _<_}
 use mathlib.Core.Bool.{Bool, true, false, _&&_, true≢false}
 use mathlib.Core.List.{List}
-use mathlib.Core.Path.{_≡_, refl, sym, ap, ap₂, subst, _∙_}
+use mathlib.Core.Path.{_≡_, refl, sym, ap, ap₂, _∙_}
 use native.Mathlib.Omega.{arith}
 use borrow.Author.Tests.{eqb-false, ltb-false}
 use lib.Dec.{eqb, ltb}
@@ -11,14 +11,10 @@ use Rattle.refusal.specs.Answers.{refused, answered}
 use Rattle.refusal.specs.Rows.{Decided, refused as given, accepted}
 use Rattle.model.specs.declared.Model.{Model}
 use Rattle.model.specs.declared.ModelRead as Loaded
-use Rattle.model.specs.Layout.{fieldsOf}
 use Rattle.model.specs.Rows.{Reads}
-use Rattle.sentence.specs.declared.Node.{Node}
 use Rattle.sentence.specs.declared.Sentence.{Sentence}
-use Rattle.sentence.specs.Grammar.{Spells}
-use Rattle.meaning.specs.Tree.{Formula, PathFormula, pathsOf}
+use Rattle.meaning.specs.Tree.{Formula, pathsOf}
 use Rattle.meaning.specs.Meaning.{numerator, denominator}
-use Rattle.trees.specs.Listed.{formulaNodes}
 use Rattle.chain.specs.Of.{chainOf}
 use Rattle.paths.specs.Tuples.{membersBelow}
 use Rattle.question.specs.Rows.{QuestionRow, cleared}
@@ -27,7 +23,6 @@ use Rattle.question.proofs.Numbers.{row-few}
 use Rattle.question.proofs.Pair.{letters-length}
 use Rattle.question.proofs.Stages.{one}
 use Rattle.question.proofs.Settled.{model-of}
-use Rattle.numerator.specs.declared.Answer.{Answer}
 use Rattle.numerator.specs.declared.Answer.the-variants.{Counted, Refused}
 use Rattle.numerator.specs.declared.Ratio.{Ratio}
 use Rattle.numerator.specs.Calls.{numbered, NumeratorRow, question, long, member, missing, NumeratorAnswer}

@@ -1,11 +1,9 @@
 -- The path formula's numerators, of a model, a sentence, a tuple and a number to which no row applies.
-use Prim.Native.Nat.{ℕ, _*_, _^_, _≤_, _<_}
-use mathlib.Core.Bool.{Bool, true, false, _&&_}
+use Prim.Native.Nat.{ℕ, _^_, _<_}
 use mathlib.Core.List.{List}
-use mathlib.Core.Path.{_≡_, refl, sym, ap, ap₂, subst, _∙_}
+use mathlib.Core.Path.{_≡_, sym, ap, ap₂, subst, _∙_}
 use native.Mathlib.Omega.{arith}
 use borrow.Author.Tests.{ltb-true, lt-ltb}
-use lib.Dec.{ltb}
 use lib.ListN.{length, getD}
 use Rattle.model.specs.declared.Model.{Model}
 use Rattle.sentence.specs.declared.Sentence.{Sentence}
@@ -17,7 +15,7 @@ use Rattle.evaluate.specs.declared.Valued.{Valued}
 use Rattle.evaluate.specs.Evaluation.{PathReady, PathDone}
 use Rattle.trees.specs.Ranged.{Ranged}
 use Rattle.chain.specs.Of.{chainOf}
-use Rattle.paths.specs.Places.{PathPlace, here, none, TupleReady, TuplePlace}
+use Rattle.paths.specs.Places.{PathPlace, TupleReady, TuplePlace}
 use Rattle.paths.proofs.Joining.{Found, path-found}
 use Rattle.paths.proofs.Members.{right-ready, layer-there}
 use Rattle.question.specs.Working.{SentenceRead, SettingOf}

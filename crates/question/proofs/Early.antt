@@ -1,23 +1,18 @@
 -- The work area, the file and the text: their own rows give the number, or they are read.
 use Prim.Native.Nat.{ℕ, zero, suc, _≤_, _<_}
-use mathlib.Core.Bool.{Bool, true, false, true≢false, false≢true}
-use mathlib.Core.List.{List, [], _∷_}
-use mathlib.Core.Path.{_≡_, refl, sym, ap, subst, _∙_}
+use mathlib.Core.List.{List, []}
+use mathlib.Core.Path.{_≡_, sym, ap, subst, _∙_}
 use native.Mathlib.Omega.{arith}
-use lib.ListN.{length}
 use Rattle.refusal.specs.Answers.{numberIn, Ensured, refused as not-read, answered, replyOf}
 use Rattle.refusal.specs.Rows.{Decided, refused, accepted}
 use Rattle.refusal.proofs.Ensuring.{number-decided}
-use Rattle.model.specs.declared.Model.{Model}
 use Rattle.model.specs.declared.ModelRead as Loaded
-use Rattle.model.specs.Layout.{fieldsOf}
 use Rattle.model.specs.Rows.{fileNumber, Reads}
 use Rattle.model.proofs.Answer.{reads-value}
 use Rattle.sentence.specs.declared.Node.{Node}
 use Rattle.sentence.specs.declared.SentenceRead as Parsed
 use Rattle.sentence.specs.Grammar.{Spells}
 use Rattle.sentence.specs.Calls.{ReadRow, Spelled, ReadAnswer, recordOf}
-use Rattle.trees.specs.Listed.{formulaNodes}
 use Rattle.trees.proofs.Exists.{formula-of}
 use Rattle.question.specs.Rows.{QuestionRow, area, model, sentence, labels, size, tuples}
 use Rattle.question.specs.Working.{ModelRead, SentenceRead}

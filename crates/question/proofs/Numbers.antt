@@ -1,7 +1,7 @@
 -- The smallest number that applies, stage by stage: what is left of the rows where those before do not apply.
 use Prim.Native.Nat.{ℕ, zero, suc, _+_, _*_, _^_, _≤_, _<_}
-use mathlib.Core.Bool.{Bool, true, false, _&&_, true≢false}
-use mathlib.Core.List.{List, map}
+use mathlib.Core.Bool.{Bool, true, false, _&&_}
+use mathlib.Core.List.{List}
 use mathlib.Core.Path.{_≡_, refl, sym, ap, subst, _∙_}
 use native.Mathlib.Nat.{mul-le-mul, mul-comm, pow-succ'}
 use native.Mathlib.Numerals.{add-one}
@@ -9,17 +9,10 @@ use native.Mathlib.Omega.{arith}
 use lib.ListN.{length, getD, take, drop, drop-of-length-le}
 use lib.Seq.{drop-cons, getD-take, length-take-le}
 use Rattle.refusal.specs.Rows.{Applies, here, later, Decided, refused, accepted, Given}
-use Rattle.model.specs.Layout.{fieldsOf}
 use Rattle.model.specs.Rows.{fileRows, fileNumber}
 use Rattle.model.proofs.Theorems.{read-smallest}
-use Rattle.sentence.specs.Grammar.{Spells}
 use Rattle.sentence.specs.Calls.{ReadRow, outside, long, range, many}
 use Rattle.meaning.specs.Lists.{every}
-use Rattle.meaning.specs.Chain.{tupleCount}
-use Rattle.meaning.specs.Tree.{Formula}
-use Rattle.meaning.specs.Size.{exceeds}
-use Rattle.trees.specs.Listed.{formulaNodes}
-use Rattle.chain.specs.Of.{chainOf}
 use Rattle.question.specs.Rows.{QuestionRow, area, model, sentence, labels, size, tuples}
 
 -- the numbers of a file's rows, and of a text's

@@ -1,6 +1,6 @@
 -- A question to which no row applies: the model and the sentence that were read are ready for evaluation.
 use Prim.Native.Nat.{ℕ, zero, suc, _*_, _^_, _≤_, _<_}
-use mathlib.Core.Bool.{Bool, true, false, true≢false}
+use mathlib.Core.Bool.{Bool, true, false}
 use mathlib.Core.List.{List}
 use mathlib.Core.Path.{_≡_, refl, sym, ap, ap₂, subst, _∙_}
 use native.Mathlib.Decide.{decLt}
@@ -30,7 +30,7 @@ use Rattle.chain.specs.Of.{chainOf}
 use Rattle.chain.proofs.Accepted as accepted
 use Rattle.question.specs.Rows.{QuestionRow, area, model, sentence, size, tuples}
 use Rattle.question.specs.Working.{ModelRead, SentenceRead, Ready, SettingOf}
-use Rattle.question.proofs.Numbers.{least-model, text-number}
+use Rattle.question.proofs.Numbers.{least-model}
 use Rattle.question.proofs.Early.{file-read, text-read}
 use Rattle.question.proofs.Pair.{states-few, letters-few}
 use Rattle.question.proofs.Stages.{size-same, tuples-same}

@@ -1,8 +1,8 @@
 -- Of a file and a text that are accepted only rows 9, 10 and 11 are left; what each asks of the model and the sentence that
 -- were read.
-use Prim.Native.Nat.{ℕ, zero, suc, _^_, _≤_, _<_}
+use Prim.Native.Nat.{ℕ, _^_, _≤_, _<_}
 use mathlib.Core.Bool.{Bool, true, false, _&&_, true≢false}
-use mathlib.Core.List.{List, [], _∷_, _++_, map}
+use mathlib.Core.List.{List, [], _∷_, map}
 use mathlib.Core.Path.{_≡_, refl, sym, ap, ap₂, subst, _∙_}
 use native.Mathlib.Omega.{arith}
 use lib.ListN.{length, take}
@@ -15,7 +15,7 @@ use Rattle.sentence.specs.declared.Node.{Node}
 use Rattle.sentence.specs.declared.Slot.{Slot}
 use Rattle.sentence.specs.declared.Sentence.{Sentence}
 use Rattle.sentence.specs.Grammar.{Spells}
-use Rattle.sentence.specs.Calls.{ReadRow, recordOf, nodesOf, slot}
+use Rattle.sentence.specs.Calls.{nodesOf}
 use Rattle.sentence.proofs.RoundTrips.{same-sentence}
 use Rattle.meaning.specs.Lists.{every}
 use Rattle.meaning.specs.Chain.{tupleCount}

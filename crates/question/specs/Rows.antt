@@ -1,6 +1,6 @@
 -- Document 01, 'Calls and refusal numbers': the rows 1 to 11, which verdict and numerator share. A question is a model file, a
 -- sentence text and a work area.
-use Prim.Native.Nat.{ℕ, _≤_, _<_}
+use Prim.Native.Nat.{ℕ, _<_}
 use mathlib.Core.Bool.{Bool, true, false}
 use mathlib.Core.List.{List, _++_}
 use mathlib.Core.Path.{_≡_}

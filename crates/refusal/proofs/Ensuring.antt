@@ -1,5 +1,5 @@
 -- What every call's contract leaves: one reply and one content of everything lent, with the number that its rows ask for.
-use Prim.Native.Nat.{ℕ, _≤_, _<_}
+use Prim.Native.Nat.{ℕ, _<_}
 use mathlib.Core.List.{List}
 use mathlib.Core.Path.{_≡_, refl, sym, ap, subst, _∙_}
 use native.Mathlib.Nat.{le-antisymm}

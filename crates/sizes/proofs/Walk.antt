@@ -1,5 +1,5 @@
 -- What the walk finds of a node, from what it found of the nodes after it. Assumes nothing.
-use Prim.Native.Nat.{ℕ, suc, _+_, _*_, _^_, _≤_, _<_}
+use Prim.Native.Nat.{ℕ, _+_, _*_, _^_, _≤_, _<_}
 use mathlib.Core.Bool.{Bool, true, false, not, _||_}
 use mathlib.Core.List.{List, [], _∷_, map}
 use mathlib.Core.Logic.{inl, inr}
@@ -20,7 +20,7 @@ use Rattle.meaning.specs.Meaning.{denominator}
 use Rattle.meaning.specs.Size.{size, addS, mulS, tooLarge, largeSize, largeCross, exceeds, exceedsIn, exceedsFrom}
 use Rattle.sentence.specs.Writing.{wantsOf}
 use Rattle.trees.specs.Wanted.{operandCount}
-use Rattle.trees.specs.Standing.{nodeAt, FormulaAt, ExpressionAt, PathAt}
+use Rattle.trees.specs.Standing.{nodeAt, FormulaAt, ExpressionAt}
 use Rattle.trees.proofs.Cases.{FormulaCase, ExpressionCase, PathCase, formula-case, expression-case, path-case, formula-place, expression-place, path-place}
 use Rattle.sizes.specs.declared.Measure.{Measure}
 use Rattle.sizes.specs.declared.MeasureTwo.{MeasureTwo}

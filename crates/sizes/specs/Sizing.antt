@@ -1,7 +1,7 @@
 -- What is found, by the size rule, of the trees that stand in the places of a record. A number above 2^62 is kept as
 -- 2^62 + 1: it is too large, and so is whatever it is a factor or a summand of, unless the other factor is 0.
-use Prim.Native.Nat.{ℕ, min, _+_, _*_, _^_, _≤_, _<_}
-use mathlib.Core.Bool.{Bool, _||_}
+use Prim.Native.Nat.{ℕ, min, _+_, _≤_, _<_}
+use mathlib.Core.Bool.{_||_}
 use mathlib.Core.List.{List}
 use mathlib.Core.Path.{_≡_}
 use Rattle.sentence.specs.declared.Slot.{Slot}

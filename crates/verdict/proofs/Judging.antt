@@ -1,20 +1,20 @@
 -- Evaluation and descent, of a model and a sentence to which no row applies.
-use Prim.Native.Nat.{ℕ, _+_, _-_, _*_, _^_, _≤_, _<_}
-use mathlib.Core.Bool.{Bool, true, false}
-use mathlib.Core.List.{List, _++_, map}
-use mathlib.Core.Path.{_≡_, refl, sym, ap, ap₂, subst, _∙_}
+use Prim.Native.Nat.{ℕ, _-_, _^_}
+use mathlib.Core.Bool.{Bool}
+use mathlib.Core.List.{List, map}
+use mathlib.Core.Path.{_≡_, sym, ap, ap₂, subst, _∙_}
 use native.Mathlib.Omega.{arith}
-use lib.ListN.{length, take, drop, replicate, length-map}
+use lib.ListN.{length, take, length-map}
 use Rattle.model.specs.declared.Model.{Model}
 use Rattle.sentence.specs.declared.Sentence.{Sentence}
-use Rattle.sentence.specs.Calls.{recordOf, prefixOf}
+use Rattle.sentence.specs.Calls.{prefixOf}
 use Rattle.sentence.proofs.RoundTrips.{same-sentence}
 use Rattle.meaning.specs.Tree.{Formula, Letter, letterOf}
 use Rattle.meaning.specs.Meaning.{holds, verdict}
 use Rattle.meaning.specs.Size.{exceeds}
 use Rattle.layers.specs.Layers.{Layer, truth}
 use Rattle.evaluate.specs.declared.Setting.{Setting}
-use Rattle.evaluate.specs.Evaluation.{Fixed, FormulaReady, FormulaDone}
+use Rattle.evaluate.specs.Evaluation.{FormulaReady, FormulaDone}
 use Rattle.descent.specs.Descent.{descended, lettersFrom, DescentReady}
 use Rattle.descent.proofs.Laws.{descent-is}
 use Rattle.trees.specs.Listed.{formulaNodes}

@@ -1,7 +1,7 @@
 -- `numerator::asks_right` meets its contract: the place that is found says whether there is such a path formula.
 use borrow.Author.Needs.{needs}
 use mathlib.Core.Bool.{Bool, _&&_}
-use mathlib.Core.Path.{_≡_, ap₂}
+use mathlib.Core.Path.{ap₂}
 use Rattle.question.proofs.Pair.{count-few}
 use Rattle.numerator.proofs.Asking.{place-test}
 use Rattle.numerator.proofs.asks_right.Statement.{statement}

@@ -1,6 +1,6 @@
 -- `numerator::counted` meets its contract: the path formula's layer, read at the tuple's number.
-use Prim.Native.Nat.{ℕ, _<_}
-use mathlib.Core.Path.{_≡_, _∙_}
+use Prim.Native.Nat.{_<_}
+use mathlib.Core.Path.{_∙_}
 use native.Mathlib.Omega.{arith}
 use borrow.Author.Needs.{needs, scaled-fits}
 use Rattle.question.proofs.Pair.{count-few}

@@ -1,11 +1,9 @@
 -- `labels_right` meets its contract. The invariant: the nodes that are left decide.
 use borrow.Author.Needs.{needs}
-use Prim.Native.Nat.{_-_, _≤_}
-use mathlib.Core.Path.{_≡_, refl, sym, ap, _∙_}
+use Prim.Native.Nat.{_-_}
+use mathlib.Core.Path.{sym, _∙_}
 use native.Mathlib.Omega.{arith}
-use lib.ListN.{take, drop}
 use borrow.Author.Tests.{not-true, not-false}
-use Rattle.meaning.specs.Lists.{every}
 use Rattle.sentence.specs.declared.Node.the-variants.{True}
 use Rattle.sentence.specs.Calls.{slot}
 use Rattle.question.specs.Rows.{labelRight}

@@ -1,5 +1,5 @@
 -- `question::late_number` meets its contract: rows 9, 10 and 11 are asked in the order of their numbers.
-use Prim.Native.Nat.{ℕ, _≤_, _^_}
+use Prim.Native.Nat.{ℕ}
 use mathlib.Core.Bool.{true, false}
 use mathlib.Core.List.{List}
 use mathlib.Core.Path.{_≡_, sym, _∙_}
@@ -9,10 +9,8 @@ use borrow.Author.Tests.{not-true, not-false}
 use lib.ListN.{length}
 use Rattle.model.specs.Layout.{fieldsOf}
 use Rattle.meaning.specs.Lists.{every}
-use Rattle.meaning.specs.Chain.{tupleCount}
 use Rattle.meaning.specs.Size.{exceeds}
 use Rattle.trees.specs.Listed.{formulaNodes}
-use Rattle.chain.specs.Of.{chainOf}
 use Rattle.question.specs.Rows.{labelRight}
 use Rattle.question.specs.Working.{ModelRead, SentenceRead}
 use Rattle.question.proofs.Pair.{states-few, letters-few, count-few, stands}

@@ -1,7 +1,7 @@
 -- `tuple_count` meets its contract. The invariant: the product is the power so far, and small.
 use borrow.Author.Needs.{needs}
-use Prim.Native.Nat.{_-_, _*_, _^_, _≤_}
-use mathlib.Core.Path.{_≡_, sym, ap, _∙_}
+use Prim.Native.Nat.{_-_, _^_, _≤_}
+use mathlib.Core.Path.{_≡_, sym}
 use native.Mathlib.Omega.{arith}
 use native.Mathlib.Nat.{pow-zero}
 use Rattle.question.proofs.Numbers.{power-next, power-small}

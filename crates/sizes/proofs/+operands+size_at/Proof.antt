@@ -2,7 +2,6 @@
 -- Assumes nothing.
 use borrow.Author.Needs.{needs}
 use mathlib.Core.Path.{refl, sym, ap, _∙_}
-use native.Mathlib.Omega.{arith}
 use Rattle.trees.specs.Wanted.{operandCount}
 use Rattle.sizes.proofs.Walk.{sized-past, sized-two}
 use Prim.Native.Nat.{ℕ, _+_, _-_, _*_, _<_}

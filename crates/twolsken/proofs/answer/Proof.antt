@@ -2,10 +2,9 @@
 use borrow.Author.Needs.{needs}
 use Prim.Native.Nat.{ℕ}
 use mathlib.Core.List.{List}
-use mathlib.Core.Path.{_≡_, subst}
+use mathlib.Core.Path.{subst}
 use lib.ListN.{replicate, length-replicate}
 use Rattle.verdict.specs.Calls.{VerdictAnswer}
-use Rattle.twolsken.specs.Texts.{withoutNewline}
 use Rattle.twolsken.proofs.answer.Statement.{statement}
 use Rattle.twolsken.proofs.answer.Tie as tie
 

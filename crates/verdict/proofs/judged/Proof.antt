@@ -1,6 +1,6 @@
 -- `verdict::judged` meets its contract: the layer of the body, then the descent over it.
 use borrow.Author.Needs.{needs}
-use mathlib.Core.Path.{_≡_, _∙_}
+use mathlib.Core.Path.{_∙_}
 use Rattle.verdict.proofs.Judging.{formula-ready, descent-ready, judged-so}
 use Rattle.verdict.proofs.judged.Statement.{statement}
 use Rattle.verdict.proofs.judged.Tie as tie

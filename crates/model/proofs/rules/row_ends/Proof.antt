@@ -1,6 +1,5 @@
 -- `model::rules::row_ends` meets its contract: below N a row is zero from N on, else from 0 on.
 use borrow.Author.Needs.{needs}
-use Prim.Native.Nat.{ℕ}
 use mathlib.Core.Bool.{Bool, _&&_, _||_}
 use mathlib.Core.Path.{ap, sym, _∙_}
 use native.Mathlib.Omega.{arith}

@@ -1,6 +1,5 @@
 -- `model::writer::write_block` meets its contract: the content, then its check.
 use borrow.Author.Needs.{needs}
-use mathlib.Core.Path.{_≡_}
 use Rattle.model.specs.Layout.{modelOf}
 use Rattle.model.proofs.Written.{block-written}
 use Rattle.model.proofs.writer.write_block.Statement.{statement}

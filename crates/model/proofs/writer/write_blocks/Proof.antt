@@ -1,6 +1,6 @@
 -- `model::writer::write_blocks` meets its contract: the blocks are written one after another.
 use borrow.Author.Needs.{needs}
-use Prim.Native.Nat.{_-_, _≤_, _*_}
+use Prim.Native.Nat.{_-_, _≤_}
 use mathlib.Core.Path.{_≡_, refl, _∙_}
 use native.Mathlib.Omega.{arith}
 use lib.ListN.{length}

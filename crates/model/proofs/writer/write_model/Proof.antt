@@ -1,7 +1,7 @@
 -- `model::writer::write_model` meets its contract: the rows are tested in the order of their numbers, and nothing is written
 -- before the last.
 use borrow.Author.Needs.{needs}
-use Prim.Native.Nat.{ℕ, _+_, _*_, _/_, _≤_}
+use Prim.Native.Nat.{ℕ}
 use mathlib.Core.Bool.{true}
 use mathlib.Core.List.{List}
 use mathlib.Core.Path.{_≡_, refl, ap, sym, _∙_}

@@ -1,5 +1,5 @@
 -- `line::line` meets its contract, by the cases of the answer. Assumes nothing.
-use mathlib.Core.Path.{_≡_, refl, sym, ap, _∙_}
+use mathlib.Core.Path.{refl, sym, ap, _∙_}
 use lib.Dec.{lit≤}
 use borrow.Author.Needs.{needs}
 use Rattle.twolsken.specs.Lines.{lineOf}
