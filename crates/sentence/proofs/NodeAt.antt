@@ -4,6 +4,7 @@ use mathlib.Core.Bool.{Bool, true, false, _||_, _&&_, true≢false, and-false}
 use mathlib.Core.List.{List, [], _∷_, _++_, tail, append-assoc}
 use mathlib.Core.Logic.{_⊎_, ⊎-elim, inl, inr}
 use mathlib.Core.Path.{_≡_, refl, sym, ap, _∙_, subst}
+use native.Mathlib.Nat.{eq-or-lt-of-le}
 use native.Mathlib.Omega.{arith}
 use borrow.Author.Tests.{le-leb, lt-leb, ne-eqb}
 use lib.Dec.{leb, eqb}
@@ -180,6 +181,31 @@ pub operator-passed : (n : Node) (b : ℕ) (t : List ℕ) (letters : ℕ) (p q :
 operator-passed n b t letters p q text w out l byte e f i same =
     subst (λ (x : Progress). NodeReads (kindOf n) (wants n) t letters p x) (sym same) (operator-read n b t letters p text w out (sym e ∙ f) l i)
 
+-- each of the five bytes is the text of some comparison. The reader's arm knows neighbouring bytes by their range: it has
+-- `G`, `L`, or one from `<` to `>`
+relation-of : (b : ℕ) → ((b ≡ 71) ⊎ (b ≡ 76)) ⊎ ((60 ≤ b) × (b < 63)) → (r : Relation) × (nodeText (Compare r) ≡ b ∷ []) × (1 ≤ b)
+relation-of b came = ⊎-elim (⊎-elim (is AtLeast 71 refl (omega arith)) (is AtMost 76 refl (omega arith))) between came
+  where
+    is : (r : Relation) (c : ℕ) → nodeText (Compare r) ≡ c ∷ [] → 1 ≤ c → b ≡ c → (r : Relation) × (nodeText (Compare r) ≡ b ∷ []) × (1 ≤ b)
+    is r c text l e = (r, text ∙ ap (λ (x : ℕ). x ∷ []) (sym e), omega arith)
+
+    between : (60 ≤ b) × (b < 63) → (r : Relation) × (nodeText (Compare r) ≡ b ∷ []) × (1 ≤ b)
+    between w = ⊎-elim (λ e. is Less 60 refl (omega arith) (sym e)) (λ l. ⊎-elim (λ e. is Equal 61 refl (omega arith) (sym e)) (λ m. is Greater 62 refl (omega arith) (omega arith)) (eq-or-lt-of-le l)) (eq-or-lt-of-le (w .0))
+
+-- a comparison that was passed
+pub comparison-passed : (t : List ℕ) (letters : ℕ) (p q : Progress) (byte : ℕ) → byte ≡ getD t (p .at) 0 → ((byte ≡ 71) ⊎ (byte ≡ 76)) ⊎ ((60 ≤ byte) × (byte < 63)) → Inside t p
+    → q ≡ passedTo p (p .at + 1) false → NodeReads State (Expression ∷ Expression ∷ []) t letters p q
+comparison-passed t letters p q byte e came i same =
+    let r = relation-of byte came in
+    operator-passed (Compare (r .0)) byte t letters p q (r .1) tt refl (r .2) byte e refl i same
+
+-- a sum, a difference or a product that was passed: its byte is `-`, or one of the neighbours `*` and `+`
+pub arithmetic-passed : (t : List ℕ) (letters : ℕ) (p q : Progress) (byte : ℕ) → byte ≡ getD t (p .at) 0 → (byte ≡ 45) ⊎ ((42 ≤ byte) × (byte < 44)) → Inside t p
+    → q ≡ passedTo p (p .at + 1) false → NodeReads Expression (Expression ∷ Expression ∷ []) t letters p q
+arithmetic-passed t letters p q byte e came i same =
+    ⊎-elim (λ f. operator-passed Difference 45 t letters p q refl tt refl (omega arith) byte e f i same)
+    (λ w. ⊎-elim (λ f. operator-passed Product 42 t letters p q refl tt refl (omega arith) byte e (sym f) i same) (λ l. operator-passed Sum 43 t letters p q refl tt refl (omega arith) byte e (omega arith) i same) (eq-or-lt-of-le (w .0))) came
+
 -- a stopped state stays
 pub stays : (k : Kind) (t : List ℕ) (letters : ℕ) (p : Progress) → p .ok ≡ false → Inside t p → Reads (k ∷ []) t letters p p
 stays k t letters p e i = record { forward = omega arith; inside = i; result = stopped e e }
@@ -192,6 +218,21 @@ no-reading k t letters p q ok byte e f i same =
     (record { forward = omega arith; inside = stopped-inside t p (p .at) i (omega arith) (i .within); result = stuck ok refl (no-node k t (p .at) (rw e at f)) })
 
 -- a byte that is none of `a`..`p`
-pub no-letter : (b : ℕ) → (b < 97) ⊎ (112 < b) → (leb 97 b && leb b 112) ≡ false
+no-letter : (b : ℕ) → (b < 97) ⊎ (112 < b) → (leb 97 b && leb b 112) ≡ false
 no-letter b (inl l) = rw (lt-leb 97 b l) refl
 no-letter b (inr h) = rw (lt-leb b 112 h) (and-false (leb 97 b))
+
+-- a byte that no state formula begins with: it is none of `T`, `!`, `&`, `G` and `L`, and lies outside `<`..`>` and `a`..`p`
+pub no-state : (b : ℕ) → (b ≡ 84 → ⊥) → (b ≡ 33 → ⊥) → (b ≡ 38 → ⊥) → ((b ≡ 71) ⊎ (b ≡ 76) → ⊥) → (b < 60) ⊎ (((63 ≤ b) × (b < 97)) ⊎ (113 ≤ b)) → begins State b ≡ false
+no-state b t n a c out =
+    rw (no-letter b (⊎-elim (λ l. inl (omega arith)) (⊎-elim (λ w. inl (w .1)) (λ h. inr h)) out), ne-eqb b 84 t, ne-eqb b 33 n, ne-eqb b 38 a, ne-eqb b 60 (not 60 (omega arith) (omega arith)), ne-eqb b 76 (λ e. c (inr e)), ne-eqb b 61 (not 61 (omega arith) (omega arith)), ne-eqb b 71 (λ e. c (inl e)), ne-eqb b 62 (not 62 (omega arith) (omega arith))) refl
+  where
+    not : (x : ℕ) → 60 ≤ x → x < 63 → b ≡ x → ⊥
+    not x l h e = ⊎-elim (λ o. omega arith) (⊎-elim (λ o. omega arith) (λ o. omega arith)) out
+
+-- a byte that no expression begins with: it is none of `P`, `#` and `-`, and lies outside `*`..`+`
+pub no-expression : (b : ℕ) → (b ≡ 80 → ⊥) → (b ≡ 35 → ⊥) → (b ≡ 45 → ⊥) → (b < 42) ⊎ (44 ≤ b) → begins Expression b ≡ false
+no-expression b p c d out = rw (ne-eqb b 80 p, ne-eqb b 35 c, ne-eqb b 43 (not 43 (omega arith) (omega arith)), ne-eqb b 45 d, ne-eqb b 42 (not 42 (omega arith) (omega arith))) refl
+  where
+    not : (x : ℕ) → 42 ≤ x → x < 44 → b ≡ x → ⊥
+    not x l h e = ⊎-elim (λ o. omega arith) (λ o. omega arith) out

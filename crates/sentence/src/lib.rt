@@ -336,21 +336,13 @@ fn window(text: &[u8], letters: usize, p: Progress) -> Progress
     passed(p, read.next, is_fault(letters, node))
 }
 
-// The state past an operator of one byte. The node says which it is: none of them is ever out of its range.
-fn operator(p: Progress, node: Node) -> Progress
+// The state past an operator of one byte: none of them is ever out of its range.
+fn operator(p: Progress) -> Progress
     requires { ⌜ (p .at + 1 < 2 ^ 64) × (p .kept .count + 1 < 2 ^ 64) ⌝ }
     ensures { λ r. ⌜ r ≡ passedTo p (p .at + 1) false ⌝ }
 {
     let at = p.at;
     passed(p, at + 1, false)
-}
-
-// The state past a comparison.
-fn compare(p: Progress, relation: Relation) -> Progress
-    requires { ⌜ (p .at + 1 < 2 ^ 64) × (p .kept .count + 1 < 2 ^ 64) ⌝ }
-    ensures { λ r. ⌜ r ≡ passedTo p (p .at + 1) false ⌝ }
-{
-    operator(p, Node::Compare(relation))
 }
 
 // A state formula, from the next byte on, in a sentence of n letters.
@@ -365,15 +357,11 @@ fn state_formula(text: &[u8], n: usize, p: Progress) -> Progress
     }
     let b = byte_at(text, at);
     match b {
-        b'T' => operator(p, Node::True),
+        b'T' => operator(p),
         b'a'..=b'p' => label(text, n, p),
-        b'!' => state_formula(text, n, operator(p, Node::Not)),
-        b'&' => state_formula(text, n, state_formula(text, n, operator(p, Node::And))),
-        b'<' => expression(text, n, expression(text, n, compare(p, Relation::Less))),
-        b'L' => expression(text, n, expression(text, n, compare(p, Relation::AtMost))),
-        b'=' => expression(text, n, expression(text, n, compare(p, Relation::Equal))),
-        b'G' => expression(text, n, expression(text, n, compare(p, Relation::AtLeast))),
-        b'>' => expression(text, n, expression(text, n, compare(p, Relation::Greater))),
+        b'!' => state_formula(text, n, operator(p)),
+        b'&' => state_formula(text, n, state_formula(text, n, operator(p))),
+        b'<' | b'L' | b'=' | b'G' | b'>' => expression(text, n, expression(text, n, operator(p))),
         _ => stopped(p, at),
     }
 }
@@ -390,11 +378,9 @@ fn expression(text: &[u8], n: usize, p: Progress) -> Progress
     }
     let b = byte_at(text, at);
     match b {
-        b'P' => path(text, n, operator(p, Node::Probability)),
+        b'P' => path(text, n, operator(p)),
         b'#' => constant(text, n, p),
-        b'+' => expression(text, n, expression(text, n, operator(p, Node::Sum))),
-        b'-' => expression(text, n, expression(text, n, operator(p, Node::Difference))),
-        b'*' => expression(text, n, expression(text, n, operator(p, Node::Product))),
+        b'+' | b'-' | b'*' => expression(text, n, expression(text, n, operator(p))),
         _ => stopped(p, at),
     }
 }
@@ -411,7 +397,7 @@ fn path(text: &[u8], n: usize, p: Progress) -> Progress
     }
     let b = byte_at(text, at);
     match b {
-        b'X' => state_formula(text, n, operator(p, Node::Next)),
+        b'X' => state_formula(text, n, operator(p)),
         b'U' => state_formula(text, n, state_formula(text, n, window(text, n, p))),
         _ => stopped(p, at),
     }
