@@ -1,3 +1,4 @@
+-- The calls as other languages see them.
 pub mod Questions
 pub mod Records
 pub mod Sentences

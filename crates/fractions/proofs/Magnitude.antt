@@ -85,17 +85,3 @@ decoded-coded (negsuc n) h =
   where
     e : 2 ^ 63 + suc n - 2 ^ 63 ≡ suc n
     e = omega arith
-
--- and what is decoded is coded; no code is 2^63, a negative nothing
-pub coded-decoded : (x : ℕ) → (x ≡ 2 ^ 63 → ⊥) → coded (decoded x) ≡ x
-coded-decoded x other = here (ltb x (2 ^ 63)) refl
-  where
-    negative : (m : ℕ) → x ≡ 2 ^ 63 + m → coded (negℤ (pos m)) ≡ x
-    negative zero e = absurd (other (omega arith))
-    negative (suc m) e = sym e
-
-    here : (b : Bool) → ltb x (2 ^ 63) ≡ b → coded (cond b (pos x) (negℤ (pos (x - 2 ^ 63)))) ≡ x
-    here true e = refl
-    here false e =
-        let l = ltb-false x (2 ^ 63) e in
-        negative (x - 2 ^ 63) (omega arith)

@@ -20,12 +20,13 @@ use Rattle.fractions.specs.Codes.{coded, decoded, CrossFits}
 abbrev pub over : ℤ → ℕ → Fraction
 over a d = record { top = a; bottom = d }
 
--- what an operation makes of two fractions, and what the size rule makes of their sizes
+-- what an operation makes of two fractions
 unfoldable pub operated : Operation → Fraction → Fraction → Fraction
 operated Sum x y = addF x y
 operated Difference x y = subF x y
 operated Product x y = mulF x y
 
+-- what the size rule makes of their sizes
 unfoldable pub sized : Operation → Size → Size → Size
 sized Sum x y = addS x y
 sized Difference x y = addS x y
@@ -61,13 +62,15 @@ abbrev pub madeCode : Making → (d1 d2 : ℕ) → ℤ → ℤ → ℕ
 madeCode (Operated op) d1 d2 a b = coded (operated op (over a d1) (over b d2) .top)
 madeCode (Compared r) d1 d2 a b = cond (compared (relationOf r) (over a d1) (over b d2)) 1 0
 
--- what stands at place k of two layers of codes, made into one; combined, and compared
+-- what is made of two layers of codes at place k
 abbrev pub madeAt : Making → (d1 d2 T : ℕ) → List ℕ → ℕ → ℕ
 madeAt making d1 d2 T w k = madeCode making d1 d2 (decoded (getD w k 0)) (decoded (getD w (T + k) 0))
 
+-- by an operation
 abbrev pub combinedAt : Operation → (d1 d2 T : ℕ) → List ℕ → ℕ → ℕ
 combinedAt op = madeAt (Operated op)
 
+-- by a comparison
 abbrev pub comparedAt : Relation → (d1 d2 T : ℕ) → List ℕ → ℕ → ℕ
 comparedAt r = madeAt (Compared r)
 

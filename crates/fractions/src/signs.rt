@@ -12,7 +12,7 @@ fn signed(x: u64) -> i64
     x as i64
 }
 
-// The sum, the difference and the product of two numerators.
+// The sum of two numerators.
 pub fn plus(a: i64, b: i64) -> i64
     requires { ⌜ natAbs a + natAbs b ≤ 2 ^ 62 ⌝ }
     ensures { λ r. ⌜ r ≡ a +ℤ b ⌝ }
@@ -20,6 +20,7 @@ pub fn plus(a: i64, b: i64) -> i64
     a + b
 }
 
+// Their difference.
 pub fn minus(a: i64, b: i64) -> i64
     requires { ⌜ natAbs a + natAbs b ≤ 2 ^ 62 ⌝ }
     ensures { λ r. ⌜ r ≡ a -ℤ b ⌝ }
@@ -27,6 +28,7 @@ pub fn minus(a: i64, b: i64) -> i64
     a - b
 }
 
+// Their product.
 pub fn times(a: i64, b: i64) -> i64
     requires { ⌜ natAbs a * natAbs b ≤ 2 ^ 62 ⌝ }
     ensures { λ r. ⌜ r ≡ a *ℤ b ⌝ }

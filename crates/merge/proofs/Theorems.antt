@@ -13,16 +13,14 @@ use lib.Seq.{take-at}
 use Rattle.counting.proofs.Laws.{length-table, table-at}
 use Rattle.refusal.specs.Rows.{Applies, Given}
 use Rattle.refusal.specs.Answers.{gives, Ensured, refused, answered, Fronted, Writes}
-use Rattle.refusal.specs.declared.Written.{Written}
 use Rattle.refusal.specs.declared.Written.the-variants.{Wrote}
-use Rattle.refusal.proofs.Listed.{list-number, one-writing}
+use Rattle.refusal.proofs.Listed.{list-number}
 use Rattle.refusal.proofs.Laws.{smallest, none-here}
 use Rattle.model.specs.declared.Model.{Model}
 use Rattle.model.specs.Layout.{Shaped, fieldsOf}
 use Rattle.model.specs.Rows.{fieldsRight, rowsRight, fileNumber}
 use Rattle.model.proofs.Roundtrip.{fields-written, file-written}
 use Rattle.meaning.specs.Chain.{tupleCount}
-use Rattle.meaning.specs.Merging.{Merged}
 use Rattle.meaning.proofs.Merging as merging
 use Rattle.chain.specs.Of.{chainOf}
 use Rattle.chain.proofs.Accepted.{fields-right, rows-right}
@@ -40,14 +38,6 @@ use Rattle.merge.proofs.Shape.{shaped}
 pub merge-smallest : (file grouping : List ℕ) (room : ℕ) → Given (mergeRows file grouping room) (mergeNumber file grouping room)
 unfolding mergeNumber
 merge-smallest file grouping room = smallest (merge-rows file grouping room)
-
--- ---- one result
-
--- any two results that merge's contract allows are equal: the answer, and what the output then holds
-pub one-merging : (file grouping : List ℕ) {before after after′ : List ℕ} {r r′ : Written} →
-    Writes (mergeRows file grouping (length before)) (mergedFile file grouping) before after r →
-    Writes (mergeRows file grouping (length before)) (mergedFile file grouping) before after′ r′ → (r ≡ r′) × (after ≡ after′)
-one-merging file grouping w w′ = one-writing w w′
 
 -- ---- what is not refused
 
@@ -109,12 +99,6 @@ module _ (file grouping : List ℕ) (accepted : fileNumber file ≡ 0) (grouped 
       let r = right in
       fields-written (mergedModel (fieldsOf file) grouping) (r .0) (r .1)
       (shaped-merged (fieldsOf file) grouping (r .0) (r .1))
-
-  -- so the merged file describes a merged chain of the chain that the file describes
-  pub merged-file-chain : Merged (chainOf (fieldsOf file)) (groupOf grouping) (chainOf (fieldsOf (mergedFile file grouping)))
-  merged-file-chain =
-      subst (λ (m : Model). Merged (chainOf (fieldsOf file)) (groupOf grouping) (chainOf m)) (sym merged-read)
-      (merged-chain (fieldsOf file) grouping (fields-right file accepted) grouped alike)
 
 -- ---- demand 3
 

@@ -12,10 +12,11 @@ use Rattle.model.specs.declared.Model.{Model}
 
 -- ---- the fields of a model
 
--- the label mask of state s, and the weight from state s to state t; 0 for a state that the record has no room for
+-- the label mask of state s; 0 for a state that the record has no room for
 abbrev pub maskOf : Model → ℕ → ℕ
 maskOf m s = getD (m .masks) s 0
 
+-- the weight from state s to state t, likewise
 abbrev pub weightOf : Model → ℕ → ℕ → ℕ
 weightOf m s t = getD (getD (m .weights .rows) s []) t 0
 
@@ -33,10 +34,11 @@ modelOf n a d masks rows = record { n = n; a = a; d = d; masks = masks; weights 
 
 -- ---- the fields as they stand in a file
 
--- the number of two bytes from byte j of block i, and of four
+-- the number of two bytes from byte j of block i
 abbrev pub twoAt : List ℕ → ℕ → ℕ → ℕ
 twoAt file i j = two (byteOf file i j) (byteOf file i (j + 1))
 
+-- the number of four bytes from there
 abbrev pub fourAt : List ℕ → ℕ → ℕ → ℕ
 fourAt file i j = four (byteOf file i j) (byteOf file i (j + 1)) (byteOf file i (j + 2)) (byteOf file i (j + 3))
 

@@ -32,6 +32,7 @@ maskRight m s = ltb s (m .n) && ltb (maskOf m s) (2 ^ m .a) || eqb (maskOf m s) 
 abbrev pub weightRight : Model → ℕ → ℕ → Bool
 weightRight m s t = ltb s (m .n) && ltb t (m .n) || eqb (weightOf m s t) 0
 
+-- N, A and D, every mask and every weight are right
 unfoldable pub fieldsRight : Model → Bool
 fieldsRight m = numbersRight m && every 32 (maskRight m) && every 32 (λ s. every 32 (weightRight m s))
 
@@ -55,6 +56,7 @@ laidOut file m =
     fieldsRight m && eqb (blocksIn file) (blocks (m .n)) &&
     every (blocksIn file) (λ i. every 510 (λ j. eqb (byteOf file i j) (contentByte m i j)))
 
+-- the rows 2 to 5 of a model file
 abbrev pub fileRows : List ℕ → List Row
 fileRows file =
     record { number = 2; applies = not (lengthRight file) } ∷
@@ -83,6 +85,7 @@ pub record Reads (file : List ℕ) (r : ModelRead) : Type 0 where
 
 -- ---- the rows of the record that write model takes, for an output of `room` bytes
 
+-- the rows 4, 5 and 14 of a record
 abbrev pub recordRows : Model → ℕ → List Row
 recordRows m room =
     record { number = 4; applies = not (fieldsRight m) } ∷
@@ -90,5 +93,6 @@ recordRows m room =
     record { number = 14; applies = ltb room (512 * blocks (m .n)) } ∷
     []
 
+-- the number that a record is refused with, 0 where it is written
 unfoldable pub recordNumber : Model → ℕ → ℕ
 recordNumber m room = first (recordRows m room)

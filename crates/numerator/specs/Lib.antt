@@ -1,2 +1,3 @@
+-- Numerator: its rows, and what it answers.
 pub mod Calls
 pub mod Working

@@ -19,6 +19,7 @@ use Rattle.numerator.specs.Calls.{numbered}
 abbrev pub asksRight : Model → Sentence → Formula → List ℕ → ℕ → Bool
 asksRight m s f tuple number = tupleRight (s .letters) (m .n) tuple && ltb number (length (pathsOf f))
 
+-- a pair to which no row of the question applies, with such a tuple and number
 pub record Asked (m : Model) (s : Sentence) (tuple : List ℕ) (number : ℕ) : Type 0 where
   pub ready : Ready m s
   pub right : asksRight m s (ready .read .sentence .body) tuple number ≡ true

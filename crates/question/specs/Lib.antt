@@ -1,2 +1,3 @@
+-- The rows that verdict and numerator share.
 pub mod Rows
 pub mod Working

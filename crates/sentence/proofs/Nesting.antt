@@ -1,6 +1,6 @@
 -- The kinds nest as the document says: the table's lists are the lists of the document's lines. Assumes nothing.
 use mathlib.Core.List.{List, [], _∷_, _++_, append-assoc, append-nil}
-use mathlib.Core.Path.{_≡_, refl, sym, ap, subst}
+use mathlib.Core.Path.{refl, sym, ap, subst}
 use Rattle.sentence.specs.Grammar.{Writable, kindOf, wants, Nests}
 use Rattle.sentence.specs.Grammar.Nests.{end, node}
 use Rattle.sentence.specs.Forms.{Form}

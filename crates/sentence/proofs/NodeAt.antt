@@ -1,5 +1,5 @@
 -- What a node's own text is read as, by its first byte. Assumes nothing.
-use Prim.Native.Nat.{ℕ, suc, _+_, _-_, _≤_, _<_}
+use Prim.Native.Nat.{ℕ, _+_, _-_, _≤_, _<_}
 use mathlib.Core.Bool.{Bool, true, false, _||_, _&&_, true≢false, and-false}
 use mathlib.Core.List.{List, [], _∷_, _++_, tail, append-assoc}
 use mathlib.Core.Logic.{_⊎_, ⊎-elim, inl, inr}
@@ -10,8 +10,8 @@ use borrow.Author.Tests.{le-leb, lt-leb, ne-eqb}
 use lib.Dec.{leb, eqb}
 use lib.ListN.{length, drop, getD}
 use Rattle.sentence.specs.Grammar.{numberText, nodeText, Writable, kindOf, wants, Nests, bodyText, outOfRange}
-use Rattle.sentence.specs.Grammar.Nests.{end, node}
-use Rattle.sentence.specs.Reading.{keep, keepBad, passedTo, stoppedAt, Inside, Stuck, Result, Reads, NodeResult, NodeReads, NumbersResult}
+use Rattle.sentence.specs.Grammar.Nests.{node}
+use Rattle.sentence.specs.Reading.{keepBad, passedTo, stoppedAt, Inside, Stuck, Reads, NodeReads, NumbersResult}
 use Rattle.sentence.specs.Reading.Result.{stopped, stuck}
 use Rattle.sentence.specs.Reading.NodeResult.{took, none}
 use Rattle.sentence.specs.Reading.NumbersResult.{numbers}
@@ -23,8 +23,8 @@ use Rattle.sentence.specs.declared.Node.{Node}
 use Rattle.sentence.specs.declared.Node.the-variants.{True, Label, Not, And, Compare, Probability, Constant, Sum, Difference, Product, Next, Until}
 use Rattle.sentence.specs.declared.NumbersRead.{NumbersRead}
 use Rattle.sentence.specs.declared.Progress.{Progress}
-use Rattle.sentence.proofs.Places.{Place, place, inside, starts, first, first-here}
-use Rattle.sentence.proofs.Unique.{decode, decoded, operator, twoNumbers}
+use Rattle.sentence.proofs.Places.{inside, starts, first, first-here}
+use Rattle.sentence.proofs.Unique.{decode, decoded, twoNumbers}
 
 -- the bytes that a node of each kind begins with
 abbrev pub begins : Kind → ℕ → Bool

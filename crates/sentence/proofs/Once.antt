@@ -3,10 +3,8 @@ use mathlib.Core.Bool.{Bool}
 use mathlib.Core.List.{List, [], _∷_, _++_, map, append-assoc, append-nil}
 use mathlib.Core.Path.{_≡_, refl, sym, ap, _∙_}
 use Prim.Native.Nat.{ℕ}
-use Rattle.sentence.specs.Grammar.{letterByte, bodyText, sentenceText, Spells, Nests}
+use Rattle.sentence.specs.Grammar.{letterByte, bodyText, Spells, Nests}
 use Rattle.sentence.specs.Grammar.Nests.{end}
-use Rattle.sentence.specs.declared.Kind.{Kind}
-use Rattle.sentence.specs.declared.Kind.the-variants.{State}
 use Rattle.sentence.specs.declared.Node.{Node}
 use Rattle.sentence.proofs.Unique.{Peeled, peel}
 use Rattle.sentence.proofs.PrefixAt.{one-prefix}

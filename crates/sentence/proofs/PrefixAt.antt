@@ -1,5 +1,5 @@
 -- What `letters_from` answers at each byte, and that a text has one prefix. Assumes nothing.
-use Prim.Native.Nat.{ℕ, suc, _+_, _≤_, _<_}
+use Prim.Native.Nat.{ℕ, _+_, _≤_, _<_}
 use mathlib.Core.Bool.{Bool, true, false}
 use mathlib.Core.List.{List, [], _∷_, _++_, map, tail}
 use mathlib.Core.Path.{_≡_, refl, sym, ap, _∙_}
@@ -7,7 +7,7 @@ use native.Mathlib.Numerals.{add-one}
 use native.Mathlib.Omega.{arith}
 use lib.ListN.{length, drop, getD, set}
 use lib.Seq.{sets}
-use Rattle.sentence.specs.Grammar.{letterByte, prefixText}
+use Rattle.sentence.specs.Grammar.{letterByte}
 use Rattle.sentence.specs.Reading.{PrefixResult}
 use Rattle.sentence.specs.Reading.PrefixResult.{prefix, none}
 use Rattle.sentence.specs.declared.PrefixRead.{PrefixRead}

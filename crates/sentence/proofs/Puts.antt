@@ -1,6 +1,6 @@
 -- How writes join: one after another they are one write of the joined bytes. Assumes nothing.
-use Prim.Native.Nat.{ℕ, suc, _+_, _-_, _*_, _/_, _%_, _≤_, _<_}
-use mathlib.Core.Bool.{Bool, true, false}
+use Prim.Native.Nat.{ℕ, suc, _+_, _*_, _/_, _%_, _≤_, _<_}
+use mathlib.Core.Bool.{Bool, false}
 use mathlib.Core.List.{List, [], _∷_, _++_, map}
 use mathlib.Core.Path.{_≡_, refl, sym, ap, _∙_, subst}
 use native.Mathlib.Numerals.{add-one}
@@ -10,7 +10,7 @@ use lib.Seq.{sets, length-sets, drop-cons, getD-take, length-take-le}
 use Rattle.sentence.specs.Grammar.{numberText, letterByte, nodeText, bodyText}
 use Rattle.sentence.specs.declared.Node.{Node}
 use Rattle.sentence.specs.Writing.{Put}
-use Rattle.sentence.proofs.Numbers.{one-digit, digit-more}
+use Rattle.sentence.proofs.Numbers.{digit-more}
 
 sets-append : (l : List ℕ) (i : ℕ) (s u : List ℕ) → sets l i (s ++ u) ≡ sets (sets l i s) (i + length s) u
 sets-append l i [] u = ap (λ (k : ℕ). sets l k u) none

@@ -1,11 +1,11 @@
 -- How the results of reading join: one thing after another, a node and what it wants, a leaf. Assumes nothing.
-use Prim.Native.Nat.{ℕ, _-_, _≤_, _<_}
+use Prim.Native.Nat.{ℕ, _-_, _<_}
 use mathlib.Core.Bool.{Bool, true, false, true≢false}
 use mathlib.Core.List.{List, [], _∷_, _++_, append-assoc, append-nil}
 use mathlib.Core.Path.{_≡_, refl, sym, ap, _∙_, subst}
 use native.Mathlib.Omega.{arith}
 use lib.ListN.{length, drop}
-use Rattle.sentence.specs.Grammar.{nodeText, Writable, kindOf, wants, Nests, bodyText}
+use Rattle.sentence.specs.Grammar.{nodeText, Writable, wants, Nests, bodyText}
 use Rattle.sentence.specs.Grammar.Nests.{end, node}
 use Rattle.sentence.specs.Reading.{keep, keepAll, Inside, Stuck, Result, Reads, NodeResult, NodeReads}
 use Rattle.sentence.specs.Reading.Result.{stopped, read, stuck}

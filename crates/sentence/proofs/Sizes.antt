@@ -1,11 +1,11 @@
 -- What a survey of a node list says, node by node. Assumes nothing.
-use Prim.Native.Nat.{ℕ, _+_, _*_, _≤_, _<_}
-use mathlib.Core.Bool.{Bool, true, false, _||_}
-use mathlib.Core.List.{List, [], _∷_, _++_}
-use mathlib.Core.Path.{_≡_, refl, sym, ap, ap₂, _∙_, subst}
+use Prim.Native.Nat.{ℕ, _+_, _≤_}
+use mathlib.Core.Bool.{Bool, false, _||_}
+use mathlib.Core.List.{List, _∷_}
+use mathlib.Core.Path.{_≡_, refl, sym, ap₂, subst}
 use native.Mathlib.Omega.{arith}
-use lib.ListN.{length, drop, length-append, length-drop, drop-of-length-le}
-use Rattle.sentence.specs.Grammar.{nodeText, bodyText, outOfRange, someOutOfRange}
+use lib.ListN.{length, drop, length-append, drop-of-length-le}
+use Rattle.sentence.specs.Grammar.{nodeText, bodyText, outOfRange}
 use Rattle.sentence.specs.Writing.{Surveyed}
 use Rattle.sentence.specs.declared.Node.{Node}
 use Rattle.sentence.specs.declared.Survey.{Survey}

@@ -1,19 +1,18 @@
 -- A text has one node at its front, one node list of given kinds, and one prefix: what is read back from a node's text is the
 -- node. Assumes nothing.
-use Prim.Native.Nat.{ℕ, zero, suc, _+_, _-_, _≤_, _<_}
-use mathlib.Core.Bool.{Bool, true, false, cond}
-use mathlib.Core.List.{List, [], _∷_, _++_, tail, append-assoc, append-nil}
-use mathlib.Core.Logic.{_⊎_, inl, inr}
+use Prim.Native.Nat.{ℕ, _+_, _-_, _<_}
+use mathlib.Core.Bool.{cond}
+use mathlib.Core.List.{List, [], _∷_, _++_, tail, append-assoc}
+use mathlib.Core.Logic.{inl, inr}
 use mathlib.Core.Path.{_≡_, refl, sym, ap, _∙_, subst}
 use native.Mathlib.Omega.{arith}
 use borrow.Author.Tests.{le-leb}
 use lib.Dec.{leb, eqb}
-use Rattle.sentence.specs.Grammar.{numberText, nodeText, Writable, kindOf, wants, Nests, bodyText}
+use Rattle.sentence.specs.Grammar.{numberText, nodeText, Writable, wants, Nests, bodyText}
 use Rattle.sentence.specs.Grammar.Nests.{end, node}
 use Rattle.sentence.specs.Reading.{NoDigit}
 use Rattle.sentence.specs.Writing.{AllWritable}
 use Rattle.sentence.specs.declared.Kind.{Kind}
-use Rattle.sentence.specs.declared.Relation.{Relation}
 use Rattle.sentence.specs.declared.Relation.the-variants.{Less, AtMost, Equal, AtLeast, Greater}
 use Rattle.sentence.specs.declared.Node.{Node}
 use Rattle.sentence.specs.declared.Node.the-variants.{True, Label, Not, And, Compare, Probability, Constant, Sum, Difference, Product, Next, Until}

@@ -1,17 +1,15 @@
 -- What write sentence answers, from what its parts found; and that its contract leaves one answer. Assumes nothing.
-use Prim.Native.Nat.{ℕ, zero, suc, _+_, _-_, _≤_, _<_}
+use Prim.Native.Nat.{ℕ, _+_, _≤_, _<_}
 use mathlib.Core.Bool.{Bool, true, false, true≢false}
 use mathlib.Core.List.{List, [], _∷_, _++_, map, append-assoc, append-nil}
-use mathlib.Core.Path.{_≡_, refl, sym, ap, ap₂, _∙_, subst}
-use native.Mathlib.Nat.{le-antisymm}
+use mathlib.Core.Path.{_≡_, refl, sym, ap, _∙_, subst}
 use native.Mathlib.Omega.{arith}
 use lib.ListN.{length, take, drop, length-append, length-map, length-drop}
 use lib.Seq.{sets, sets-eq, length-take-le, drop-length}
 use Rattle.sentence.specs.Grammar.{letterByte, bodyText, sentenceText, Spells, Nests, someOutOfRange}
-use Rattle.sentence.specs.Grammar.Nests.{end}
 use Rattle.sentence.specs.Calls.{prefixOf, nodesOf, WriteRow, WriteAnswer}
 use Rattle.sentence.specs.Calls.WriteRow.{counted, lettered, unspelled, range, short}
-use Rattle.sentence.specs.Writing.{listed, Fit, Fits, Surveyed, Sized, Decision, Put}
+use Rattle.sentence.specs.Writing.{Fit, Fits, Surveyed, Sized, Decision, Put}
 use Rattle.sentence.specs.Writing.Fit.{stopped, fit, unfit}
 use Rattle.sentence.specs.declared.Kind.the-variants.{State}
 use Rattle.sentence.specs.declared.Node.{Node}
@@ -20,7 +18,7 @@ use Rattle.sentence.specs.declared.Sentence.{Sentence}
 use Rattle.sentence.specs.declared.Survey.{Survey}
 use Rattle.refusal.specs.declared.Written.{Written}
 use Rattle.refusal.specs.declared.Written.the-variants.{Wrote, Refused as NotWritten}
-use Rattle.refusal.specs.Answers.{gives, refuses, replyOfWritten, Ensured, refused, answered, atFront, Fronted}
+use Rattle.refusal.specs.Answers.{gives, refuses, replyOfWritten, Ensured, refused, answered}
 use Rattle.refusal.proofs.Ensuring.{one-result, one-front, written-told}
 use Rattle.sentence.proofs.Unique.{Peeled, peel, body-append}
 use Rattle.sentence.proofs.Once.{no-nodes}

@@ -45,10 +45,11 @@ pub record Spelled (t : List ℕ) (s : Sentence) : Type 0 where
 pub record ReadAnswer (t : List ℕ) (r : SentenceRead) : Type 0 where
   pub ensured : Ensured (ReadRow t) (λ done. Spelled t) (recordOf [] []) (replyOf (r .outcome)) (r .sentence)
 
--- the prefix and the node list of a record: places past the letters and past the count are no part of the sentence
+-- the prefix of a record: places past the letters are no part of the sentence
 abbrev pub prefixOf : Sentence → List Bool
 prefixOf s = take (s .letters) (s .exists)
 
+-- the node list of a record: places past the count are no part of it
 abbrev pub nodesOf : Sentence → List Node
 nodesOf s = map (λ (x : Slot). x .node) (take (s .count) (s .nodes))
 

@@ -64,6 +64,7 @@ pub data Result (js : List Kind) (t : List ℕ) (letters : ℕ) (p r : Progress)
   read : (ns : List Node) → p .ok ≡ true → r .ok ≡ true → Nests js ns → drop (p .at) t ≡ bodyText ns ++ drop (r .at) t → r .kept ≡ keepAll letters (p .kept) ns → Result js t letters p r
   stuck : p .ok ≡ true → r .ok ≡ false → Stuck js (drop (p .at) t) → Result js t letters p r
 
+-- reading things of the kinds js goes forward, inside the text, to such a result
 pub record Reads (js : List Kind) (t : List ℕ) (letters : ℕ) (p r : Progress) : Type 0 where
   pub forward : p .at ≤ r .at
   pub inside : Inside t r
@@ -74,6 +75,7 @@ pub data NodeResult (k : Kind) (js : List Kind) (t : List ℕ) (letters : ℕ) (
   took : (n : Node) → r .ok ≡ true → Writable n → kindOf n ≡ k → wants n ≡ js → drop (p .at) t ≡ nodeText n ++ drop (r .at) t → r .kept ≡ keep letters (p .kept) n → NodeResult k js t letters p r
   none : r .ok ≡ false → Stuck (k ∷ []) (drop (p .at) t) → NodeResult k js t letters p r
 
+-- reading one node goes forward by a byte or more, inside the text, to such a result
 pub record NodeReads (k : Kind) (js : List Kind) (t : List ℕ) (letters : ℕ) (p r : Progress) : Type 0 where
   pub forward : p .at < r .at
   pub inside : Inside t r

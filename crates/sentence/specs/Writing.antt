@@ -1,6 +1,6 @@
 -- What the parts of the writer promise one another. None of it has to be believed: the contract of `write_sentence` stands in
 -- Calls.
-use Prim.Native.Nat.{ℕ, _+_, _-_, _*_, _≤_, _<_}
+use Prim.Native.Nat.{ℕ, _+_, _*_, _≤_}
 use mathlib.Core.Bool.{Bool, true, false, _&&_}
 use mathlib.Core.List.{List, [], _∷_, _++_, map}
 use mathlib.Core.Path.{_≡_}
@@ -9,7 +9,7 @@ use lib.ListN.{length, take, drop}
 use lib.Seq.{sets}
 use Rattle.refusal.specs.declared.Written.{Written}
 use Rattle.refusal.specs.Answers.{replyOfWritten, Ensured}
-use Rattle.sentence.specs.Grammar.{numberText, Writable, kindOf, Nests, bodyText, someOutOfRange, Spells}
+use Rattle.sentence.specs.Grammar.{numberText, Writable, Nests, bodyText, someOutOfRange, Spells}
 use Rattle.sentence.specs.Calls.{WriteRow, prefixOf, nodesOf}
 use Rattle.sentence.specs.declared.Kind.{Kind}
 use Rattle.sentence.specs.declared.Kind.the-variants.{State, Expression, Path}
@@ -26,12 +26,13 @@ use Rattle.sentence.specs.declared.Wants.the-variants.{Nothing, One, Two
 abbrev pub listed : List Slot → ℕ → List Node
 listed nodes count = map (λ (x : Slot). x .node) (take count nodes)
 
--- the kinds that a node wants, none, one, or twice the same
+-- the kinds that are wanted: none, one, or twice the same
 abbrev pub wanted : Wants → List Kind
 wanted Nothing = []
 wanted (One k) = k ∷ []
 wanted (Two k) = k ∷ k ∷ []
 
+-- what a node wants after it
 abbrev pub wantsOf : Node → Wants
 wantsOf True = Nothing
 wantsOf (Label l v) = Nothing
@@ -83,6 +84,7 @@ pub data Fit (js : List Kind) (l : List Node) (p r : Place) : Type 0 where
   fit : (ns : List Node) → p .ok ≡ true → r .ok ≡ true → Nests js ns → drop (p .at) l ≡ ns ++ drop (r .at) l → Fit js l p r
   unfit : p .ok ≡ true → r .ok ≡ false → Unfit js (drop (p .at) l) → Fit js l p r
 
+-- looking for things of the kinds js goes forward, within the list, to such a place
 pub record Fits (js : List Kind) (l : List Node) (p r : Place) : Type 0 where
   pub forward : p .at ≤ r .at
   pub within : r .at ≤ length l

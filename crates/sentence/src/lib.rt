@@ -1,7 +1,7 @@
 // The sentence text of document 01: the record of a sentence, and its reader. The grammar is in specs/Grammar, the calls
 // and their rows in specs/Calls.
 ghost use Prim.Native.Nat.{_+_, _-_, _^_, _≤_, _<_};
-ghost use mathlib.Core.Bool.{Bool, true, false, _||_};
+ghost use mathlib.Core.Bool.{true, false};
 ghost use mathlib.Core.List.{[], _∷_, map};
 ghost use mathlib.Core.Path.{_≡_};
 ghost use lib.ListN.{length, take, drop, getD, replicate, set};

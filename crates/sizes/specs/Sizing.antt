@@ -39,14 +39,16 @@ pub record SizesTwo (slots : List Slot) (at D n : ℕ) (r : MeasureTwo) : Type 0
       (r .next ≡ q) × (r .over ≡ (exceedsIn a D n || exceedsIn b D n)) × (r .d1 ≡ capped (size a D n .d)) ×
       (r .m1 ≡ capped (size a D n .m)) × (r .d2 ≡ capped (size b D n .d)) × (r .m2 ≡ capped (size b D n .m))
 
--- what is found of a node at a place, by how many things it wants, from what is found of those
+-- what is found of a node at a place that wants nothing
 pub record OfNone (node : Node) (at : ℕ) (r : Measure) : Type 0 where
   pub each : (slots : List Slot) (D n : ℕ) → nodeAt slots at ≡ node → operandCount (wantsOf node) ≡ 0 → Sizes slots at D n r
 
+-- of one that wants one thing, from what is found of that
 pub record OfOne (node : Node) (t : Measure) (D n : ℕ) (r : Measure) : Type 0 where
   pub each : (slots : List Slot) (at : ℕ) → at < 64 → nodeAt slots at ≡ node → operandCount (wantsOf node) ≡ 1 → Sizes slots (at + 1) D n t →
       Sizes slots at D n r
 
+-- of one that wants two things, from what is found of both
 pub record OfTwo (node : Node) (t : MeasureTwo) (D n : ℕ) (r : Measure) : Type 0 where
   pub each : (slots : List Slot) (at : ℕ) → at < 64 → nodeAt slots at ≡ node → operandCount (wantsOf node) ≡ 2 → SizesTwo slots (at + 1) D n t →
       Sizes slots at D n r

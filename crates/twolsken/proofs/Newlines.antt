@@ -8,6 +8,7 @@ use lib.ListN.{length, getD, take, length-append}
 use lib.Seq.{take-at, getD-append-add}
 use Rattle.twolsken.specs.Texts.{withoutNewline}
 
+-- an empty file stays empty
 pub of-empty : withoutNewline [] ≡ []
 unfolding withoutNewline
 of-empty = refl

@@ -1,2 +1,3 @@
+-- Verdict: what it answers.
 pub mod Calls
 pub mod Working

@@ -134,23 +134,11 @@ expression-returns t c =
     let s = c .before .before in
     stays Expression (s .args .text .now) (s .args .n) (s .args .p) (not-true _ (c .if1 .taken)) (s .pre .1)
 
-expression-byte-at-requires : (t : ℕ) → expression-lts.Need-byte-at-requires (expression-claims t) (expression-at t) expression.Post
-expression-byte-at-requires t c κs = search needs
-
-expression-operator-requires : (t : ℕ) → expression-lts.Need-operator-requires (expression-claims t) (expression-at t) expression.Post
-expression-operator-requires t c κs = search needs
-
 expression-path-requires : (t : ℕ) → expression-lts.Need-path-requires (expression-claims t) (expression-at t) expression.Post
 expression-path-requires t c κs = first-call (expression-probability t c) (c .before .before .before .before .before .pre .0)
 
 expression-constant-requires : (t : ℕ) → expression-lts.Need-constant-requires (expression-claims t) (expression-at t) expression.Post
 expression-constant-requires t c κs = (c .before .before .before .before .pre .1, sym (c .before .byte-at .ensures) ∙ c .match .keys2)
-
-expression-stopped-requires : (t : ℕ) → expression-lts.Need-stopped-requires (expression-claims t) (expression-at t) expression.Post
-expression-stopped-requires t c κs = search needs
-
-expression-operator-requires-2 : (t : ℕ) → expression-lts.Need-operator-requires-2 (expression-claims t) (expression-at t) expression.Post
-expression-operator-requires-2 t c κs = search needs
 
 expression-expression-requires : (t : ℕ) → expression-lts.Need-expression-requires (expression-claims t) (expression-at t) expression.Post
 expression-expression-requires t c κs = first-call (expression-arithmetic t c) (c .before .before .before .before .before .pre .0)
@@ -180,12 +168,6 @@ path-returns t c =
     let s = c .before .before in
     stays Path (s .args .text .now) (s .args .n) (s .args .p) (not-true _ (c .if1 .taken)) (s .pre .1)
 
-path-byte-at-requires : (t : ℕ) → path-lts.Need-byte-at-requires (path-claims t) (path-at t) path.Post
-path-byte-at-requires t c κs = search needs
-
-path-operator-requires : (t : ℕ) → path-lts.Need-operator-requires (path-claims t) (path-at t) path.Post
-path-operator-requires t c κs = search needs
-
 path-state-formula-requires : (t : ℕ) → path-lts.Need-state-formula-requires (path-claims t) (path-at t) path.Post
 path-state-formula-requires t c κs = first-call (path-next t c) (c .before .before .before .before .before .pre .0)
 
@@ -197,9 +179,6 @@ path-state-formula-requires-2 t c κs = first-call (c .window .ensures) (c .befo
 
 path-state-formula-requires-3 : (t : ℕ) → path-lts.Need-state-formula-requires-3 (path-claims t) (path-at t) path.Post
 path-state-formula-requires-3 t c κs = second-call (c .before .window .ensures) (c .state-formula2 .ensures) (c .before .before .before .before .before .before .pre .0)
-
-path-stopped-requires : (t : ℕ) → path-lts.Need-stopped-requires (path-claims t) (path-at t) path.Post
-path-stopped-requires t c κs = search needs
 
 path-returns-2 : (t : ℕ) → path-lts.Need-returns-2 (path-claims t) (path-at t) path.Post
 path-returns-2 t c = reads-node (not-false _ (c .before .before .before .before .if1 .left)) (path-next t (c .before)) (c .state-formula .ensures)
@@ -219,20 +198,8 @@ state-formula-returns t c =
     let s = c .before .before in
     stays State (s .args .text .now) (s .args .n) (s .args .p) (not-true _ (c .if1 .taken)) (s .pre .1)
 
-state-formula-byte-at-requires : (t : ℕ) → state-formula-lts.Need-byte-at-requires (state-formula-claims t) (state-formula-at t) state-formula.Post
-state-formula-byte-at-requires t c κs = search needs
-
-state-formula-operator-requires : (t : ℕ) → state-formula-lts.Need-operator-requires (state-formula-claims t) (state-formula-at t) state-formula.Post
-state-formula-operator-requires t c κs = search needs
-
-state-formula-operator-requires-2 : (t : ℕ) → state-formula-lts.Need-operator-requires-2 (state-formula-claims t) (state-formula-at t) state-formula.Post
-state-formula-operator-requires-2 t c κs = search needs
-
 state-formula-state-formula-requires : (t : ℕ) → state-formula-lts.Need-state-formula-requires (state-formula-claims t) (state-formula-at t) state-formula.Post
 state-formula-state-formula-requires t c κs = first-call (state-formula-not t c) (c .before .before .before .before .before .pre .0)
-
-state-formula-operator-requires-3 : (t : ℕ) → state-formula-lts.Need-operator-requires-3 (state-formula-claims t) (state-formula-at t) state-formula.Post
-state-formula-operator-requires-3 t c κs = search needs
 
 state-formula-state-formula-requires-2 : (t : ℕ) → state-formula-lts.Need-state-formula-requires-2 (state-formula-claims t) (state-formula-at t) state-formula.Post
 state-formula-state-formula-requires-2 t c κs = first-call (state-formula-and t c) (c .before .before .before .before .before .pre .0)
@@ -244,12 +211,6 @@ state-formula-label-requires : (t : ℕ) → state-formula-lts.Need-label-requir
 state-formula-label-requires t c κs =
     let e = c .before .before .before .before .before .byte-at .ensures in
     (c .before .before .before .before .before .before .before .before .pre .1, omega (arith, e, c .before .if4 .left), omega (arith, e, c .if5 .taken))
-
-state-formula-stopped-requires : (t : ℕ) → state-formula-lts.Need-stopped-requires (state-formula-claims t) (state-formula-at t) state-formula.Post
-state-formula-stopped-requires t c κs = search needs
-
-state-formula-operator-requires-4 : (t : ℕ) → state-formula-lts.Need-operator-requires-4 (state-formula-claims t) (state-formula-at t) state-formula.Post
-state-formula-operator-requires-4 t c κs = search needs
 
 state-formula-expression-requires : (t : ℕ) → state-formula-lts.Need-expression-requires (state-formula-claims t) (state-formula-at t) state-formula.Post
 state-formula-expression-requires t c κs = first-call (state-formula-comparison t c) (c .before .before .before .before .before .pre .0)
@@ -285,12 +246,12 @@ pub +expression+path+state-formula-spec : {M : Type 1} → statement M
 +expression+path+state-formula-spec =
     close μ-expression μ-path μ-state-formula (λ t. expression-lts.spec (expression-claims t) (expression-at t) expression.Post
     (expression-returns t)
-    (expression-byte-at-requires t)
-    (expression-operator-requires t)
+    (λ c κs. search needs)
+    (λ c κs. search needs)
     (expression-path-requires t)
     (expression-constant-requires t)
-    (expression-stopped-requires t)
-    (expression-operator-requires-2 t)
+    (λ c κs. search needs)
+    (λ c κs. search needs)
     (expression-expression-requires t)
     (expression-expression-requires-2 t)
     (expression-returns-2 t)
@@ -299,28 +260,28 @@ pub +expression+path+state-formula-spec : {M : Type 1} → statement M
     (expression-returns-5 t))
     (λ t. path-lts.spec (path-claims t) (path-at t) path.Post
     (path-returns t)
-    (path-byte-at-requires t)
-    (path-operator-requires t)
+    (λ c κs. search needs)
+    (λ c κs. search needs)
     (path-state-formula-requires t)
     (path-window-requires t)
     (path-state-formula-requires-2 t)
     (path-state-formula-requires-3 t)
-    (path-stopped-requires t)
+    (λ c κs. search needs)
     (path-returns-2 t)
     (path-returns-3 t)
     (path-returns-4 t))
     λ t. state-formula-lts.spec (state-formula-claims t) (state-formula-at t) state-formula.Post
     (state-formula-returns t)
-    (state-formula-byte-at-requires t)
-    (state-formula-operator-requires t)
-    (state-formula-operator-requires-2 t)
+    (λ c κs. search needs)
+    (λ c κs. search needs)
+    (λ c κs. search needs)
     (state-formula-state-formula-requires t)
-    (state-formula-operator-requires-3 t)
+    (λ c κs. search needs)
     (state-formula-state-formula-requires-2 t)
     (state-formula-state-formula-requires-3 t)
     (state-formula-label-requires t)
-    (state-formula-stopped-requires t)
-    (state-formula-operator-requires-4 t)
+    (λ c κs. search needs)
+    (λ c κs. search needs)
     (state-formula-expression-requires t)
     (state-formula-expression-requires-2 t)
     (state-formula-returns-2 t)

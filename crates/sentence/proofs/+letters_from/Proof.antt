@@ -1,13 +1,12 @@
 -- `letters_from` meets its contract: each byte is a case of PrefixAt. The measure is how many letters may follow.
 -- Assumes nothing.
-use mathlib.Core.Bool.{Bool, true, false}
-use mathlib.Core.Path.{_≡_, refl, sym, _∙_}
+use mathlib.Core.Bool.{true, false}
+use mathlib.Core.Path.{sym, _∙_}
 use native.Mathlib.Omega.{arith}
 use borrow.Author.Needs.{needs}
-use lib.ListN.{length, getD, length-set}
-use Rattle.sentence.specs.Grammar.{letterByte}
+use lib.ListN.{length-set}
 use Rattle.sentence.proofs.PrefixAt.{dot-read, dot-first, letter-on, letter-over, letter-none}
-use Prim.Native.Nat.{ℕ, _+_, _-_, _≤_, _<_}
+use Prim.Native.Nat.{ℕ, _-_, _<_}
 use borrow.Fn.Kinds.{In}
 use borrow.Fn.PlainCycle.{Measures, is, falls, and}
 use Rattle.sentence.proofs.letters_from.Reads as letters-from
@@ -37,33 +36,15 @@ letters-from-below t =
 abbrev letters-from-claims : ℕ → letters-from-lts.Claims
 letters-from-claims t = (byte-at-reads.Asked, byte-at-reads.Learnt, no-prefix-reads.Asked, no-prefix-reads.Learnt, with-letter-reads.Asked, with-letter-reads.Learnt, letters-from-below t, letters-from.Post)
 
-letters-from-byte-at-requires : (t : ℕ) → letters-from-lts.Need-byte-at-requires (letters-from-claims t) (letters-from-at t) letters-from.Post
-letters-from-byte-at-requires t c κs = search needs
-
-letters-from-no-prefix-requires : (t : ℕ) → letters-from-lts.Need-no-prefix-requires (letters-from-claims t) (letters-from-at t) letters-from.Post
-letters-from-no-prefix-requires t c κs = search needs
-
 letters-from-returns : (t : ℕ) → letters-from-lts.Need-returns (letters-from-claims t) (letters-from-at t) letters-from.Post
 letters-from-returns t c =
     let a = c .before .before .before .before .before .args in
     dot-first (a .text .now) (a .at) (a .flags) (c .no-prefix .result) (sym (c .before .before .before .byte-at .ensures) ∙ c .before .before .match .keys1) (c .before .if1 .taken) (c .no-prefix .ensures)
 
-letters-from-add-t7 : (t : ℕ) → letters-from-lts.Need-add-t7 (letters-from-claims t) (letters-from-at t) letters-from.Post
-letters-from-add-t7 t c = search needs
-
-letters-from-no-prefix-requires-2 : (t : ℕ) → letters-from-lts.Need-no-prefix-requires-2 (letters-from-claims t) (letters-from-at t) letters-from.Post
-letters-from-no-prefix-requires-2 t c κs = search needs
-
 letters-from-returns-2 : (t : ℕ) → letters-from-lts.Need-returns-2 (letters-from-claims t) (letters-from-at t) letters-from.Post
 letters-from-returns-2 t c =
     let a = c .before .before .before .before .before .args in
     letter-over (a .text .now) (a .at) (a .flags) false (c .no-prefix2 .result) (sym (c .before .before .before .byte-at .ensures) ∙ c .before .before .match .keys2) (c .before .if2 .taken) (c .no-prefix2 .ensures)
-
-letters-from-add-letters-from : (t : ℕ) → letters-from-lts.Need-add-letters-from (letters-from-claims t) (letters-from-at t) letters-from.Post
-letters-from-add-letters-from t c = search needs
-
-letters-from-with-letter-requires : (t : ℕ) → letters-from-lts.Need-with-letter-requires (letters-from-claims t) (letters-from-at t) letters-from.Post
-letters-from-with-letter-requires t c κs = search needs
 
 letters-from-letters-from-requires : (t : ℕ) → letters-from-lts.Need-letters-from-requires (letters-from-claims t) (letters-from-at t) letters-from.Post
 letters-from-letters-from-requires t c κs =
@@ -71,28 +52,16 @@ letters-from-letters-from-requires t c κs =
     let w = c .with-letter .ensures in
     (omega (arith, s .pre .0, s .pre .1 .0, c .before .if2 .left), (omega (arith, s .pre .1 .0, c .before .if2 .left), rw w (length-set (s .args .flags) (s .args .at) false ∙ s .pre .1 .1)))
 
-letters-from-no-prefix-requires-3 : (t : ℕ) → letters-from-lts.Need-no-prefix-requires-3 (letters-from-claims t) (letters-from-at t) letters-from.Post
-letters-from-no-prefix-requires-3 t c κs = search needs
-
 letters-from-returns-3 : (t : ℕ) → letters-from-lts.Need-returns-3 (letters-from-claims t) (letters-from-at t) letters-from.Post
 letters-from-returns-3 t c =
     let a = c .before .before .before .before .before .args in
     letter-over (a .text .now) (a .at) (a .flags) true (c .no-prefix3 .result) (sym (c .before .before .before .byte-at .ensures) ∙ c .before .before .match .keys3) (c .before .if3 .taken) (c .no-prefix3 .ensures)
-
-letters-from-add-letters-from-2 : (t : ℕ) → letters-from-lts.Need-add-letters-from-2 (letters-from-claims t) (letters-from-at t) letters-from.Post
-letters-from-add-letters-from-2 t c = search needs
-
-letters-from-with-letter-requires-2 : (t : ℕ) → letters-from-lts.Need-with-letter-requires-2 (letters-from-claims t) (letters-from-at t) letters-from.Post
-letters-from-with-letter-requires-2 t c κs = search needs
 
 letters-from-letters-from-requires-2 : (t : ℕ) → letters-from-lts.Need-letters-from-requires-2 (letters-from-claims t) (letters-from-at t) letters-from.Post
 letters-from-letters-from-requires-2 t c κs =
     let s = c .before .before .before .before .before in
     let w = c .with-letter2 .ensures in
     (omega (arith, s .pre .0, s .pre .1 .0, c .before .if3 .left), (omega (arith, s .pre .1 .0, c .before .if3 .left), rw w (length-set (s .args .flags) (s .args .at) true ∙ s .pre .1 .1)))
-
-letters-from-no-prefix-requires-4 : (t : ℕ) → letters-from-lts.Need-no-prefix-requires-4 (letters-from-claims t) (letters-from-at t) letters-from.Post
-letters-from-no-prefix-requires-4 t c κs = search needs
 
 letters-from-returns-4 : (t : ℕ) → letters-from-lts.Need-returns-4 (letters-from-claims t) (letters-from-at t) letters-from.Post
 letters-from-returns-4 t c =
@@ -120,21 +89,21 @@ pub +letters-from-spec : {M : Type 1} → statement M
 +letters-from-spec = close μ-letters-from λ t. letters-from-lts.spec (letters-from-claims t)
     (letters-from-at t)
     letters-from.Post
-    (letters-from-byte-at-requires t)
-    (letters-from-no-prefix-requires t)
+    (λ c κs. search needs)
+    (λ c κs. search needs)
     (letters-from-returns t)
-    (letters-from-add-t7 t)
-    (letters-from-no-prefix-requires-2 t)
+    (λ c. search needs)
+    (λ c κs. search needs)
     (letters-from-returns-2 t)
-    (letters-from-add-letters-from t)
-    (letters-from-with-letter-requires t)
+    (λ c. search needs)
+    (λ c κs. search needs)
     (letters-from-letters-from-requires t)
-    (letters-from-no-prefix-requires-3 t)
+    (λ c κs. search needs)
     (letters-from-returns-3 t)
-    (letters-from-add-letters-from-2 t)
-    (letters-from-with-letter-requires-2 t)
+    (λ c. search needs)
+    (λ c κs. search needs)
     (letters-from-letters-from-requires-2 t)
-    (letters-from-no-prefix-requires-4 t)
+    (λ c κs. search needs)
     (letters-from-returns-4 t)
     (letters-from-returns-5 t)
     (letters-from-returns-6 t)

@@ -1,13 +1,12 @@
 -- `more_digits` meets its contract: each byte is a case of NumberAt. The measure is what is left of the text.
 -- Assumes nothing.
-use Prim.Native.Nat.{ℕ, _+_, _-_, _*_, _≤_, _<_}
-use mathlib.Core.List.{List}
-use mathlib.Core.Logic.{_⊎_, ⊎-elim, inl, inr}
-use mathlib.Core.Path.{_≡_, sym, _∙_}
+use Prim.Native.Nat.{ℕ, _-_, _<_}
+use mathlib.Core.Logic.{⊎-elim, inl, inr}
+use mathlib.Core.Path.{sym, _∙_}
 use native.Mathlib.Omega.{arith}
 use borrow.Author.Needs.{needs}
-use lib.ListN.{length, getD}
-use Rattle.sentence.specs.Reading.{NumberResult, NoDigit}
+use lib.ListN.{length}
+use Rattle.sentence.specs.Reading.{NoDigit}
 use Rattle.sentence.proofs.Places.{inside}
 use Rattle.sentence.proofs.NumberAt.{digit-on, closed, sixth, unclosed}
 use borrow.Fn.Kinds.{In}
@@ -35,12 +34,6 @@ more-digits-below t =
 abbrev more-digits-claims : ℕ → more-digits-lts.Claims
 more-digits-claims t = (byte-at-reads.Asked, byte-at-reads.Learnt, no-number-reads.Asked, no-number-reads.Learnt, digit-of-reads.Asked, digit-of-reads.Learnt, more-digits-below t, more-digits.Post)
 
-more-digits-byte-at-requires : (t : ℕ) → more-digits-lts.Need-byte-at-requires (more-digits-claims t) (more-digits-at t) more-digits.Post
-more-digits-byte-at-requires t c κs = search needs
-
-more-digits-no-number-requires : (t : ℕ) → more-digits-lts.Need-no-number-requires (more-digits-claims t) (more-digits-at t) more-digits.Post
-more-digits-no-number-requires t c κs = search needs
-
 more-digits-returns : (t : ℕ) → more-digits-lts.Need-returns (more-digits-claims t) (more-digits-at t) more-digits.Post
 more-digits-returns t c =
     let s = c .before .before .before .before .before .before in
@@ -54,15 +47,6 @@ more-digits-add-more-digits t c =
     let b = c .before .before .before .byte-at in
     let h : s .args .at < length (s .args .text .now) = inside (s .args .text .now) (s .args .at) (omega (arith, b .ensures, c .before .before .if1 .left)) in
     omega (arith, s .good .0 .0)
-
-more-digits-mul-more-digits : (t : ℕ) → more-digits-lts.Need-mul-more-digits (more-digits-claims t) (more-digits-at t) more-digits.Post
-more-digits-mul-more-digits t c = search needs
-
-more-digits-digit-of-requires : (t : ℕ) → more-digits-lts.Need-digit-of-requires (more-digits-claims t) (more-digits-at t) more-digits.Post
-more-digits-digit-of-requires t c κs = search needs
-
-more-digits-add-more-digits-2 : (t : ℕ) → more-digits-lts.Need-add-more-digits-2 (more-digits-claims t) (more-digits-at t) more-digits.Post
-more-digits-add-more-digits-2 t c = search needs
 
 more-digits-more-digits-requires : (t : ℕ) → more-digits-lts.Need-more-digits-requires (more-digits-claims t) (more-digits-at t) more-digits.Post
 more-digits-more-digits-requires t c κs =
@@ -84,9 +68,6 @@ more-digits-returns-2 t c =
     let b = c .before .before .byte-at in
     closed (s .args .text .now) (s .args .at) (s .args .value) (s .args .close) (s .pre .1 .1) (sym (b .ensures) ∙ c .if4 .taken) (s .pre .1 .3)
 
-more-digits-no-number-requires-2 : (t : ℕ) → more-digits-lts.Need-no-number-requires-2 (more-digits-claims t) (more-digits-at t) more-digits.Post
-more-digits-no-number-requires-2 t c κs = search needs
-
 more-digits-returns-3 : (t : ℕ) → more-digits-lts.Need-returns-3 (more-digits-claims t) (more-digits-at t) more-digits.Post
 more-digits-returns-3 t c =
     let s = c .before .before .before .before .before .before .before in
@@ -106,16 +87,16 @@ pub +more-digits-spec : {M : Type 1} → statement M
 +more-digits-spec = close μ-more-digits λ t. more-digits-lts.spec (more-digits-claims t)
     (more-digits-at t)
     more-digits.Post
-    (more-digits-byte-at-requires t)
-    (more-digits-no-number-requires t)
+    (λ c κs. search needs)
+    (λ c κs. search needs)
     (more-digits-returns t)
     (more-digits-add-more-digits t)
-    (more-digits-mul-more-digits t)
-    (more-digits-digit-of-requires t)
-    (more-digits-add-more-digits-2 t)
+    (λ c. search needs)
+    (λ c κs. search needs)
+    (λ c. search needs)
     (more-digits-more-digits-requires t)
     (more-digits-add-t14 t)
     (more-digits-returns-2 t)
-    (more-digits-no-number-requires-2 t)
+    (λ c κs. search needs)
     (more-digits-returns-3 t)
     (more-digits-returns-4 t)

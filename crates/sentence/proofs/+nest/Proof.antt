@@ -1,16 +1,15 @@
 -- `nest` meets its contract: each node is a case of Fitting. The measure is how many nodes are left.
 -- Assumes nothing.
-use Prim.Native.Nat.{_+_, _≤_}
-use mathlib.Core.Bool.{true, false, not, _&&_}
+use Prim.Native.Nat.{_+_}
+use mathlib.Core.Bool.{true, _&&_}
 use mathlib.Core.List.{List, [], _∷_}
-use mathlib.Core.Path.{_≡_, refl, sym, ap, _∙_, subst}
+use mathlib.Core.Path.{_≡_, refl, sym, _∙_, subst}
 use native.Mathlib.Omega.{arith}
 use borrow.Author.Tests.{not-true, not-false}
 use lib.ListN.{length, drop, getD}
 use Rattle.sentence.specs.Grammar.{kindOf}
 use Rattle.sentence.specs.Calls.{slot}
-use Rattle.sentence.specs.Writing.{listed, wanted, wantsOf, sameKind, writable, Fits}
-use Rattle.sentence.specs.declared.Kind.{Kind}
+use Rattle.sentence.specs.Writing.{listed, wanted, sameKind, writable, Fits}
 use Rattle.sentence.specs.declared.Node.{Node}
 use Rattle.sentence.specs.declared.Node.the-variants.{True}
 use Rattle.sentence.specs.declared.Place.{Place}
@@ -83,47 +82,11 @@ nest-returns-2 t c =
     let s = c .before .before in
     fits-none (s .args .kind) (listed (s .args .t1) (s .args .count)) (s .args .p) (not-false _ (c .before .if1 .left)) (omega (arith, nest-length t s, s .pre .1 .1)) (omega (arith, nest-length t s, c .if2 .taken))
 
-nest-mul-slot : (t : ℕ) → nest-lts.Need-mul-slot (nest-claims t) (nest-at t) nest.Post
-nest-mul-slot t c = search needs
-
-nest-array-copy-out-slot : (t : ℕ) → nest-lts.Need-array-copy-out-slot (nest-claims t) (nest-at t) nest.Post
-nest-array-copy-out-slot t c = search needs
-
-nest-kind-of-requires : (t : ℕ) → nest-lts.Need-kind-of-requires (nest-claims t) (nest-at t) nest.Post
-nest-kind-of-requires t c κs = search needs
-
-nest-same-kind-requires : (t : ℕ) → nest-lts.Need-same-kind-requires (nest-claims t) (nest-at t) nest.Post
-nest-same-kind-requires t c κs = search needs
-
-nest-has-text-requires : (t : ℕ) → nest-lts.Need-has-text-requires (nest-claims t) (nest-at t) nest.Post
-nest-has-text-requires t c κs = search needs
-
 nest-returns-3 : (t : ℕ) → nest-lts.Need-returns-3 (nest-claims t) (nest-at t) nest.Post
 nest-returns-3 t c =
     let s = c .before .before .before .before .before .before .before in
     fits-other (at-place (s .args .t1) (s .args .p .at)) (s .args .kind) (listed (s .args .t1) (s .args .count)) (s .args .p) (not-false _ (c .before .before .before .before .before .before .if1 .left)) (omega (arith, nest-length t s, s .pre .1 .1)) (nest-here t (c .before .before .before .before .before))
     (sym (nest-tested t (c .before)) ∙ not-true _ (c .if3 .taken))
-
-nest-add-t17 : (t : ℕ) → nest-lts.Need-add-t17 (nest-claims t) (nest-at t) nest.Post
-nest-add-t17 t c = search needs
-
-nest-wants-of-requires : (t : ℕ) → nest-lts.Need-wants-of-requires (nest-claims t) (nest-at t) nest.Post
-nest-wants-of-requires t c κs = search needs
-
-nest-enum-told : (t : ℕ) → nest-lts.Need-enum-told (nest-claims t) (nest-at t) nest.Post
-nest-enum-told t c = search needs
-
-nest-enum-known-w : (t : ℕ) → nest-lts.Need-enum-known-w (nest-claims t) (nest-at t) nest.Post
-nest-enum-known-w t c = search needs
-
-nest-nest-requires : (t : ℕ) → nest-lts.Need-nest-requires (nest-claims t) (nest-at t) nest.Post
-nest-nest-requires t c κs = search needs
-
-nest-enum-known-w-2 : (t : ℕ) → nest-lts.Need-enum-known-w-2 (nest-claims t) (nest-at t) nest.Post
-nest-enum-known-w-2 t c = search needs
-
-nest-nest-requires-2 : (t : ℕ) → nest-lts.Need-nest-requires-2 (nest-claims t) (nest-at t) nest.Post
-nest-nest-requires-2 t c κs = search needs
 
 nest-nest-requires-3 : (t : ℕ) → nest-lts.Need-nest-requires-3 (nest-claims t) (nest-at t) nest.Post
 nest-nest-requires-3 t c κs =
@@ -151,19 +114,19 @@ pub +nest-spec : {M : Type 1} → statement M
     nest.Post
     (nest-returns t)
     (nest-returns-2 t)
-    (nest-mul-slot t)
-    (nest-array-copy-out-slot t)
-    (nest-kind-of-requires t)
-    (nest-same-kind-requires t)
-    (nest-has-text-requires t)
+    (λ c. search needs)
+    (λ c. search needs)
+    (λ c κs. search needs)
+    (λ c κs. search needs)
+    (λ c κs. search needs)
     (nest-returns-3 t)
-    (nest-add-t17 t)
-    (nest-wants-of-requires t)
-    (nest-enum-told t)
-    (nest-enum-known-w t)
-    (nest-nest-requires t)
-    (nest-enum-known-w-2 t)
-    (nest-nest-requires-2 t)
+    (λ c. search needs)
+    (λ c κs. search needs)
+    (λ c. search needs)
+    (λ c. search needs)
+    (λ c κs. search needs)
+    (λ c. search needs)
+    (λ c κs. search needs)
     (nest-nest-requires-3 t)
     (nest-returns-4 t)
     (nest-returns-5 t)

@@ -1,11 +1,10 @@
 -- `put_letters` meets its contract. The measure is how many letters are left.
 -- Assumes nothing.
-use Prim.Native.Nat.{_+_, _≤_}
-use mathlib.Core.Bool.{true, false}
-use mathlib.Core.Logic.{_⊎_, ⊎-elim}
-use mathlib.Core.Path.{_≡_, refl, sym, ap, _∙_}
+use mathlib.Core.Bool.{false}
+use mathlib.Core.Logic.{⊎-elim}
+use mathlib.Core.Path.{_≡_, sym, ap, _∙_}
 use native.Mathlib.Omega.{arith}
-use lib.ListN.{length, getD}
+use lib.ListN.{getD}
 use Rattle.sentence.specs.Grammar.{letterByte}
 use Rattle.sentence.proofs.Puts.{put-letter, put-no-letter}
 use Prim.Native.Nat.{ℕ, _-_, _<_}
@@ -38,18 +37,6 @@ put-letters-returns t c =
     let s = c .before .before in
     put-no-letter (s .args .out .now) (s .args .t2) (s .args .letters) (s .args .from) (omega (arith, s .pre .1 .0, s .pre .1 .2)) (c .if1 .taken)
 
-put-letters-array-read-if2 : (t : ℕ) → put-letters-lts.Need-array-read-if2 (put-letters-claims t) (put-letters-at t) put-letters.Post
-put-letters-array-read-if2 t c = search needs
-
-put-letters-put-byte-requires : (t : ℕ) → put-letters-lts.Need-put-byte-requires (put-letters-claims t) (put-letters-at t) put-letters.Post
-put-letters-put-byte-requires t c κs = search needs
-
-put-letters-put-letters-requires : (t : ℕ) → put-letters-lts.Need-put-letters-requires (put-letters-claims t) (put-letters-at t) put-letters.Post
-put-letters-put-letters-requires t c κs = search needs
-
-put-letters-same-length : (t : ℕ) → put-letters-lts.Need-same-length (put-letters-claims t) (put-letters-at t) put-letters.Post
-put-letters-same-length t c = search needs
-
 put-letters-returns-2 : (t : ℕ) → put-letters-lts.Need-returns-2 (put-letters-claims t) (put-letters-at t) put-letters.Post
 put-letters-returns-2 t c =
     let s = c .before .before .before .before .before .before .before .before .before .before .before in
@@ -62,8 +49,8 @@ pub +put-letters-spec : {M : Type 1} → statement M
     (put-letters-at t)
     put-letters.Post
     (put-letters-returns t)
-    (put-letters-array-read-if2 t)
-    (put-letters-put-byte-requires t)
-    (put-letters-put-letters-requires t)
-    (put-letters-same-length t)
+    (λ c. search needs)
+    (λ c κs. search needs)
+    (λ c κs. search needs)
+    (λ c. search needs)
     (put-letters-returns-2 t)

@@ -1,10 +1,10 @@
 -- `put_nodes` meets its contract: a node, and the nodes after it. The measure is how many nodes are left.
 -- Assumes nothing.
-use Prim.Native.Nat.{_+_, _≤_}
+use Prim.Native.Nat.{_+_}
 use mathlib.Core.List.{_∷_}
-use mathlib.Core.Path.{_≡_, refl, sym, ap, subst}
+use mathlib.Core.Path.{_≡_, subst}
 use native.Mathlib.Omega.{arith}
-use lib.ListN.{length, drop, getD}
+use lib.ListN.{drop, getD}
 use Rattle.sentence.specs.Grammar.{nodeText}
 use Rattle.sentence.specs.Calls.{slot}
 use Rattle.sentence.specs.Writing.{listed, AllWritable}
@@ -47,21 +47,12 @@ put-nodes-returns t c =
     let s = c .before .before in
     put-no-node (s .args .out .now) (s .args .at) (listed (s .args .t3) (s .args .count)) (s .args .from) (omega (arith, listed-length (s .args .t3) (s .args .count) (omega (arith, s .pre .1 .0, s .pre .1 .2)), c .if1 .taken))
 
-put-nodes-mul-slot : (t : ℕ) → put-nodes-lts.Need-mul-slot (put-nodes-claims t) (put-nodes-at t) put-nodes.Post
-put-nodes-mul-slot t c = search needs
-
-put-nodes-array-copy-out-slot : (t : ℕ) → put-nodes-lts.Need-array-copy-out-slot (put-nodes-claims t) (put-nodes-at t) put-nodes.Post
-put-nodes-array-copy-out-slot t c = search needs
-
 put-nodes-put-node-requires : (t : ℕ) → put-nodes-lts.Need-put-node-requires (put-nodes-claims t) (put-nodes-at t) put-nodes.Post
 put-nodes-put-node-requires t c κs =
     let s = c .before .before .before .before in
     let here = put-nodes-here t (c .before .before) in
     let w = subst AllWritable here (s .pre .1 .3) in
     (w .0, omega (arith, cons-length (listed (s .args .t3) (s .args .count)) (s .args .from) (getD (s .args .t3) (s .args .from) (slot True) .node) here, s .pre .1 .4))
-
-put-nodes-add-put-nodes : (t : ℕ) → put-nodes-lts.Need-add-put-nodes (put-nodes-claims t) (put-nodes-at t) put-nodes.Post
-put-nodes-add-put-nodes t c = search needs
 
 put-nodes-put-nodes-requires : (t : ℕ) → put-nodes-lts.Need-put-nodes-requires (put-nodes-claims t) (put-nodes-at t) put-nodes.Post
 put-nodes-put-nodes-requires t c κs =
@@ -73,9 +64,6 @@ put-nodes-put-nodes-requires t c κs =
       (s .pre .1 .0, omega (arith, s .pre .1 .1, c .before .before .before .before .before .before .if1 .left), s .pre .1 .2, w .1, omega (arith, p .next, put-length (nodeText (getD (s .args .t3) (s .args .from) (slot True) .node)) p, cons-length (listed (s .args .t3) (s .args .count)) (s .args .from) (getD (s .args .t3) (s .args .from) (slot True) .node) here, s .pre .1 .4)),
     )
 
-put-nodes-same-length : (t : ℕ) → put-nodes-lts.Need-same-length (put-nodes-claims t) (put-nodes-at t) put-nodes.Post
-put-nodes-same-length t c = search needs
-
 put-nodes-returns-2 : (t : ℕ) → put-nodes-lts.Need-returns-2 (put-nodes-claims t) (put-nodes-at t) put-nodes.Post
 put-nodes-returns-2 t c =
     let s = c .before .before .before .before .before .before .before .before .before .before .before in
@@ -86,10 +74,10 @@ pub +put-nodes-spec : {M : Type 1} → statement M
     (put-nodes-at t)
     put-nodes.Post
     (put-nodes-returns t)
-    (put-nodes-mul-slot t)
-    (put-nodes-array-copy-out-slot t)
+    (λ c. search needs)
+    (λ c. search needs)
     (put-nodes-put-node-requires t)
-    (put-nodes-add-put-nodes t)
+    (λ c. search needs)
     (put-nodes-put-nodes-requires t)
-    (put-nodes-same-length t)
+    (λ c. search needs)
     (put-nodes-returns-2 t)

@@ -1,14 +1,14 @@
 -- `put_number` meets its contract: the digits of the tenth, and the last digit. The measure is the number.
 -- Assumes nothing.
-use Prim.Native.Nat.{_+_, _/_, _%_, _≤_}
-use mathlib.Core.List.{List, [], _∷_, _++_}
-use mathlib.Core.Path.{_≡_, refl, sym, ap, _∙_}
+use Prim.Native.Nat.{_/_}
+use mathlib.Core.List.{[], _∷_, _++_}
+use mathlib.Core.Path.{sym, ap, _∙_}
 use native.Mathlib.Omega.{arith}
 use lib.ListN.{length}
 use Rattle.sentence.specs.Grammar.{numberText}
 use Rattle.sentence.proofs.Numbers.{one-digit}
 use Rattle.sentence.proofs.Puts.{put-then, put-length, put-as, last-digit, last-length}
-use Prim.Native.Nat.{ℕ, _-_, _<_}
+use Prim.Native.Nat.{ℕ, _<_}
 use borrow.Author.Needs.{needs}
 use borrow.Fn.Kinds.{In}
 use borrow.Fn.PlainCycle.{Measures, is, falls, and}
@@ -34,16 +34,10 @@ put-number-below t =
 abbrev put-number-claims : ℕ → put-number-lts.Claims
 put-number-claims t = (digit-byte-reads.Asked, digit-byte-reads.Learnt, put-byte-reads.Asked, put-byte-reads.Learnt, put-number-below t, put-number.Post)
 
-put-number-digit-byte-requires : (t : ℕ) → put-number-lts.Need-digit-byte-requires (put-number-claims t) (put-number-at t) put-number.Post
-put-number-digit-byte-requires t c κs = search needs
-
 put-number-put-byte-requires : (t : ℕ) → put-number-lts.Need-put-byte-requires (put-number-claims t) (put-number-at t) put-number.Post
 put-number-put-byte-requires t c κs =
     let s = c .before .before .before .before in
     omega (arith, ap length (one-digit (s .args .n) (c .before .before .if1 .taken)), s .pre .1 .1)
-
-put-number-same-length : (t : ℕ) → put-number-lts.Need-same-length (put-number-claims t) (put-number-at t) put-number.Post
-put-number-same-length t c = search needs
 
 put-number-returns : (t : ℕ) → put-number-lts.Need-returns (put-number-claims t) (put-number-at t) put-number.Post
 put-number-returns t c =
@@ -56,17 +50,11 @@ put-number-put-number-requires t c κs =
     let n = s .args .n in
     (omega (arith, s .pre .0, c .before .if1 .left), (omega (arith, s .pre .1 .0), omega (arith, last-length n (c .before .if1 .left) (s .pre .1 .0), s .pre .1 .1)))
 
-put-number-digit-byte-requires-2 : (t : ℕ) → put-number-lts.Need-digit-byte-requires-2 (put-number-claims t) (put-number-at t) put-number.Post
-put-number-digit-byte-requires-2 t c κs = search needs
-
 put-number-put-byte-requires-2 : (t : ℕ) → put-number-lts.Need-put-byte-requires-2 (put-number-claims t) (put-number-at t) put-number.Post
 put-number-put-byte-requires-2 t c κs =
     let s = c .before .before .before .before .before .before .before .before in
     let p = c .before .before .before .before .put-number .ensures in
     omega (arith, p .next, put-length (numberText (s .args .n / 10)) p, last-length (s .args .n) (c .before .before .before .before .before .before .if1 .left) (s .pre .1 .0), s .pre .1 .1)
-
-put-number-same-length-2 : (t : ℕ) → put-number-lts.Need-same-length-2 (put-number-claims t) (put-number-at t) put-number.Post
-put-number-same-length-2 t c = search needs
 
 put-number-returns-2 : (t : ℕ) → put-number-lts.Need-returns-2 (put-number-claims t) (put-number-at t) put-number.Post
 put-number-returns-2 t c =
@@ -78,12 +66,12 @@ pub +put-number-spec : {M : Type 1} → statement M
 +put-number-spec = close μ-put-number λ t. put-number-lts.spec (put-number-claims t)
     (put-number-at t)
     put-number.Post
-    (put-number-digit-byte-requires t)
+    (λ c κs. search needs)
     (put-number-put-byte-requires t)
-    (put-number-same-length t)
+    (λ c. search needs)
     (put-number-returns t)
     (put-number-put-number-requires t)
-    (put-number-digit-byte-requires-2 t)
+    (λ c κs. search needs)
     (put-number-put-byte-requires-2 t)
-    (put-number-same-length-2 t)
+    (λ c. search needs)
     (put-number-returns-2 t)

@@ -1,9 +1,8 @@
 -- `survey_from` meets its contract: each node is a case of Sizes. The measure is how many nodes are left.
 -- Assumes nothing.
-use Prim.Native.Nat.{_+_, _≤_}
-use mathlib.Core.Path.{_≡_, refl, sym}
+use Prim.Native.Nat.{_+_}
 use native.Mathlib.Omega.{arith}
-use lib.ListN.{length, drop, getD, length-drop}
+use lib.ListN.{getD, length-drop}
 use Rattle.sentence.specs.Calls.{slot}
 use Rattle.sentence.specs.Writing.{listed}
 use Rattle.sentence.specs.declared.Node.the-variants.{True}
@@ -40,28 +39,10 @@ survey-from-returns t c =
     let s = c .before in
     survey-none (s .args .letters) (listed (s .args .t1) (s .args .count)) (s .args .at) (omega (arith, listed-length (s .args .t1) (s .args .count) (omega (arith, s .pre .1 .0, s .pre .1 .2)), c .if1 .taken))
 
-survey-from-mul-slot : (t : ℕ) → survey-from-lts.Need-mul-slot (survey-from-claims t) (survey-from-at t) survey-from.Post
-survey-from-mul-slot t c = search needs
-
-survey-from-array-copy-out-slot : (t : ℕ) → survey-from-lts.Need-array-copy-out-slot (survey-from-claims t) (survey-from-at t) survey-from.Post
-survey-from-array-copy-out-slot t c = search needs
-
-survey-from-add-survey-from : (t : ℕ) → survey-from-lts.Need-add-survey-from (survey-from-claims t) (survey-from-at t) survey-from.Post
-survey-from-add-survey-from t c = search needs
-
-survey-from-survey-from-requires : (t : ℕ) → survey-from-lts.Need-survey-from-requires (survey-from-claims t) (survey-from-at t) survey-from.Post
-survey-from-survey-from-requires t c κs = search needs
-
-survey-from-node-size-requires : (t : ℕ) → survey-from-lts.Need-node-size-requires (survey-from-claims t) (survey-from-at t) survey-from.Post
-survey-from-node-size-requires t c κs = search needs
-
 survey-from-add-t15 : (t : ℕ) → survey-from-lts.Need-add-t15 (survey-from-claims t) (survey-from-at t) survey-from.Post
 survey-from-add-t15 t c =
     let s = c .before .before .before .before .before in
     omega (arith, c .before .node-size .ensures .1, c .before .before .survey-from .ensures .small, length-drop (s .args .at + 1) (listed (s .args .t1) (s .args .count)), listed-length (s .args .t1) (s .args .count) (omega (arith, s .pre .1 .0, s .pre .1 .2)), s .pre .1 .0)
-
-survey-from-is-fault-requires : (t : ℕ) → survey-from-lts.Need-is-fault-requires (survey-from-claims t) (survey-from-at t) survey-from.Post
-survey-from-is-fault-requires t c κs = search needs
 
 survey-from-returns-2 : (t : ℕ) → survey-from-lts.Need-returns-2 (survey-from-claims t) (survey-from-at t) survey-from.Post
 survey-from-returns-2 t c =
@@ -75,11 +56,11 @@ pub +survey-from-spec : {M : Type 1} → statement M
     (survey-from-at t)
     survey-from.Post
     (survey-from-returns t)
-    (survey-from-mul-slot t)
-    (survey-from-array-copy-out-slot t)
-    (survey-from-add-survey-from t)
-    (survey-from-survey-from-requires t)
-    (survey-from-node-size-requires t)
+    (λ c. search needs)
+    (λ c. search needs)
+    (λ c. search needs)
+    (λ c κs. search needs)
+    (λ c κs. search needs)
     (survey-from-add-t15 t)
-    (survey-from-is-fault-requires t)
+    (λ c κs. search needs)
     (survey-from-returns-2 t)

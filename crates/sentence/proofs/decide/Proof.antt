@@ -1,7 +1,7 @@
 -- `decide` meets its contract: each way out is a case of WriteAll.
 -- Assumes nothing.
-use Prim.Native.Nat.{ℕ, _+_, _≤_}
-use mathlib.Core.Path.{_≡_, sym, _∙_}
+use Prim.Native.Nat.{_+_, _≤_}
+use mathlib.Core.Path.{sym, _∙_}
 use native.Mathlib.Omega.{arith}
 use borrow.Author.Tests.{not-true, not-false}
 use lib.ListN.{length}
@@ -34,9 +34,6 @@ returns-3 : tie.Need-returns-3
 returns-3 c =
     refuse-none (c .before .before .before .before .args .s) (c .before .before .before .before .args .room) (c .if3 .taken)
 
-nest-requires : tie.Need-nest-requires
-nest-requires c κs = search needs
-
 returns-4 : tie.Need-returns-4
 returns-4 c =
     let r = c .before .nest in
@@ -47,12 +44,6 @@ returns-5 c =
     let a = c .before .before .before .before .before .before .before .before in
     let r = c .before .before .before .nest in
     refuse-more (a .args .s) (a .args .room) (r .result) (omega (arith, a .pre .1, c .before .before .before .before .before .before .if1 .left)) (r .ensures) (not-false _ (c .before .before .if4 .left)) (c .if5 .taken)
-
-survey-from-requires : tie.Need-survey-from-requires
-survey-from-requires c κs = search needs
-
-add-size : tie.Need-add-size
-add-size c = search needs
 
 add-size-2 : tie.Need-add-size-2
 add-size-2 c =
@@ -83,11 +74,11 @@ decide-spec =
     returns
     returns-2
     returns-3
-    nest-requires
+    (λ c κs. search needs)
     returns-4
     returns-5
-    survey-from-requires
-    add-size
+    (λ c κs. search needs)
+    (λ c. search needs)
     add-size-2
     returns-6
     returns-7

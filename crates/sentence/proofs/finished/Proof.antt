@@ -1,27 +1,18 @@
 -- `finished` meets its contract.
 -- Assumes nothing.
-use mathlib.Core.Path.{_≡_, refl, sym, _∙_}
+use mathlib.Core.Path.{refl, sym}
 use borrow.Author.Tests.{lt-ltb, le-ltb}
 use borrow.Author.Needs.{needs}
 use Rattle.sentence.proofs.finished.Statement.{statement}
 use Rattle.sentence.proofs.finished.Tie as tie
 
-refused-requires : tie.Need-refused-requires
-refused-requires c κs = search needs
-
 returns : tie.Need-returns
 returns c ns n body =
     rw (c .before .if1 .taken) (c .refused .ensures)
 
-refused-requires-2 : tie.Need-refused-requires-2
-refused-requires-2 c κs = search needs
-
 returns-2 : tie.Need-returns-2
 returns-2 c ns n body =
     rw (c .before .before .if1 .left, lt-ltb 64 _ (c .before .if2 .taken)) (c .refused2 .ensures)
-
-nodes-from-requires : tie.Need-nodes-from-requires
-nodes-from-requires c κs = search needs
 
 returns-3 : tie.Need-returns-3
 returns-3 c ns n body =
@@ -29,4 +20,4 @@ returns-3 c ns n body =
 
 pub finished-spec : {M : Type 1} → statement M
 finished-spec =
-    tie.close (tie.spec refused-requires returns refused-requires-2 returns-2 nodes-from-requires returns-3)
+    tie.close (tie.spec (λ c κs. search needs) returns (λ c κs. search needs) returns-2 (λ c κs. search needs) returns-3)

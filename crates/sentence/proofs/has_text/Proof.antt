@@ -1,81 +1,18 @@
 -- `has_text` meets its contract: in each arm the node is the arm's.
 -- Assumes nothing.
-use mathlib.Core.Path.{_≡_, sym, ap}
+use mathlib.Core.Path.{sym, ap}
 use Rattle.sentence.specs.Writing.{writable}
 use borrow.Author.Needs.{needs}
 use Rattle.sentence.proofs.has_text.Statement.{statement}
 use Rattle.sentence.proofs.has_text.Tie as tie
 
-enum-told : tie.Need-enum-told
-enum-told c = search needs
-
-enum-known-node : tie.Need-enum-known-node
-enum-known-node c = search needs
-
-enum-told-2 : tie.Need-enum-told-2
-enum-told-2 c = search needs
-
-enum-told-3 : tie.Need-enum-told-3
-enum-told-3 c = search needs
-
-enum-told-4 : tie.Need-enum-told-4
-enum-told-4 c = search needs
-
-enum-told-5 : tie.Need-enum-told-5
-enum-told-5 c = search needs
-
-enum-known-node-2 : tie.Need-enum-known-node-2
-enum-known-node-2 c = search needs
-
-enum-told-6 : tie.Need-enum-told-6
-enum-told-6 c = search needs
-
-enum-told-7 : tie.Need-enum-told-7
-enum-told-7 c = search needs
-
-enum-told-8 : tie.Need-enum-told-8
-enum-told-8 c = search needs
-
-enum-told-9 : tie.Need-enum-told-9
-enum-told-9 c = search needs
-
-enum-known-node-3 : tie.Need-enum-known-node-3
-enum-known-node-3 c = search needs
-
-returns : tie.Need-returns
-returns c = search needs
-
 returns-2 : tie.Need-returns-2
 returns-2 c =
     sym (ap writable (c .before .node .given .1))
 
-returns-3 : tie.Need-returns-3
-returns-3 c = search needs
-
-returns-4 : tie.Need-returns-4
-returns-4 c = search needs
-
-returns-5 : tie.Need-returns-5
-returns-5 c = search needs
-
-returns-6 : tie.Need-returns-6
-returns-6 c = search needs
-
 returns-7 : tie.Need-returns-7
 returns-7 c =
     sym (ap writable (c .before .node2 .given .1))
-
-returns-8 : tie.Need-returns-8
-returns-8 c = search needs
-
-returns-9 : tie.Need-returns-9
-returns-9 c = search needs
-
-returns-10 : tie.Need-returns-10
-returns-10 c = search needs
-
-returns-11 : tie.Need-returns-11
-returns-11 c = search needs
 
 returns-12 : tie.Need-returns-12
 returns-12 c =
@@ -85,27 +22,27 @@ pub has-text-spec : {M : Type 1} → statement M
 has-text-spec =
     tie.close
     (tie.spec
-    enum-told
-    enum-known-node
-    enum-told-2
-    enum-told-3
-    enum-told-4
-    enum-told-5
-    enum-known-node-2
-    enum-told-6
-    enum-told-7
-    enum-told-8
-    enum-told-9
-    enum-known-node-3
-    returns
+    (λ c. search needs)
+    (λ c. search needs)
+    (λ c. search needs)
+    (λ c. search needs)
+    (λ c. search needs)
+    (λ c. search needs)
+    (λ c. search needs)
+    (λ c. search needs)
+    (λ c. search needs)
+    (λ c. search needs)
+    (λ c. search needs)
+    (λ c. search needs)
+    (λ c. search needs)
     returns-2
-    returns-3
-    returns-4
-    returns-5
-    returns-6
+    (λ c. search needs)
+    (λ c. search needs)
+    (λ c. search needs)
+    (λ c. search needs)
     returns-7
-    returns-8
-    returns-9
-    returns-10
-    returns-11
+    (λ c. search needs)
+    (λ c. search needs)
+    (λ c. search needs)
+    (λ c. search needs)
     returns-12)

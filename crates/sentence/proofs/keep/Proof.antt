@@ -5,11 +5,8 @@ use borrow.Author.Needs.{needs}
 use Rattle.sentence.proofs.keep.Statement.{statement}
 use Rattle.sentence.proofs.keep.Tie as tie
 
-add-t4 : tie.Need-add-t4
-add-t4 c = search needs
-
 returns : tie.Need-returns
 returns c = refl
 
 pub keep-spec : {M : Type 1} → statement M
-keep-spec = tie.close (tie.spec add-t4 returns)
+keep-spec = tie.close (tie.spec (λ c. search needs) returns)

@@ -1,48 +1,12 @@
 -- `label` meets its contract: a digit 1..4 follows the letter, or none does.
 -- Assumes nothing.
-use Prim.Native.Nat.{ℕ, _+_, _-_}
-use mathlib.Core.List.{[], _∷_}
-use mathlib.Core.Logic.{_⊎_, ⊎-elim, inl, inr}
-use mathlib.Core.Path.{_≡_, refl, sym, _∙_}
+use mathlib.Core.Logic.{⊎-elim, inl, inr}
+use mathlib.Core.Path.{sym}
 use native.Mathlib.Omega.{arith}
-use borrow.Author.Tests.{not-true, not-false}
-use lib.ListN.{length, getD}
-use Rattle.sentence.specs.declared.Kind.the-variants.{State, Expression, Path}
-use Rattle.sentence.specs.declared.Node.the-variants.{Label, Constant, Until}
 use Rattle.sentence.proofs.NodeAt.{label-read, label-none}
 use borrow.Author.Needs.{needs}
 use Rattle.sentence.proofs.label.Statement.{statement}
 use Rattle.sentence.proofs.label.Tie as tie
-
-byte-at-requires : tie.Need-byte-at-requires
-byte-at-requires c κs = search needs
-
-add-byte-at : tie.Need-add-byte-at
-add-byte-at c = search needs
-
-byte-at-requires-2 : tie.Need-byte-at-requires-2
-byte-at-requires-2 c κs = search needs
-
-sub-label : tie.Need-sub-label
-sub-label c = search needs
-
-sub-variable : tie.Need-sub-variable
-sub-variable c = search needs
-
-add-passed : tie.Need-add-passed
-add-passed c = search needs
-
-is-fault-requires : tie.Need-is-fault-requires
-is-fault-requires c κs = search needs
-
-passed-requires : tie.Need-passed-requires
-passed-requires c κs = search needs
-
-add-stopped : tie.Need-add-stopped
-add-stopped c = search needs
-
-stopped-requires : tie.Need-stopped-requires
-stopped-requires c κs = search needs
 
 returns : tie.Need-returns
 returns c =
@@ -66,15 +30,15 @@ pub label-spec : {M : Type 1} → statement M
 label-spec =
     tie.close
     (tie.spec
-    byte-at-requires
-    add-byte-at
-    byte-at-requires-2
-    sub-label
-    sub-variable
-    add-passed
-    is-fault-requires
-    passed-requires
-    add-stopped
-    stopped-requires
+    (λ c κs. search needs)
+    (λ c. search needs)
+    (λ c κs. search needs)
+    (λ c. search needs)
+    (λ c. search needs)
+    (λ c. search needs)
+    (λ c κs. search needs)
+    (λ c κs. search needs)
+    (λ c. search needs)
+    (λ c κs. search needs)
     returns
     returns-2)

@@ -1,7 +1,7 @@
 -- `node_at` meets its contract: each byte is a case of Found.
 -- Assumes nothing.
-use mathlib.Core.Logic.{_⊎_, inl, inr}
-use mathlib.Core.Path.{_≡_, refl, sym, _∙_}
+use mathlib.Core.Logic.{inl, inr}
+use mathlib.Core.Path.{refl, sym, _∙_}
 use native.Mathlib.Omega.{arith}
 use borrow.Author.Tests.{lt-leb, ne-eqb}
 use Rattle.sentence.specs.declared.Relation.the-variants.{Less, AtMost, Equal, AtLeast, Greater}
@@ -12,28 +12,10 @@ use borrow.Author.Needs.{needs}
 use Rattle.sentence.proofs.node_at.Statement.{statement}
 use Rattle.sentence.proofs.node_at.Tie as tie
 
-single-requires : tie.Need-single-requires
-single-requires c κs = search needs
-
 returns : tie.Need-returns
 returns c =
     let a = c .before .before .before .args in
     found-over (a .text .now) (a .at) (c .single .result) (c .before .if1 .taken) (c .single .ensures)
-
-byte-at-requires : tie.Need-byte-at-requires
-byte-at-requires c κs = search needs
-
-add-next : tie.Need-add-next
-add-next c = search needs
-
-byte-at-requires-2 : tie.Need-byte-at-requires-2
-byte-at-requires-2 c κs = search needs
-
-add-label-of : tie.Need-add-label-of
-add-label-of c = search needs
-
-label-of-requires : tie.Need-label-of-requires
-label-of-requires c κs = search needs
 
 returns-2 : tie.Need-returns-2
 returns-2 c =
@@ -42,58 +24,13 @@ returns-2 c =
     let d = c .before .byte-at2 in
     found-label (a .text .now) (a .at) (b .result) (d .result) (c .label-of .result) (c .before .before .before .before .if1 .left) (b .ensures) (c .before .before .if2 .taken) (d .ensures) (c .label-of .ensures)
 
-single-requires-2 : tie.Need-single-requires-2
-single-requires-2 c κs = search needs
-
-single-requires-3 : tie.Need-single-requires-3
-single-requires-3 c κs = search needs
-
-single-requires-4 : tie.Need-single-requires-4
-single-requires-4 c κs = search needs
-
-comparison-requires : tie.Need-comparison-requires
-comparison-requires c κs = search needs
-
-comparison-requires-2 : tie.Need-comparison-requires-2
-comparison-requires-2 c κs = search needs
-
-comparison-requires-3 : tie.Need-comparison-requires-3
-comparison-requires-3 c κs = search needs
-
-comparison-requires-4 : tie.Need-comparison-requires-4
-comparison-requires-4 c κs = search needs
-
-comparison-requires-5 : tie.Need-comparison-requires-5
-comparison-requires-5 c κs = search needs
-
-single-requires-5 : tie.Need-single-requires-5
-single-requires-5 c κs = search needs
-
-single-requires-6 : tie.Need-single-requires-6
-single-requires-6 c κs = search needs
-
-single-requires-7 : tie.Need-single-requires-7
-single-requires-7 c κs = search needs
-
-single-requires-8 : tie.Need-single-requires-8
-single-requires-8 c κs = search needs
-
-single-requires-9 : tie.Need-single-requires-9
-single-requires-9 c κs = search needs
-
 two-numbers-requires : tie.Need-two-numbers-requires
 two-numbers-requires c κs =
     ((inl (omega arith), omega arith), (inr (omega arith), omega arith))
 
-constant-of-requires : tie.Need-constant-of-requires
-constant-of-requires c κs = search needs
-
 two-numbers-requires-2 : tie.Need-two-numbers-requires-2
 two-numbers-requires-2 c κs =
     ((inl (omega arith), omega arith), (inr (omega arith), omega arith))
-
-until-of-requires : tie.Need-until-of-requires
-until-of-requires c κs = search needs
 
 returns-3 : tie.Need-returns-3
 unfolding decode
@@ -211,31 +148,31 @@ pub node-at-spec : {M : Type 1} → statement M
 node-at-spec =
     tie.close
     (tie.spec
-    single-requires
+    (λ c κs. search needs)
     returns
-    byte-at-requires
-    add-next
-    byte-at-requires-2
-    add-label-of
-    label-of-requires
+    (λ c κs. search needs)
+    (λ c. search needs)
+    (λ c κs. search needs)
+    (λ c. search needs)
+    (λ c κs. search needs)
     returns-2
-    single-requires-2
-    single-requires-3
-    single-requires-4
-    comparison-requires
-    comparison-requires-2
-    comparison-requires-3
-    comparison-requires-4
-    comparison-requires-5
-    single-requires-5
-    single-requires-6
-    single-requires-7
-    single-requires-8
-    single-requires-9
+    (λ c κs. search needs)
+    (λ c κs. search needs)
+    (λ c κs. search needs)
+    (λ c κs. search needs)
+    (λ c κs. search needs)
+    (λ c κs. search needs)
+    (λ c κs. search needs)
+    (λ c κs. search needs)
+    (λ c κs. search needs)
+    (λ c κs. search needs)
+    (λ c κs. search needs)
+    (λ c κs. search needs)
+    (λ c κs. search needs)
     two-numbers-requires
-    constant-of-requires
+    (λ c κs. search needs)
     two-numbers-requires-2
-    until-of-requires
+    (λ c κs. search needs)
     returns-3
     returns-4
     returns-5

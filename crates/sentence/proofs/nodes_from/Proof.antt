@@ -1,7 +1,6 @@
 -- `nodes_from` meets its contract: the places are filled from the front, by the laws of Found.
 -- Assumes nothing.
 use Prim.Native.Nat.{_-_}
-use mathlib.Core.Path.{_≡_}
 use native.Mathlib.Omega.{arith}
 use Rattle.sentence.proofs.Found.{Filled, filled-none, filled-next, filled-all}
 use borrow.Author.Needs.{needs}
@@ -14,29 +13,14 @@ Inv-loop text at count nodes₀ next₀ i₀ nodes next i = Filled text at count
 abbrev μ-loop : tie.MeasureT-loop
 μ-loop text at count nodes₀ next₀ i₀ nodes next i = count - i
 
-no-slots-requires : tie.Need-no-slots-requires Inv-loop μ-loop
-no-slots-requires c κs = search needs
-
 loop-holds : tie.Need-loop-holds Inv-loop μ-loop
 loop-holds c =
     let s = c .before .before in
     filled-none (s .args .text .now) (s .args .at) (s .args .count) (c .no-slots .result) (s .pre) (c .no-slots .ensures)
 
-node-at-requires : tie.Need-node-at-requires Inv-loop μ-loop
-node-at-requires c κs = search needs
-
-mul-nodes : tie.Need-mul-nodes Inv-loop μ-loop
-mul-nodes c = search needs
-
 array-set-from-nodes : tie.Need-array-set-from-nodes Inv-loop μ-loop
 array-set-from-nodes c =
     omega (arith, c .before .before .loop .inv .long, c .before .loop-test .taken, c .before .before .before .before .before .pre)
-
-add-i : tie.Need-add-i Inv-loop μ-loop
-add-i c = search needs
-
-loop-less : tie.Need-loop-less Inv-loop μ-loop
-loop-less c = search needs
 
 loop-again : tie.Need-loop-again Inv-loop μ-loop
 loop-again c =
@@ -54,12 +38,12 @@ nodes-from-spec =
     (tie.spec
     Inv-loop
     μ-loop
-    no-slots-requires
+    (λ c κs. search needs)
     loop-holds
-    node-at-requires
-    mul-nodes
+    (λ c κs. search needs)
+    (λ c. search needs)
     array-set-from-nodes
-    add-i
-    loop-less
+    (λ c. search needs)
+    (λ c. search needs)
     loop-again
     returns)

@@ -1,28 +1,22 @@
 -- `number` meets its contract: each first byte is a case of NumberAt.
 -- Assumes nothing.
-use Prim.Native.Nat.{ℕ, _+_, _-_, _*_, _≤_, _<_}
-use mathlib.Core.Logic.{_⊎_, ⊎-elim, inl, inr}
-use mathlib.Core.Path.{_≡_, sym, _∙_}
+use Prim.Native.Nat.{_+_, _<_}
+use mathlib.Core.Logic.{⊎-elim, inl, inr}
+use mathlib.Core.Path.{sym, _∙_}
 use native.Mathlib.Omega.{arith}
 use borrow.Author.Needs.{needs}
-use lib.ListN.{length, getD}
+use lib.ListN.{length}
 use Rattle.sentence.specs.Reading.{NoDigit}
 use Rattle.sentence.proofs.Places.{inside}
 use Rattle.sentence.proofs.NumberAt.{zero-closed, zero-open, digit-first, no-first}
 use Rattle.sentence.proofs.number.Statement.{statement}
 use Rattle.sentence.proofs.number.Tie as tie
 
-byte-at-requires : tie.Need-byte-at-requires
-byte-at-requires c κs = search needs
-
 add-byte-at : tie.Need-add-byte-at
 add-byte-at c =
     let s = c .before .before .before in
     let h : s .args .at < length (s .args .text .now) = inside (s .args .text .now) (s .args .at) (omega (arith, c .before .byte-at .ensures, c .match .keys1)) in
     omega (arith, s .good .0 .0)
-
-byte-at-requires-2 : tie.Need-byte-at-requires-2
-byte-at-requires-2 c κs = search needs
 
 add-t9 : tie.Need-add-t9
 add-t9 c =
@@ -35,23 +29,11 @@ returns c =
     let s = c .before .before .before .before .before in
     zero-closed (s .args .text .now) (s .args .at) (s .args .close) (sym (c .before .before .before .byte-at .ensures) ∙ c .before .before .match .keys1) (sym (c .before .byte-at2 .ensures) ∙ c .if1 .taken) (s .pre .1)
 
-no-number-requires : tie.Need-no-number-requires
-no-number-requires c κs = search needs
-
 add-more-digits : tie.Need-add-more-digits
 add-more-digits c =
     let s = c .before .before .before .before .before in
     let h : s .args .at < length (s .args .text .now) = inside (s .args .text .now) (s .args .at) (omega (arith, c .before .before .before .byte-at .ensures, c .before .if2 .left)) in
     omega (arith, s .good .0 .0)
-
-digit-of-requires : tie.Need-digit-of-requires
-digit-of-requires c κs = search needs
-
-more-digits-requires : tie.Need-more-digits-requires
-more-digits-requires c κs = search needs
-
-no-number-requires-2 : tie.Need-no-number-requires-2
-no-number-requires-2 c κs = search needs
 
 returns-2 : tie.Need-returns-2
 returns-2 c =
@@ -76,16 +58,16 @@ pub number-spec : {M : Type 1} → statement M
 number-spec =
     tie.close
     (tie.spec
-    byte-at-requires
+    (λ c κs. search needs)
     add-byte-at
-    byte-at-requires-2
+    (λ c κs. search needs)
     add-t9
     returns
-    no-number-requires
+    (λ c κs. search needs)
     add-more-digits
-    digit-of-requires
-    more-digits-requires
-    no-number-requires-2
+    (λ c κs. search needs)
+    (λ c κs. search needs)
+    (λ c κs. search needs)
     returns-2
     returns-3
     returns-4)

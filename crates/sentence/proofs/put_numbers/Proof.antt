@@ -1,20 +1,14 @@
 -- `put_numbers` meets its contract: five writes, one after another.
 -- Assumes nothing.
-use Prim.Native.Nat.{ℕ, suc, _+_, _≤_}
-use mathlib.Core.List.{List, [], _∷_, _++_}
-use mathlib.Core.Path.{_≡_, refl, sym}
+use mathlib.Core.List.{[], _∷_}
+use mathlib.Core.Path.{refl}
 use native.Mathlib.Omega.{arith}
-use lib.ListN.{length}
 use Rattle.sentence.specs.Grammar.{numberText}
-use Rattle.sentence.specs.Writing.{Put}
 use Rattle.sentence.proofs.Numbers.{two-sizes}
 use Rattle.sentence.proofs.Puts.{put-then, put-length}
 use borrow.Author.Needs.{needs}
 use Rattle.sentence.proofs.put_numbers.Statement.{statement}
 use Rattle.sentence.proofs.put_numbers.Tie as tie
-
-put-byte-requires : tie.Need-put-byte-requires
-put-byte-requires c κs = search needs
 
 put-number-requires : tie.Need-put-number-requires
 put-number-requires c κs =
@@ -36,9 +30,6 @@ put-byte-requires-3 c κs =
     let a = c .before .before .before .before .before .before .before .before .before .before .before .before .before .before .before .before .before .before .args in
     omega (arith, c .before .before .before .before .before .before .before .before .before .before .before .before .before .before .before .put-byte .ensures .next, put-length (_ ∷ []) (c .before .before .before .before .before .before .before .before .before .before .before .before .before .before .before .put-byte .ensures), c .before .before .before .before .before .before .before .before .before .before .before .put-number .ensures .next, put-length (numberText (a .a)) (c .before .before .before .before .before .before .before .before .before .before .before .put-number .ensures), c .before .before .before .before .before .before .before .put-byte2 .ensures .next, put-length (_ ∷ []) (c .before .before .before .before .before .before .before .put-byte2 .ensures), c .before .before .before .put-number2 .ensures .next, put-length (numberText (a .b)) (c .before .before .before .put-number2 .ensures), two-sizes (a .a) (a .b) (a .middle) (a .close) _ _ refl refl, c .before .before .before .before .before .before .before .before .before .before .before .before .before .before .before .before .before .before .pre .2)
 
-same-length : tie.Need-same-length
-same-length c = search needs
-
 returns : tie.Need-returns
 returns c =
     let a = c .before .before .before .before .before .before .before .before .before .before .before .before .before .before .before .before .before .before .before .before .before .args in
@@ -51,10 +42,10 @@ pub put-numbers-spec : {M : Type 1} → statement M
 put-numbers-spec =
     tie.close
     (tie.spec
-    put-byte-requires
+    (λ c κs. search needs)
     put-number-requires
     put-byte-requires-2
     put-number-requires-2
     put-byte-requires-3
-    same-length
+    (λ c. search needs)
     returns)

@@ -1,13 +1,9 @@
 -- `refused` meets its contract.
 -- Assumes nothing.
-use mathlib.Core.Path.{_≡_}
 use Rattle.sentence.specs.Calls.{recordOf}
 use borrow.Author.Needs.{needs}
 use Rattle.sentence.proofs.refused.Statement.{statement}
 use Rattle.sentence.proofs.refused.Tie as tie
-
-no-slots-requires : tie.Need-no-slots-requires
-no-slots-requires c κs = search needs
 
 returns : tie.Need-returns
 unfolding recordOf
@@ -15,4 +11,4 @@ returns c =
     rw (c .no-slots .ensures)
 
 pub refused-spec : {M : Type 1} → statement M
-refused-spec = tie.close (tie.spec no-slots-requires returns)
+refused-spec = tie.close (tie.spec (λ c κs. search needs) returns)

@@ -6,21 +6,6 @@ use Rattle.sentence.specs.Grammar.{relationByte}
 use Rattle.sentence.proofs.relation_byte.Statement.{statement}
 use Rattle.sentence.proofs.relation_byte.Tie as tie
 
-enum-told : tie.Need-enum-told
-enum-told c = search needs
-
-enum-told-2 : tie.Need-enum-told-2
-enum-told-2 c = search needs
-
-enum-told-3 : tie.Need-enum-told-3
-enum-told-3 c = search needs
-
-enum-told-4 : tie.Need-enum-told-4
-enum-told-4 c = search needs
-
-enum-told-5 : tie.Need-enum-told-5
-enum-told-5 c = search needs
-
 returns : tie.Need-returns
 returns c = sym (ap relationByte (c .enum-told .given .1))
 
@@ -40,11 +25,11 @@ pub relation-byte-spec : {M : Type 1} → statement M
 relation-byte-spec =
     tie.close
     (tie.spec
-    enum-told
-    enum-told-2
-    enum-told-3
-    enum-told-4
-    enum-told-5
+    (λ c. search needs)
+    (λ c. search needs)
+    (λ c. search needs)
+    (λ c. search needs)
+    (λ c. search needs)
     returns
     returns-2
     returns-3

@@ -1,22 +1,16 @@
 -- `two_numbers` meets its contract: NumberAt joins what `number` answers.
 -- Assumes nothing.
-use mathlib.Core.Path.{_≡_, refl}
+use mathlib.Core.Path.{refl}
 use borrow.Author.Tests.{not-true, not-false}
 use Rattle.sentence.proofs.NumberAt.{numbers-first, numbers-second, numbers-both}
 use borrow.Author.Needs.{needs}
 use Rattle.sentence.proofs.two_numbers.Statement.{statement}
 use Rattle.sentence.proofs.two_numbers.Tie as tie
 
-number-requires : tie.Need-number-requires
-number-requires c κs = search needs
-
 returns : tie.Need-returns
 returns c =
     let a = c .before .before .before .args in
     numbers-first (a .text .now) (a .at) (a .middle) (a .close) (c .before .number .result) _ (c .before .number .ensures) (not-true _ (c .if1 .taken)) refl
-
-number-requires-2 : tie.Need-number-requires-2
-number-requires-2 c κs = search needs
 
 returns-2 : tie.Need-returns-2
 returns-2 c =
@@ -32,4 +26,4 @@ returns-3 c =
 
 pub two-numbers-spec : {M : Type 1} → statement M
 two-numbers-spec =
-    tie.close (tie.spec number-requires returns number-requires-2 returns-2 returns-3)
+    tie.close (tie.spec (λ c κs. search needs) returns (λ c κs. search needs) returns-2 returns-3)

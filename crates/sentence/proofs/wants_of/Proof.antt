@@ -1,52 +1,10 @@
 -- `wants_of` meets its contract: in each arm the node is the arm's.
 -- Assumes nothing.
-use mathlib.Core.Path.{_≡_, sym, ap}
+use mathlib.Core.Path.{sym, ap}
 use Rattle.sentence.specs.Writing.{wantsOf}
 use borrow.Author.Needs.{needs}
 use Rattle.sentence.proofs.wants_of.Statement.{statement}
 use Rattle.sentence.proofs.wants_of.Tie as tie
-
-enum-told : tie.Need-enum-told
-enum-told c = search needs
-
-enum-told-2 : tie.Need-enum-told-2
-enum-told-2 c = search needs
-
-enum-told-3 : tie.Need-enum-told-3
-enum-told-3 c = search needs
-
-enum-told-4 : tie.Need-enum-told-4
-enum-told-4 c = search needs
-
-enum-told-5 : tie.Need-enum-told-5
-enum-told-5 c = search needs
-
-enum-told-6 : tie.Need-enum-told-6
-enum-told-6 c = search needs
-
-enum-told-7 : tie.Need-enum-told-7
-enum-told-7 c = search needs
-
-enum-told-8 : tie.Need-enum-told-8
-enum-told-8 c = search needs
-
-enum-told-9 : tie.Need-enum-told-9
-enum-told-9 c = search needs
-
-enum-told-10 : tie.Need-enum-told-10
-enum-told-10 c = search needs
-
-enum-told-11 : tie.Need-enum-told-11
-enum-told-11 c = search needs
-
-enum-told-12 : tie.Need-enum-told-12
-enum-told-12 c = search needs
-
-returns : tie.Need-returns
-returns c = search needs
-
-returns-2 : tie.Need-returns-2
-returns-2 c = search needs
 
 returns-3 : tie.Need-returns-3
 returns-3 c = sym (ap wantsOf (c .enum-told3 .given .1))
@@ -59,9 +17,6 @@ returns-5 c = sym (ap wantsOf (c .enum-told5 .given .1))
 
 returns-6 : tie.Need-returns-6
 returns-6 c = sym (ap wantsOf (c .enum-told6 .given .1))
-
-returns-7 : tie.Need-returns-7
-returns-7 c = search needs
 
 returns-8 : tie.Need-returns-8
 returns-8 c = sym (ap wantsOf (c .enum-told8 .given .1))
@@ -82,25 +37,25 @@ pub wants-of-spec : {M : Type 1} → statement M
 wants-of-spec =
     tie.close
     (tie.spec
-    enum-told
-    enum-told-2
-    enum-told-3
-    enum-told-4
-    enum-told-5
-    enum-told-6
-    enum-told-7
-    enum-told-8
-    enum-told-9
-    enum-told-10
-    enum-told-11
-    enum-told-12
-    returns
-    returns-2
+    (λ c. search needs)
+    (λ c. search needs)
+    (λ c. search needs)
+    (λ c. search needs)
+    (λ c. search needs)
+    (λ c. search needs)
+    (λ c. search needs)
+    (λ c. search needs)
+    (λ c. search needs)
+    (λ c. search needs)
+    (λ c. search needs)
+    (λ c. search needs)
+    (λ c. search needs)
+    (λ c. search needs)
     returns-3
     returns-4
     returns-5
     returns-6
-    returns-7
+    (λ c. search needs)
     returns-8
     returns-9
     returns-10

@@ -1,16 +1,15 @@
 -- `write_sentence` meets its contract: what is decided is written. A record's arrays have their lengths by what owning it tells.
 -- Assumes nothing.
-use Prim.Native.Nat.{ℕ, _+_, _≤_}
-use mathlib.Core.List.{List, [], _∷_, map}
-use mathlib.Core.Path.{_≡_, sym, ap, _∙_}
+use mathlib.Core.List.{[], _∷_, map}
+use mathlib.Core.Path.{_≡_}
 use native.Mathlib.Omega.{arith}
-use lib.ListN.{length, length-map, take}
+use lib.ListN.{length, length-map}
 use lib.Seq.{length-take-le}
 use Rattle.sentence.specs.Grammar.{letterByte, bodyText}
 use Rattle.sentence.specs.Calls.{prefixOf, nodesOf}
 use Rattle.sentence.proofs.Puts.{put-then, put-length}
 use Rattle.sentence.proofs.Unique.{all-writable}
-use Rattle.sentence.proofs.WriteAll.{Cleared, cleared, text-length, answer-refused, answer-wrote}
+use Rattle.sentence.proofs.WriteAll.{cleared, text-length, answer-refused, answer-wrote}
 use borrow.Author.Needs.{needs}
 use Rattle.sentence.proofs.write_sentence.Statement.{statement}
 use Rattle.sentence.proofs.write_sentence.Tie as tie
@@ -24,12 +23,6 @@ lengths c =
 decide-requires : tie.Need-decide-requires
 decide-requires c κs =
     lengths (c .before)
-
-enum-known-answer : tie.Need-enum-known-answer
-enum-known-answer c = search needs
-
-enum-known-answer-2 : tie.Need-enum-known-answer-2
-enum-known-answer-2 c = search needs
 
 put-letters-requires : tie.Need-put-letters-requires
 put-letters-requires c κs =
@@ -64,9 +57,6 @@ returns : tie.Need-returns
 returns c =
     answer-refused (c .before .before .before .before .before .args .out .now) (c .before .before .before .decide .ensures) (c .before .answer .given .1)
 
-same-length : tie.Need-same-length
-same-length c = search needs
-
 returns-2 : tie.Need-returns-2
 returns-2 c =
     let s = c .before .before .before .before .before .before .before .before .before .before .before .before .before .before .before .before .before .before .before .args .s in
@@ -78,11 +68,11 @@ write-sentence-spec =
     tie.close
     (tie.spec
     decide-requires
-    enum-known-answer
-    enum-known-answer-2
+    (λ c. search needs)
+    (λ c. search needs)
     put-letters-requires
     put-byte-requires
     put-nodes-requires
     returns
-    same-length
+    (λ c. search needs)
     returns-2)

@@ -1,3 +1,4 @@
+-- `model::rules::mask_right` meets its contract.
 use borrow.Author.Needs.{needs}
 use Rattle.model.proofs.rules.mask_right.Statement.{statement}
 use Rattle.model.proofs.rules.mask_right.Tie as tie
