@@ -1,4 +1,5 @@
 -- The laws that the proofs of the sentence crate share.
+pub mod Arms
 pub mod Numbers
 pub mod Places
 pub mod NumberAt

@@ -124,23 +124,15 @@ pub struct Survey {
     pub fault: bool,
 }
 
-// A node is out of its range, in a sentence of so many letters.
+// A node is out of its range, in a sentence of so many letters: only a node with numbers can be.
 fn is_fault(letters: usize, node: Node) -> bool
     ensures { λ r. ⌜ r ≡ outOfRange letters node ⌝ }
 {
     match node {
-        Node::True => false,
         Node::Label { label: _, variable } => letters < variable as usize,
-        Node::Not => false,
-        Node::And => false,
-        Node::Compare(_) => false,
-        Node::Probability => false,
         Node::Constant { top, bottom } => (65535 < top) | (bottom == 0) | (65535 < bottom),
-        Node::Sum => false,
-        Node::Difference => false,
-        Node::Product => false,
-        Node::Next => false,
         Node::Until { from, to } => (to < from) | (60 < to),
+        _ => false,
     }
 }
 
@@ -717,23 +709,15 @@ fn same_kind(a: Kind, b: Kind) -> bool
     }
 }
 
-// The grammar has a text for the node: its letter, its digit, its numbers.
+// The grammar has a text for the node: its letter, its digit, its numbers. A node without any of them always has one.
 fn has_text(node: Node) -> bool
     ensures { λ r. ⌜ r ≡ writable node ⌝ }
 {
     match node {
-        Node::True => true,
         Node::Label { label, variable } => (label < 16) & (1 <= variable) & (variable <= 4),
-        Node::Not => true,
-        Node::And => true,
-        Node::Compare(_) => true,
-        Node::Probability => true,
         Node::Constant { top, bottom } => (top < 100000) & (bottom < 100000),
-        Node::Sum => true,
-        Node::Difference => true,
-        Node::Product => true,
-        Node::Next => true,
         Node::Until { from, to } => (from < 100000) & (to < 100000),
+        _ => true,
     }
 }
 
