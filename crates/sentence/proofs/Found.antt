@@ -4,12 +4,12 @@ use mathlib.Core.List.{List, [], _∷_, _++_, map, tail, append-assoc}
 use mathlib.Core.Path.{_≡_, refl, sym, ap, _∙_, subst}
 use native.Mathlib.Numerals.{add-one}
 use native.Mathlib.Omega.{arith}
-use borrow.Author.Tests.{le-leb}
+use borrow.Author.Tests.{le-leb, lt-leb, ne-eqb}
 use lib.ListN.{length, drop, getD, set, replicate, length-map, length-replicate, length-set, drop-of-length-le}
 use lib.Seq.{sets}
 use Rattle.sentence.specs.Grammar.{numberText, nodeText, Writable, bodyText}
 use Rattle.sentence.specs.Calls.{slot}
-use Rattle.sentence.specs.Reading.{nodeTo, NodeHere, NodesHere, Body, placesOf, NumbersResult}
+use Rattle.sentence.specs.Reading.{operatorNode, nodeTo, NodeHere, NodesHere, Body, placesOf, NumbersResult}
 use Rattle.sentence.specs.Reading.NumbersResult.{numbers}
 use Rattle.sentence.specs.declared.Node.{Node}
 use Rattle.sentence.specs.declared.Node.the-variants.{True, Label}
@@ -43,11 +43,13 @@ found-over t at r l same =
     let gone : drop at t ≡ [] = drop-of-length-le t l in
     subst (NodeHere t at) (sym same) (found-by t at True at (ap decode gone ∙ ap (λ (s : List ℕ). (True, s)) (sym gone)))
 
--- a node of one byte
-pub found-single : (t : List ℕ) (at byte b : ℕ) (n : Node) (r : NodeRead) → ((s : List ℕ) → decode (b ∷ s) ≡ (n, s)) → at < length t → byte ≡ getD t at 0 → byte ≡ b → r ≡ nodeTo n (at + 1) → NodeHere t at r
-found-single t at byte b n r back l e f same =
-    subst (NodeHere t at) (sym same)
-    (found-by t at n (at + 1) (ap decode (here t at l ∙ ap (λ (x : ℕ). x ∷ drop (at + 1) t) (sym e ∙ f)) ∙ back (drop (at + 1) t)))
+-- an operator: a byte below the letters, and none that two numbers follow
+pub found-operator : (t : List ℕ) (at b : ℕ) (n : Node) (r : NodeRead) → at < length t → b ≡ getD t at 0 → b < 97 → (b ≡ 35 → ⊥) → (b ≡ 85 → ⊥) → n ≡ operatorNode b → r ≡ nodeTo n (at + 1) → NodeHere t at r
+unfolding decode
+found-operator t at b n r l e low c u node same =
+    subst (NodeHere t at) (sym (same ∙ ap (λ (m : Node). nodeTo m (at + 1)) node))
+    (found-by t at (operatorNode b) (at + 1)
+    (ap decode (here t at l ∙ ap (λ (x : ℕ). x ∷ drop (at + 1) t) (sym e)) ∙ rw (lt-leb 97 b low, ne-eqb b 35 c, ne-eqb b 85 u) refl))
 
 -- a label
 pub found-label : (t : List ℕ) (at b d : ℕ) (r : NodeRead) → at < length t → b ≡ getD t at 0 → 97 ≤ b → d ≡ getD t (at + 1) 0 → r ≡ nodeTo (Label (b - 97) (d - 48)) (at + 1 + 1) → NodeHere t at r

@@ -10,7 +10,7 @@ use borrow.Author.Tests.{le-leb}
 use lib.Dec.{leb, eqb}
 use Rattle.sentence.specs.Grammar.{numberText, nodeText, Writable, wants, Nests, bodyText}
 use Rattle.sentence.specs.Grammar.Nests.{end, node}
-use Rattle.sentence.specs.Reading.{NoDigit}
+use Rattle.sentence.specs.Reading.{NoDigit, operatorNode}
 use Rattle.sentence.specs.Writing.{AllWritable}
 use Rattle.sentence.specs.declared.Kind.{Kind}
 use Rattle.sentence.specs.declared.Relation.the-variants.{Less, AtMost, Equal, AtLeast, Greater}
@@ -23,28 +23,14 @@ use Rattle.sentence.proofs.Places.{first}
 abbrev pub twoNumbers : (ℕ → ℕ → Node) → List ℕ → Node × List ℕ
 twoNumbers make t = (make (scan 0 t .0) (scan 0 (tail (scan 0 t .1)) .0), tail (scan 0 (tail (scan 0 t .1)) .1))
 
--- the node at the front of a text by its first byte, and the text after it
-abbrev pub operator : ℕ → List ℕ → Node × List ℕ
-operator b t =
-    cond (eqb b 84) (True, t)
-    (cond (eqb b 33) (Not, t)
-    (cond (eqb b 38) (And, t)
-    (cond (eqb b 60) (Compare Less, t)
-    (cond (eqb b 76) (Compare AtMost, t)
-    (cond (eqb b 61) (Compare Equal, t)
-    (cond (eqb b 71) (Compare AtLeast, t)
-    (cond (eqb b 62) (Compare Greater, t)
-    (cond (eqb b 80) (Probability, t)
-    (cond (eqb b 43) (Sum, t)
-    (cond (eqb b 45) (Difference, t)
-    (cond (eqb b 42) (Product, t)
-    (cond (eqb b 88) (Next, t)
-    (cond (eqb b 35) (twoNumbers Constant t)
-    (twoNumbers Until t))))))))))))))
-
+-- the node at the front of a text, by its first byte, and the text after it
 unfoldable pub decode : List ℕ → Node × List ℕ
 decode [] = (True, [])
-decode (b ∷ t) = cond (leb 97 b) (Label (b - 97) (first t - 48), tail t) (operator b t)
+decode (b ∷ t) =
+    cond (leb 97 b) (Label (b - 97) (first t - 48), tail t)
+    (cond (eqb b 35) (twoNumbers Constant t)
+    (cond (eqb b 85) (twoNumbers Until t)
+    (operatorNode b, t)))
 
 -- two numbers are read back
 two-numbers : (make : ℕ → ℕ → Node) (a b c d : ℕ) (s : List ℕ) → a < 100000 → b < 100000 → NoDigit c → NoDigit d

@@ -5,7 +5,7 @@ use mathlib.Core.Bool.{Bool, true, false, _||_, cond}
 use mathlib.Core.List.{List, [], _∷_, _++_, map}
 use mathlib.Core.Logic.{_⊎_}
 use mathlib.Core.Path.{_≡_}
-use lib.Dec.{ltb}
+use lib.Dec.{ltb, eqb}
 use lib.ListN.{length, drop, replicate}
 use lib.Seq.{sets}
 use Rattle.sentence.specs.Grammar.{numberText, Nests, nodeText, Writable, kindOf, wants, bodyText, letterByte, outOfRange}
@@ -13,8 +13,9 @@ use Rattle.refusal.specs.declared.Outcome.the-variants.{Done, Refused}
 use Rattle.sentence.specs.Calls.{slot, recordOf}
 use Rattle.sentence.specs.Writing.{AllWritable}
 use Rattle.sentence.specs.declared.Kind.{Kind}
+use Rattle.sentence.specs.declared.Relation.the-variants.{Less, AtMost, Equal, AtLeast, Greater}
 use Rattle.sentence.specs.declared.Node.{Node}
-use Rattle.sentence.specs.declared.Node.the-variants.{True}
+use Rattle.sentence.specs.declared.Node.the-variants.{True, Not, And, Compare, Probability, Sum, Difference, Product, Next}
 use Rattle.sentence.specs.declared.Slot.{Slot}
 use Rattle.sentence.specs.declared.Kept.{Kept}
 use Rattle.sentence.specs.declared.Progress.{Progress}
@@ -103,6 +104,23 @@ pub data NumbersResult (t : List ℕ) (at middle close : ℕ) (r : NumbersRead) 
 pub data PrefixResult (t : List ℕ) (at : ℕ) (flags : List Bool) (r : PrefixRead) : Type 0 where
   prefix : (qs : List Bool) → r .ok ≡ true → 1 ≤ at + length qs → at + length qs ≤ 4 → drop at t ≡ map letterByte qs ++ 46 ∷ drop (r .next) t → r .next ≤ length t → r .letters ≡ at + length qs → r .exists ≡ sets flags at qs → PrefixResult t at flags r
   none : r .ok ≡ false → ((qs : List Bool) (rest : List ℕ) → 1 ≤ at + length qs → at + length qs ≤ 4 → drop at t ≡ map letterByte qs ++ 46 ∷ rest → ⊥) → PrefixResult t at flags r
+
+-- the node of an operator's byte; of another byte it means nothing
+abbrev pub operatorNode : ℕ → Node
+operatorNode b =
+    cond (eqb b 84) True
+    (cond (eqb b 33) Not
+    (cond (eqb b 38) And
+    (cond (eqb b 60) (Compare Less)
+    (cond (eqb b 76) (Compare AtMost)
+    (cond (eqb b 61) (Compare Equal)
+    (cond (eqb b 71) (Compare AtLeast)
+    (cond (eqb b 62) (Compare Greater)
+    (cond (eqb b 80) Probability
+    (cond (eqb b 43) Sum
+    (cond (eqb b 45) Difference
+    (cond (eqb b 42) Product
+    Next)))))))))))
 
 -- a node that was read up to the place `next`
 abbrev pub nodeTo : Node → ℕ → NodeRead

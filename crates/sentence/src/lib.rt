@@ -7,7 +7,7 @@ ghost use mathlib.Core.Path.{_≡_};
 ghost use lib.ListN.{length, take, drop, getD, replicate, set};
 ghost use Rattle.sentence.specs.Grammar.{numberText, nodeText, bodyText, relationByte, letterByte, Writable, kindOf, outOfRange};
 ghost use Rattle.sentence.specs.Calls.{ReadAnswer, WriteAnswer, slot};
-ghost use Rattle.sentence.specs.Reading.{begunAt, refusal, Finished, keepBad, passedTo, stoppedAt, nodeTo, NodeHere, NodesHere, Inside, Reads, NodeReads, NoDigit, Closing, NumberResult, NumbersResult, PrefixResult};
+ghost use Rattle.sentence.specs.Reading.{begunAt, refusal, Finished, keepBad, passedTo, stoppedAt, operatorNode, nodeTo, NodeHere, NodesHere, Inside, Reads, NodeReads, NoDigit, Closing, NumberResult, NumbersResult, PrefixResult};
 ghost use Rattle.sentence.specs.Writing.{listed, wantsOf, sameKind, writable, Fits, Surveyed, Decision, Put, numbersText, AllWritable};
 use refusal::Outcome;
 use refusal::Written;
@@ -473,11 +473,25 @@ fn single(node: Node, next: usize) -> NodeRead
     NodeRead { node, next }
 }
 
-// A comparison.
-fn comparison(relation: Relation, next: usize) -> NodeRead
-    ensures { λ r. ⌜ r ≡ nodeTo (Node.Compare relation) next ⌝ }
+// The node of an operator's byte. Of another byte, what is answered means nothing.
+fn operator_node(b: u8) -> Node
+    ensures { λ r. ⌜ r ≡ operatorNode b ⌝ }
 {
-    single(Node::Compare(relation), next)
+    match b {
+        b'T' => Node::True,
+        b'!' => Node::Not,
+        b'&' => Node::And,
+        b'<' => Node::Compare(Relation::Less),
+        b'L' => Node::Compare(Relation::AtMost),
+        b'=' => Node::Compare(Relation::Equal),
+        b'G' => Node::Compare(Relation::AtLeast),
+        b'>' => Node::Compare(Relation::Greater),
+        b'P' => Node::Probability,
+        b'+' => Node::Sum,
+        b'-' => Node::Difference,
+        b'*' => Node::Product,
+        _ => Node::Next,
+    }
 }
 
 // The label of a letter and a digit.
@@ -521,21 +535,9 @@ fn node_at(text: &[u8], at: usize) -> NodeRead
         return label_of(b, byte_at(text, next), next + 1);
     }
     match b {
-        b'T' => single(Node::True, next),
-        b'!' => single(Node::Not, next),
-        b'&' => single(Node::And, next),
-        b'<' => comparison(Relation::Less, next),
-        b'L' => comparison(Relation::AtMost, next),
-        b'=' => comparison(Relation::Equal, next),
-        b'G' => comparison(Relation::AtLeast, next),
-        b'>' => comparison(Relation::Greater, next),
-        b'P' => single(Node::Probability, next),
-        b'+' => single(Node::Sum, next),
-        b'-' => single(Node::Difference, next),
-        b'*' => single(Node::Product, next),
-        b'X' => single(Node::Next, next),
         b'#' => constant_of(two_numbers(text, next, b'/', b';')),
-        _ => until_of(two_numbers(text, next, b',', b':')),
+        b'U' => until_of(two_numbers(text, next, b',', b':')),
+        _ => single(operator_node(b), next),
     }
 }
 
