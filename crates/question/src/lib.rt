@@ -22,18 +22,8 @@ fn label_right(node: Node, a: u8) -> bool
     ensures { λ r. ⌜ r ≡ labelRight a node ⌝ }
 {
     match node {
-        Node::True => true,
         Node::Label { label, variable: _ } => label < a,
-        Node::Not => true,
-        Node::And => true,
-        Node::Compare(_) => true,
-        Node::Probability => true,
-        Node::Constant { top: _, bottom: _ } => true,
-        Node::Sum => true,
-        Node::Difference => true,
-        Node::Product => true,
-        Node::Next => true,
-        Node::Until { from: _, to: _ } => true,
+        _ => true,
     }
 }
 
