@@ -258,9 +258,3 @@ module _ {nodes : List Slot} {g : Setting} {masks : List ℕ} {rows : List (List
     pub product-done : nodeAt nodes at ≡ ProductNode → CombinedDone Product nodes g masks rows (at + 1) after r →
         ExpressionDone nodes g masks rows at after r
     product-done e done = operation-done Product ProductNode e (λ a q it. it) done
-
-  -- no expression stands at a node of another kind
-  pub no-expression : (n : Node) → nodeAt nodes at ≡ n →
-      ((a : Expression) (q : ℕ) → ExpressionCase nodes at n a q → ⊥) → {after : List ℕ} {r : Valued} →
-      ExpressionDone nodes g masks rows at after r
-  no-expression n e none = expression-done n e (λ c a q fixed it fits. absurd (none a q it))

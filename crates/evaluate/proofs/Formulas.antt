@@ -240,8 +240,3 @@ module _ {nodes : List Slot} {g : Setting} {masks : List ℕ} {rows : List (List
             (compare-layer c (fixed .held .sound) (tuple-count fixed) (it .1) (it .2) (small .0) (small .1) (h .3)
             (h .4) x w₂),
       ))
-
-  -- no state formula stands at a node of another kind
-  pub no-formula : (n : Node) → nodeAt nodes at ≡ n → ((f : Formula) (q : ℕ) → FormulaCase nodes at n f q → ⊥) →
-      {after : List ℕ} {r : ℕ} → FormulaDone nodes g masks rows at after r
-  no-formula n e none = formula-done n e (λ c f q fixed it fits. absurd (none f q it))

@@ -5,6 +5,7 @@ pub mod Needing
 pub mod Fixing
 pub mod Swapping
 pub mod Operands
+pub mod Others
 pub mod Formulas
 pub mod Expressions
 pub mod Pathways

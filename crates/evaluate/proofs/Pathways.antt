@@ -235,8 +235,3 @@ module _ {nodes : List Slot} {g : Setting} {masks : List ℕ} {rows : List (List
             (to-chain fixed (until-layer (fixed .held) (it .0) (to-setting fixed (h .1)) (it .1)
             (to-setting fixed (h .2)) (fixed .sums) taken)),
       ))
-
-  -- no path stands at a node of another kind
-  pub no-path : (n : Node) → nodeAt nodes at ≡ n → ((p : PathFormula) (q : ℕ) → PathCase nodes at n p q → ⊥) →
-      {after : List ℕ} {r : Valued} → PathDone nodes g masks rows at after r
-  no-path n e none = path-done n e (λ c p q fixed it fits. absurd (none p q it))

@@ -23,7 +23,7 @@ use layers::until::scaled;
 use sentence::Node;
 use sentence::Slot;
 
-// A state formula: its truth at all tuples.
+// A state formula: its truth at all tuples. Of another node nothing is said.
 pub fn state_formula(
     nodes: [Slot; 64],
     g: Setting,
@@ -61,13 +61,7 @@ pub fn state_formula(
             compare(relation_of(relation), two.first, two.second, g.tuples, work);
             two.next
         }
-        Node::Probability => at,
-        Node::Constant { top: _, bottom: _ } => at,
-        Node::Sum => at,
-        Node::Difference => at,
-        Node::Product => at,
-        Node::Next => at,
-        Node::Until { from: _, to: _ } => at,
+        _ => at,
     }
 }
 
@@ -97,7 +91,7 @@ fn two_formulas(
     next
 }
 
-// An expression: the code of its numerator at all tuples, and its denominator.
+// An expression: the code of its numerator at all tuples, and its denominator. Of another node nothing is said.
 fn expression(
     nodes: [Slot; 64],
     g: Setting,
@@ -123,16 +117,7 @@ fn expression(
         Node::Sum => combined(Operation::Sum, nodes, g, masks, rows, at + 1, work),
         Node::Difference => combined(Operation::Difference, nodes, g, masks, rows, at + 1, work),
         Node::Product => combined(Operation::Product, nodes, g, masks, rows, at + 1, work),
-        Node::True => nothing(at),
-        Node::Label {
-            label: _,
-            variable: _,
-        } => nothing(at),
-        Node::Not => nothing(at),
-        Node::And => nothing(at),
-        Node::Compare(_) => nothing(at),
-        Node::Next => nothing(at),
-        Node::Until { from: _, to: _ } => nothing(at),
+        _ => nothing(at),
     }
 }
 
@@ -199,7 +184,7 @@ fn two_expressions(
     }
 }
 
-// A path: its numerator at all tuples, and its denominator.
+// A path: its numerator at all tuples, and its denominator. Of another node nothing is said.
 pub fn path(
     nodes: [Slot; 64],
     g: Setting,
@@ -230,18 +215,6 @@ pub fn path(
                 bottom: scaled(1, g.d, g.variables * (to as usize)),
             }
         }
-        Node::True => nothing(at),
-        Node::Label {
-            label: _,
-            variable: _,
-        } => nothing(at),
-        Node::Not => nothing(at),
-        Node::And => nothing(at),
-        Node::Compare(_) => nothing(at),
-        Node::Probability => nothing(at),
-        Node::Constant { top: _, bottom: _ } => nothing(at),
-        Node::Sum => nothing(at),
-        Node::Difference => nothing(at),
-        Node::Product => nothing(at),
+        _ => nothing(at),
     }
 }

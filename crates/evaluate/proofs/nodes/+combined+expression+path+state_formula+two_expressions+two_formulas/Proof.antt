@@ -6,18 +6,19 @@ use Rattle.layers.proofs.Tails.{put-back}
 use Rattle.evaluate.proofs.Expressions.{expression-inside, expression-room, probability-ready, sum-ready}
 use Rattle.evaluate.proofs.Expressions.{difference-ready, product-ready}
 use Rattle.evaluate.proofs.Expressions.{combining-ready, bottoms-small, combined-done, probability-done}
-use Rattle.evaluate.proofs.Expressions.{constant-done, sum-done, difference-done, product-done, no-expression}
+use Rattle.evaluate.proofs.Expressions.{constant-done, sum-done, difference-done, product-done}
 use Rattle.evaluate.proofs.Formulas.{formula-inside, formula-room, label-ready, not-ready, and-ready}
 use Rattle.evaluate.proofs.Formulas.{compare-ready, comparing-ready}
-use Rattle.evaluate.proofs.Formulas.{true-done, label-done, not-done, and-done, compare-done, no-formula}
+use Rattle.evaluate.proofs.Formulas.{true-done, label-done, not-done, and-done, compare-done}
 use Rattle.evaluate.proofs.Operands.{formulas-inside, formulas-room, first-formula-whole, second-formula-whole}
 use Rattle.evaluate.proofs.Operands.{first-formula-past, second-formula-past, formulas-in-order}
 use Rattle.evaluate.proofs.Operands.{formulas-crossed}
 use Rattle.evaluate.proofs.Operands.{expressions-inside, expressions-room, first-expression-whole}
 use Rattle.evaluate.proofs.Operands.{second-expression-whole, first-expression-past, second-expression-past}
 use Rattle.evaluate.proofs.Operands.{expressions-in-order, expressions-crossed}
+use Rattle.evaluate.proofs.Others.{no-formula, no-expression, no-path}
 use Rattle.evaluate.proofs.Pathways.{path-inside, next-ready, next-scales, stepping-ready, until-ready}
-use Rattle.evaluate.proofs.Pathways.{until-times, until-scales, taking-ready, next-done, until-done, no-path}
+use Rattle.evaluate.proofs.Pathways.{until-times, until-scales, taking-ready, next-done, until-done}
 use Rattle.evaluate.proofs.Places.{to-operand, to-operands, to-operation, to-each, place-most, next-fits}
 use Rattle.evaluate.proofs.Places.{place-fits, small-fits, times-fit, room-kept, front-kept}
 use Prim.Native.Nat.{ℕ, _+_, _-_, _*_, _<_}
@@ -327,61 +328,9 @@ expression-combined-requires-3 t c κs =
       product-ready (start .pre .1) (c .before .enum-told4 .given .1),
     )
 
-expression-enum-told-5 : (t : ℕ) → expression-lts.Need-enum-told-5 (expression-claims t) (expression-at t)
-    expression.Post
-expression-enum-told-5 t c = search needs
-
 expression-nothing-requires : (t : ℕ) → expression-lts.Need-nothing-requires (expression-claims t) (expression-at t)
     expression.Post
 expression-nothing-requires t c κs = search needs
-
-expression-enum-told-6 : (t : ℕ) → expression-lts.Need-enum-told-6 (expression-claims t) (expression-at t)
-    expression.Post
-expression-enum-told-6 t c = search needs
-
-expression-nothing-requires-2 : (t : ℕ) → expression-lts.Need-nothing-requires-2 (expression-claims t) (expression-at t)
-    expression.Post
-expression-nothing-requires-2 t c κs = search needs
-
-expression-enum-told-7 : (t : ℕ) → expression-lts.Need-enum-told-7 (expression-claims t) (expression-at t)
-    expression.Post
-expression-enum-told-7 t c = search needs
-
-expression-nothing-requires-3 : (t : ℕ) → expression-lts.Need-nothing-requires-3 (expression-claims t) (expression-at t)
-    expression.Post
-expression-nothing-requires-3 t c κs = search needs
-
-expression-enum-told-8 : (t : ℕ) → expression-lts.Need-enum-told-8 (expression-claims t) (expression-at t)
-    expression.Post
-expression-enum-told-8 t c = search needs
-
-expression-nothing-requires-4 : (t : ℕ) → expression-lts.Need-nothing-requires-4 (expression-claims t) (expression-at t)
-    expression.Post
-expression-nothing-requires-4 t c κs = search needs
-
-expression-enum-told-9 : (t : ℕ) → expression-lts.Need-enum-told-9 (expression-claims t) (expression-at t)
-    expression.Post
-expression-enum-told-9 t c = search needs
-
-expression-nothing-requires-5 : (t : ℕ) → expression-lts.Need-nothing-requires-5 (expression-claims t) (expression-at t)
-    expression.Post
-expression-nothing-requires-5 t c κs = search needs
-
-expression-enum-told-10 : (t : ℕ) → expression-lts.Need-enum-told-10 (expression-claims t) (expression-at t)
-    expression.Post
-expression-enum-told-10 t c = search needs
-
-expression-nothing-requires-6 : (t : ℕ) → expression-lts.Need-nothing-requires-6 (expression-claims t) (expression-at t)
-    expression.Post
-expression-nothing-requires-6 t c κs = search needs
-
-expression-enum-told-11 : (t : ℕ) → expression-lts.Need-enum-told-11 (expression-claims t) (expression-at t)
-    expression.Post
-expression-enum-told-11 t c = search needs
-
-expression-nothing-requires-7 : (t : ℕ) → expression-lts.Need-nothing-requires-7 (expression-claims t) (expression-at t)
-    expression.Post
-expression-nothing-requires-7 t c κs = search needs
 
 expression-same-length : (t : ℕ) → expression-lts.Need-same-length (expression-claims t) (expression-at t)
     expression.Post
@@ -425,25 +374,7 @@ expression-returns-5 t c =
     product-done (c .before .before .before .before .enum-told4 .given .1) (c .before .before .combined3 .ensures)
 
 expression-returns-6 : (t : ℕ) → expression-lts.Need-returns-6 (expression-claims t) (expression-at t) expression.Post
-expression-returns-6 t c = no-expression _ (c .before .enum-told5 .given .1) (λ a q it. it)
-
-expression-returns-7 : (t : ℕ) → expression-lts.Need-returns-7 (expression-claims t) (expression-at t) expression.Post
-expression-returns-7 t c = no-expression _ (c .before .enum-told6 .given .1) (λ a q it. it)
-
-expression-returns-8 : (t : ℕ) → expression-lts.Need-returns-8 (expression-claims t) (expression-at t) expression.Post
-expression-returns-8 t c = no-expression _ (c .before .enum-told7 .given .1) (λ a q it. it)
-
-expression-returns-9 : (t : ℕ) → expression-lts.Need-returns-9 (expression-claims t) (expression-at t) expression.Post
-expression-returns-9 t c = no-expression _ (c .before .enum-told8 .given .1) (λ a q it. it)
-
-expression-returns-10 : (t : ℕ) → expression-lts.Need-returns-10 (expression-claims t) (expression-at t) expression.Post
-expression-returns-10 t c = no-expression _ (c .before .enum-told9 .given .1) (λ a q it. it)
-
-expression-returns-11 : (t : ℕ) → expression-lts.Need-returns-11 (expression-claims t) (expression-at t) expression.Post
-expression-returns-11 t c = no-expression _ (c .before .enum-told10 .given .1) (λ a q it. it)
-
-expression-returns-12 : (t : ℕ) → expression-lts.Need-returns-12 (expression-claims t) (expression-at t) expression.Post
-expression-returns-12 t c = no-expression _ (c .before .enum-told11 .given .1) (λ a q it. it)
+expression-returns-6 t c = no-expression (c .before .match .keys6)
 
 path-mul-slot : (t : ℕ) → path-lts.Need-mul-slot (path-claims t) (path-at t) path.Post
 path-mul-slot t c = place-fits (c .before .args .at) (path-inside (c .before .pre .1))
@@ -521,34 +452,7 @@ path-returns-2 t c =
     (c .before .before .before .before .until-within .ensures) (c .scaled2 .ensures)
 
 path-returns-3 : (t : ℕ) → path-lts.Need-returns-3 (path-claims t) (path-at t) path.Post
-path-returns-3 t c = no-path _ (c .before .enum-told2 .given .1) (λ p q it. it)
-
-path-returns-4 : (t : ℕ) → path-lts.Need-returns-4 (path-claims t) (path-at t) path.Post
-path-returns-4 t c = no-path _ (c .before .enum-told3 .given .1) (λ p q it. it)
-
-path-returns-5 : (t : ℕ) → path-lts.Need-returns-5 (path-claims t) (path-at t) path.Post
-path-returns-5 t c = no-path _ (c .before .enum-told4 .given .1) (λ p q it. it)
-
-path-returns-6 : (t : ℕ) → path-lts.Need-returns-6 (path-claims t) (path-at t) path.Post
-path-returns-6 t c = no-path _ (c .before .enum-told5 .given .1) (λ p q it. it)
-
-path-returns-7 : (t : ℕ) → path-lts.Need-returns-7 (path-claims t) (path-at t) path.Post
-path-returns-7 t c = no-path _ (c .before .enum-told6 .given .1) (λ p q it. it)
-
-path-returns-8 : (t : ℕ) → path-lts.Need-returns-8 (path-claims t) (path-at t) path.Post
-path-returns-8 t c = no-path _ (c .before .enum-told7 .given .1) (λ p q it. it)
-
-path-returns-9 : (t : ℕ) → path-lts.Need-returns-9 (path-claims t) (path-at t) path.Post
-path-returns-9 t c = no-path _ (c .before .enum-told8 .given .1) (λ p q it. it)
-
-path-returns-10 : (t : ℕ) → path-lts.Need-returns-10 (path-claims t) (path-at t) path.Post
-path-returns-10 t c = no-path _ (c .before .enum-told9 .given .1) (λ p q it. it)
-
-path-returns-11 : (t : ℕ) → path-lts.Need-returns-11 (path-claims t) (path-at t) path.Post
-path-returns-11 t c = no-path _ (c .before .enum-told10 .given .1) (λ p q it. it)
-
-path-returns-12 : (t : ℕ) → path-lts.Need-returns-12 (path-claims t) (path-at t) path.Post
-path-returns-12 t c = no-path _ (c .before .enum-told11 .given .1) (λ p q it. it)
+path-returns-3 t c = no-path (c .before .match .keys3)
 
 state-formula-mul-slot : (t : ℕ) → state-formula-lts.Need-mul-slot (state-formula-claims t) (state-formula-at t)
     state-formula.Post
@@ -672,34 +576,6 @@ state-formula-compare-requires t c κs =
     comparing-ready (start .pre .1) (node .0 .0) (node .1) (two .ensures) (two .kept .1 .1 .1 .1 .1 .0)
     (relation .result) (relation .ensures)
 
-state-formula-enum-told-4 : (t : ℕ) → state-formula-lts.Need-enum-told-4 (state-formula-claims t) (state-formula-at t)
-    state-formula.Post
-state-formula-enum-told-4 t c = search needs
-
-state-formula-enum-told-5 : (t : ℕ) → state-formula-lts.Need-enum-told-5 (state-formula-claims t) (state-formula-at t)
-    state-formula.Post
-state-formula-enum-told-5 t c = search needs
-
-state-formula-enum-told-6 : (t : ℕ) → state-formula-lts.Need-enum-told-6 (state-formula-claims t) (state-formula-at t)
-    state-formula.Post
-state-formula-enum-told-6 t c = search needs
-
-state-formula-enum-told-7 : (t : ℕ) → state-formula-lts.Need-enum-told-7 (state-formula-claims t) (state-formula-at t)
-    state-formula.Post
-state-formula-enum-told-7 t c = search needs
-
-state-formula-enum-told-8 : (t : ℕ) → state-formula-lts.Need-enum-told-8 (state-formula-claims t) (state-formula-at t)
-    state-formula.Post
-state-formula-enum-told-8 t c = search needs
-
-state-formula-enum-told-9 : (t : ℕ) → state-formula-lts.Need-enum-told-9 (state-formula-claims t) (state-formula-at t)
-    state-formula.Post
-state-formula-enum-told-9 t c = search needs
-
-state-formula-enum-told-10 : (t : ℕ) → state-formula-lts.Need-enum-told-10 (state-formula-claims t) (state-formula-at t)
-    state-formula.Post
-state-formula-enum-told-10 t c = search needs
-
 state-formula-same-length : (t : ℕ) → state-formula-lts.Need-same-length (state-formula-claims t) (state-formula-at t)
     state-formula.Post
 state-formula-same-length t c = search needs
@@ -755,31 +631,7 @@ state-formula-returns-5 t c =
 
 state-formula-returns-6 : (t : ℕ) → state-formula-lts.Need-returns-6 (state-formula-claims t) (state-formula-at t)
     state-formula.Post
-state-formula-returns-6 t c = no-formula _ (c .enum-told4 .given .1) (λ f q it. it)
-
-state-formula-returns-7 : (t : ℕ) → state-formula-lts.Need-returns-7 (state-formula-claims t) (state-formula-at t)
-    state-formula.Post
-state-formula-returns-7 t c = no-formula _ (c .enum-told5 .given .1) (λ f q it. it)
-
-state-formula-returns-8 : (t : ℕ) → state-formula-lts.Need-returns-8 (state-formula-claims t) (state-formula-at t)
-    state-formula.Post
-state-formula-returns-8 t c = no-formula _ (c .enum-told6 .given .1) (λ f q it. it)
-
-state-formula-returns-9 : (t : ℕ) → state-formula-lts.Need-returns-9 (state-formula-claims t) (state-formula-at t)
-    state-formula.Post
-state-formula-returns-9 t c = no-formula _ (c .enum-told7 .given .1) (λ f q it. it)
-
-state-formula-returns-10 : (t : ℕ) → state-formula-lts.Need-returns-10 (state-formula-claims t) (state-formula-at t)
-    state-formula.Post
-state-formula-returns-10 t c = no-formula _ (c .enum-told8 .given .1) (λ f q it. it)
-
-state-formula-returns-11 : (t : ℕ) → state-formula-lts.Need-returns-11 (state-formula-claims t) (state-formula-at t)
-    state-formula.Post
-state-formula-returns-11 t c = no-formula _ (c .enum-told9 .given .1) (λ f q it. it)
-
-state-formula-returns-12 : (t : ℕ) → state-formula-lts.Need-returns-12 (state-formula-claims t) (state-formula-at t)
-    state-formula.Post
-state-formula-returns-12 t c = no-formula _ (c .enum-told10 .given .1) (λ f q it. it)
+state-formula-returns-6 t c = no-formula (c .match .keys6)
 
 two-expressions-survey-requires : (t : ℕ) → two-expressions-lts.Need-survey-requires (two-expressions-claims t)
     (two-expressions-at t) two-expressions.Post
@@ -1121,20 +973,7 @@ pub +combined+expression+path+state-formula+two-expressions+two-formulas-spec :
     (expression-enum-told-4 t)
     (expression-add-combined-3 t)
     (expression-combined-requires-3 t)
-    (expression-enum-told-5 t)
     (expression-nothing-requires t)
-    (expression-enum-told-6 t)
-    (expression-nothing-requires-2 t)
-    (expression-enum-told-7 t)
-    (expression-nothing-requires-3 t)
-    (expression-enum-told-8 t)
-    (expression-nothing-requires-4 t)
-    (expression-enum-told-9 t)
-    (expression-nothing-requires-5 t)
-    (expression-enum-told-10 t)
-    (expression-nothing-requires-6 t)
-    (expression-enum-told-11 t)
-    (expression-nothing-requires-7 t)
     (expression-same-length t)
     (expression-returns t)
     (expression-same-length-2 t)
@@ -1145,13 +984,7 @@ pub +combined+expression+path+state-formula+two-expressions+two-formulas-spec :
     (expression-returns-4 t)
     (expression-same-length-5 t)
     (expression-returns-5 t)
-    (expression-returns-6 t)
-    (expression-returns-7 t)
-    (expression-returns-8 t)
-    (expression-returns-9 t)
-    (expression-returns-10 t)
-    (expression-returns-11 t)
-    (expression-returns-12 t))
+    (expression-returns-6 t))
     (λ t. path-lts.spec (
       state-formula-below t,
       state-formula.Post,
@@ -1182,40 +1015,12 @@ pub +combined+expression+path+state-formula+two-expressions+two-formulas-spec :
     (λ c. search needs)
     (path-mul-scaled t)
     (path-scaled-requires-2 t)
-    (λ c. search needs)
-    (λ c κs. search needs)
-    (λ c. search needs)
-    (λ c κs. search needs)
-    (λ c. search needs)
-    (λ c κs. search needs)
-    (λ c. search needs)
-    (λ c κs. search needs)
-    (λ c. search needs)
-    (λ c κs. search needs)
-    (λ c. search needs)
-    (λ c κs. search needs)
-    (λ c. search needs)
-    (λ c κs. search needs)
-    (λ c. search needs)
-    (λ c κs. search needs)
-    (λ c. search needs)
-    (λ c κs. search needs)
-    (λ c. search needs)
     (λ c κs. search needs)
     (λ c. search needs)
     (path-returns t)
     (λ c. search needs)
     (path-returns-2 t)
-    (path-returns-3 t)
-    (path-returns-4 t)
-    (path-returns-5 t)
-    (path-returns-6 t)
-    (path-returns-7 t)
-    (path-returns-8 t)
-    (path-returns-9 t)
-    (path-returns-10 t)
-    (path-returns-11 t)
-    (path-returns-12 t))
+    (path-returns-3 t))
     (λ t. state-formula-lts.spec (
       always-reads.Asked,
       always-reads.Learnt,
@@ -1259,13 +1064,6 @@ pub +combined+expression+path+state-formula+two-expressions+two-formulas-spec :
     (state-formula-two-expressions-requires t)
     (state-formula-relation-of-requires t)
     (state-formula-compare-requires t)
-    (state-formula-enum-told-4 t)
-    (state-formula-enum-told-5 t)
-    (state-formula-enum-told-6 t)
-    (state-formula-enum-told-7 t)
-    (state-formula-enum-told-8 t)
-    (state-formula-enum-told-9 t)
-    (state-formula-enum-told-10 t)
     (state-formula-same-length t)
     (state-formula-returns t)
     (state-formula-same-length-2 t)
@@ -1276,13 +1074,7 @@ pub +combined+expression+path+state-formula+two-expressions+two-formulas-spec :
     (state-formula-returns-4 t)
     (state-formula-same-length-5 t)
     (state-formula-returns-5 t)
-    (state-formula-returns-6 t)
-    (state-formula-returns-7 t)
-    (state-formula-returns-8 t)
-    (state-formula-returns-9 t)
-    (state-formula-returns-10 t)
-    (state-formula-returns-11 t)
-    (state-formula-returns-12 t))
+    (state-formula-returns-6 t))
     (λ t. two-expressions-lts.spec (
       survey-reads.Asked,
       survey-reads.Learnt,
