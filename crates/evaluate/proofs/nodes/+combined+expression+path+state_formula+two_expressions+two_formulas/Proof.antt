@@ -216,10 +216,6 @@ two-formulas-claims t = (
   swap-reads.Learnt,
 )
 
-combined-two-expressions-requires : (t : ℕ) → combined-lts.Need-two-expressions-requires (combined-claims t)
-    (combined-at t) combined.Post
-combined-two-expressions-requires t c κs = search needs
-
 combined-combine-requires : (t : ℕ) → combined-lts.Need-combine-requires (combined-claims t) (combined-at t)
     combined.Post
 combined-combine-requires t c κs =
@@ -257,14 +253,6 @@ expression-path-requires t c κs =
       probability-ready (start .pre .1) (c .before .enum-told .given .1),
     )
 
-expression-enum-known-node : (t : ℕ) → expression-lts.Need-enum-known-node (expression-claims t) (expression-at t)
-    expression.Post
-expression-enum-known-node t c = search needs
-
-expression-cast-constant : (t : ℕ) → expression-lts.Need-cast-constant (expression-claims t) (expression-at t)
-    expression.Post
-expression-cast-constant t c = search needs
-
 expression-constant-requires : (t : ℕ) → expression-lts.Need-constant-requires (expression-claims t) (expression-at t)
     expression.Post
 expression-constant-requires t c κs = expression-room (c .before .before .before .before .before .before .pre .1)
@@ -273,10 +261,6 @@ expression-add-t25 : (t : ℕ) → expression-lts.Need-add-t25 (expression-claim
 expression-add-t25 t c =
     let start = c .before .before .before .before .before .before .before .before .before in
     next-fits (start .args .at) (expression-inside (start .pre .1))
-
-expression-enum-told-2 : (t : ℕ) → expression-lts.Need-enum-told-2 (expression-claims t) (expression-at t)
-    expression.Post
-expression-enum-told-2 t c = search needs
 
 expression-add-combined : (t : ℕ) → expression-lts.Need-add-combined (expression-claims t) (expression-at t)
     expression.Post
@@ -292,10 +276,6 @@ expression-combined-requires t c κs =
       sum-ready (start .pre .1) (c .before .enum-told2 .given .1),
     )
 
-expression-enum-told-3 : (t : ℕ) → expression-lts.Need-enum-told-3 (expression-claims t) (expression-at t)
-    expression.Post
-expression-enum-told-3 t c = search needs
-
 expression-add-combined-2 : (t : ℕ) → expression-lts.Need-add-combined-2 (expression-claims t) (expression-at t)
     expression.Post
 expression-add-combined-2 t c =
@@ -309,10 +289,6 @@ expression-combined-requires-2 t c κs =
       to-operation (start .args .at) t (expression-inside (start .pre .1)) (start .pre .0),
       difference-ready (start .pre .1) (c .before .enum-told3 .given .1),
     )
-
-expression-enum-told-4 : (t : ℕ) → expression-lts.Need-enum-told-4 (expression-claims t) (expression-at t)
-    expression.Post
-expression-enum-told-4 t c = search needs
 
 expression-add-combined-3 : (t : ℕ) → expression-lts.Need-add-combined-3 (expression-claims t) (expression-at t)
     expression.Post
@@ -328,46 +304,22 @@ expression-combined-requires-3 t c κs =
       product-ready (start .pre .1) (c .before .enum-told4 .given .1),
     )
 
-expression-nothing-requires : (t : ℕ) → expression-lts.Need-nothing-requires (expression-claims t) (expression-at t)
-    expression.Post
-expression-nothing-requires t c κs = search needs
-
-expression-same-length : (t : ℕ) → expression-lts.Need-same-length (expression-claims t) (expression-at t)
-    expression.Post
-expression-same-length t c = search needs
-
 expression-returns : (t : ℕ) → expression-lts.Need-returns (expression-claims t) (expression-at t) expression.Post
 expression-returns t c =
     probability-done (c .before .before .before .before .enum-told .given .1) (c .before .before .path .ensures)
-
-expression-same-length-2 : (t : ℕ) → expression-lts.Need-same-length-2 (expression-claims t) (expression-at t)
-    expression.Post
-expression-same-length-2 t c = search needs
 
 expression-returns-2 : (t : ℕ) → expression-lts.Need-returns-2 (expression-claims t) (expression-at t) expression.Post
 expression-returns-2 t c =
     let node = c .before .before .before .before .before .node .given in
     constant-done (node .0 .0) (node .0 .1 .0) (node .1) (c .before .before .constant .ensures)
 
-expression-same-length-3 : (t : ℕ) → expression-lts.Need-same-length-3 (expression-claims t) (expression-at t)
-    expression.Post
-expression-same-length-3 t c = search needs
-
 expression-returns-3 : (t : ℕ) → expression-lts.Need-returns-3 (expression-claims t) (expression-at t) expression.Post
 expression-returns-3 t c =
     sum-done (c .before .before .before .before .enum-told2 .given .1) (c .before .before .combined .ensures)
 
-expression-same-length-4 : (t : ℕ) → expression-lts.Need-same-length-4 (expression-claims t) (expression-at t)
-    expression.Post
-expression-same-length-4 t c = search needs
-
 expression-returns-4 : (t : ℕ) → expression-lts.Need-returns-4 (expression-claims t) (expression-at t) expression.Post
 expression-returns-4 t c =
     difference-done (c .before .before .before .before .enum-told3 .given .1) (c .before .before .combined2 .ensures)
-
-expression-same-length-5 : (t : ℕ) → expression-lts.Need-same-length-5 (expression-claims t) (expression-at t)
-    expression.Post
-expression-same-length-5 t c = search needs
 
 expression-returns-5 : (t : ℕ) → expression-lts.Need-returns-5 (expression-claims t) (expression-at t) expression.Post
 expression-returns-5 t c =
@@ -462,10 +414,6 @@ state-formula-array-copy-out-slot : (t : ℕ) → state-formula-lts.Need-array-c
     (state-formula-at t) state-formula.Post
 state-formula-array-copy-out-slot t c = formula-inside (c .before .pre .1)
 
-state-formula-enum-told : (t : ℕ) → state-formula-lts.Need-enum-told (state-formula-claims t) (state-formula-at t)
-    state-formula.Post
-state-formula-enum-told t c = search needs
-
 state-formula-always-requires : (t : ℕ) → state-formula-lts.Need-always-requires (state-formula-claims t)
     (state-formula-at t) state-formula.Post
 state-formula-always-requires t c κs = formula-room (c .before .before .before .before .before .pre .1)
@@ -475,10 +423,6 @@ state-formula-add-result : (t : ℕ) → state-formula-lts.Need-add-result (stat
 state-formula-add-result t c =
     let start = c .before .before .before .before .before .before .before .before in
     next-fits (start .args .at) (formula-inside (start .pre .1))
-
-state-formula-enum-known-node : (t : ℕ) → state-formula-lts.Need-enum-known-node (state-formula-claims t)
-    (state-formula-at t) state-formula.Post
-state-formula-enum-known-node t c = search needs
 
 state-formula-label-requires : (t : ℕ) → state-formula-lts.Need-label-requires (state-formula-claims t)
     (state-formula-at t) state-formula.Post
@@ -492,10 +436,6 @@ state-formula-add-result-2 : (t : ℕ) → state-formula-lts.Need-add-result-2 (
 state-formula-add-result-2 t c =
     let start = c .before .before .before .before .before .before .before .before .before in
     next-fits (start .args .at) (formula-inside (start .pre .1))
-
-state-formula-enum-told-2 : (t : ℕ) → state-formula-lts.Need-enum-told-2 (state-formula-claims t) (state-formula-at t)
-    state-formula.Post
-state-formula-enum-told-2 t c = search needs
 
 state-formula-add-state-formula : (t : ℕ) → state-formula-lts.Need-add-state-formula (state-formula-claims t)
     (state-formula-at t) state-formula.Post
@@ -516,10 +456,6 @@ state-formula-negated-requires : (t : ℕ) → state-formula-lts.Need-negated-re
 state-formula-negated-requires t c κs =
     room-kept (formula-room (c .before .before .before .before .before .before .before .before .before .pre .1))
     (c .before .before .before .state-formula .kept .1 .1 .1 .1 .1 .0)
-
-state-formula-enum-told-3 : (t : ℕ) → state-formula-lts.Need-enum-told-3 (state-formula-claims t) (state-formula-at t)
-    state-formula.Post
-state-formula-enum-told-3 t c = search needs
 
 state-formula-add-two-formulas : (t : ℕ) → state-formula-lts.Need-add-two-formulas (state-formula-claims t)
     (state-formula-at t) state-formula.Post
@@ -543,10 +479,6 @@ state-formula-both-requires t c κs =
     (c .before .before .before .before .before .enum-told3 .given .1)))
     (c .before .before .before .two-formulas .kept .1 .1 .1 .1 .1 .0)
 
-state-formula-enum-known-node-2 : (t : ℕ) → state-formula-lts.Need-enum-known-node-2 (state-formula-claims t)
-    (state-formula-at t) state-formula.Post
-state-formula-enum-known-node-2 t c = search needs
-
 state-formula-add-two-expressions : (t : ℕ) → state-formula-lts.Need-add-two-expressions (state-formula-claims t)
     (state-formula-at t) state-formula.Post
 state-formula-add-two-expressions t c =
@@ -562,10 +494,6 @@ state-formula-two-expressions-requires t c κs =
       compare-ready (start .pre .1) (node .0 .0) (node .1),
     )
 
-state-formula-relation-of-requires : (t : ℕ) → state-formula-lts.Need-relation-of-requires (state-formula-claims t)
-    (state-formula-at t) state-formula.Post
-state-formula-relation-of-requires t c κs = search needs
-
 state-formula-compare-requires : (t : ℕ) → state-formula-lts.Need-compare-requires (state-formula-claims t)
     (state-formula-at t) state-formula.Post
 state-formula-compare-requires t c κs =
@@ -576,28 +504,16 @@ state-formula-compare-requires t c κs =
     comparing-ready (start .pre .1) (node .0 .0) (node .1) (two .ensures) (two .kept .1 .1 .1 .1 .1 .0)
     (relation .result) (relation .ensures)
 
-state-formula-same-length : (t : ℕ) → state-formula-lts.Need-same-length (state-formula-claims t) (state-formula-at t)
-    state-formula.Post
-state-formula-same-length t c = search needs
-
 state-formula-returns : (t : ℕ) → state-formula-lts.Need-returns (state-formula-claims t) (state-formula-at t)
     state-formula.Post
 state-formula-returns t c =
     true-done (c .before .before .before .before .enum-told .given .1) (c .before .before .always .ensures)
-
-state-formula-same-length-2 : (t : ℕ) → state-formula-lts.Need-same-length-2 (state-formula-claims t)
-    (state-formula-at t) state-formula.Post
-state-formula-same-length-2 t c = search needs
 
 state-formula-returns-2 : (t : ℕ) → state-formula-lts.Need-returns-2 (state-formula-claims t) (state-formula-at t)
     state-formula.Post
 state-formula-returns-2 t c =
     let node = c .before .before .before .before .before .node .given in
     label-done (node .0 .0) (node .0 .1 .0) (node .1) (c .before .before .label .ensures)
-
-state-formula-same-length-3 : (t : ℕ) → state-formula-lts.Need-same-length-3 (state-formula-claims t)
-    (state-formula-at t) state-formula.Post
-state-formula-same-length-3 t c = search needs
 
 state-formula-returns-3 : (t : ℕ) → state-formula-lts.Need-returns-3 (state-formula-claims t) (state-formula-at t)
     state-formula.Post
@@ -606,19 +522,11 @@ state-formula-returns-3 t c =
     (c .before .before .before .before .before .before .state-formula .ensures)
     (c .before .before .negated .ensures)
 
-state-formula-same-length-4 : (t : ℕ) → state-formula-lts.Need-same-length-4 (state-formula-claims t)
-    (state-formula-at t) state-formula.Post
-state-formula-same-length-4 t c = search needs
-
 state-formula-returns-4 : (t : ℕ) → state-formula-lts.Need-returns-4 (state-formula-claims t) (state-formula-at t)
     state-formula.Post
 state-formula-returns-4 t c =
     and-done (c .before .before .before .before .before .before .before .before .enum-told3 .given .1)
     (c .before .before .before .before .before .before .two-formulas .ensures) (c .before .before .both .ensures)
-
-state-formula-same-length-5 : (t : ℕ) → state-formula-lts.Need-same-length-5 (state-formula-claims t)
-    (state-formula-at t) state-formula.Post
-state-formula-same-length-5 t c = search needs
 
 state-formula-returns-5 : (t : ℕ) → state-formula-lts.Need-returns-5 (state-formula-claims t) (state-formula-at t)
     state-formula.Post
@@ -637,10 +545,6 @@ two-expressions-survey-requires : (t : ℕ) → two-expressions-lts.Need-survey-
     (two-expressions-at t) two-expressions.Post
 two-expressions-survey-requires t c κs = place-most (c .before .args .at) (expressions-inside (c .before .pre .1))
 
-two-expressions-survey-requires-2 : (t : ℕ) → two-expressions-lts.Need-survey-requires-2 (two-expressions-claims t)
-    (two-expressions-at t) two-expressions.Post
-two-expressions-survey-requires-2 t c κs = search needs
-
 two-expressions-expression-requires : (t : ℕ) → two-expressions-lts.Need-expression-requires (two-expressions-claims t)
     (two-expressions-at t) two-expressions.Post
 two-expressions-expression-requires t c κs =
@@ -648,10 +552,6 @@ two-expressions-expression-requires t c κs =
       to-each (start .args .at) (start .args .at) t (start .pre .0) (le-refl (start .args .at)),
       first-expression-whole (start .pre .1),
     )
-
-two-expressions-mul-expression : (t : ℕ) → two-expressions-lts.Need-mul-expression (two-expressions-claims t)
-    (two-expressions-at t) two-expressions.Post
-two-expressions-mul-expression t c = search needs
 
 two-expressions-sub-expression : (t : ℕ) → two-expressions-lts.Need-sub-expression (two-expressions-claims t)
     (two-expressions-at t) two-expressions.Post
@@ -668,10 +568,6 @@ two-expressions-part-expression-start t c =
     (expressions-room (c .before .before .before .before .before .before .before .before .before .before .pre .1))
     (c .before .before .expression .kept .1 .1 .1 .1 .1 .0)
 
-two-expressions-part-expression-end : (t : ℕ) → two-expressions-lts.Need-part-expression-end (two-expressions-claims t)
-    (two-expressions-at t) two-expressions.Post
-two-expressions-part-expression-end t c = search needs
-
 two-expressions-expression-requires-2 : (t : ℕ) →
     two-expressions-lts.Need-expression-requires-2 (two-expressions-claims t) (two-expressions-at t)
     two-expressions.Post
@@ -684,10 +580,6 @@ two-expressions-expression-requires-2 t c κs =
       second-expression-past (start .pre .1) first second (call .last .1 .1 .1 .1 .1 .0)
           (call .kept .1 .1 .1 .1 .1 .0) (c .before .before .before .before .before .if1 .taken),
     )
-
-two-expressions-same-length : (t : ℕ) → two-expressions-lts.Need-same-length (two-expressions-claims t)
-    (two-expressions-at t) two-expressions.Post
-two-expressions-same-length t c = search needs
 
 two-expressions-returns : (t : ℕ) → two-expressions-lts.Need-returns (two-expressions-claims t) (two-expressions-at t)
     two-expressions.Post
@@ -709,10 +601,6 @@ two-expressions-expression-requires-3 t c κs =
     let first = c .before .before .before .before .before .survey .ensures in
     (to-each (start .args .at) _ t (start .pre .0) (first .forward), second-expression-whole (start .pre .1) first)
 
-two-expressions-mul-expression-2 : (t : ℕ) → two-expressions-lts.Need-mul-expression-2 (two-expressions-claims t)
-    (two-expressions-at t) two-expressions.Post
-two-expressions-mul-expression-2 t c = search needs
-
 two-expressions-sub-expression-2 : (t : ℕ) → two-expressions-lts.Need-sub-expression-2 (two-expressions-claims t)
     (two-expressions-at t) two-expressions.Post
 two-expressions-sub-expression-2 t c =
@@ -721,23 +609,11 @@ two-expressions-sub-expression-2 t c =
     (c .before .before .expression3 .kept .1 .1 .1 .1 .1 .0)
 
 two-expressions-part-expression-start-2 :
-    (t : ℕ) → two-expressions-lts.Need-part-expression-start-2 (
-      survey-reads.Asked,
-      survey-reads.Learnt,
-      expression-below t,
-      expression.Post,
-      swap-reads.Asked,
-      swap-reads.Learnt,
-    ) (two-expressions-at t) two-expressions.Post
+    (t : ℕ) → two-expressions-lts.Need-part-expression-start-2 (two-expressions-claims t) (two-expressions-at t) two-expressions.Post
 two-expressions-part-expression-start-2 t c =
     front-kept (c .before .before .before .before .before .before .before .before .before .before .args .g .tuples)
     (expressions-room (c .before .before .before .before .before .before .before .before .before .before .pre .1))
     (c .before .before .expression3 .kept .1 .1 .1 .1 .1 .0)
-
-two-expressions-part-expression-end-2 : (t : ℕ) →
-    two-expressions-lts.Need-part-expression-end-2 (two-expressions-claims t) (two-expressions-at t)
-    two-expressions.Post
-two-expressions-part-expression-end-2 t c = search needs
 
 two-expressions-expression-requires-4 : (t : ℕ) →
     two-expressions-lts.Need-expression-requires-4 (two-expressions-claims t) (two-expressions-at t)
@@ -764,10 +640,6 @@ two-expressions-swap-requires t c κs =
     (other .kept .1 .1 .1 .1 .1 .0) in
     room-kept (room-kept (expressions-room (start .pre .1)) (call .kept .1 .1 .1 .1 .1 .0)) (back .long)
 
-two-expressions-same-length-2 : (t : ℕ) → two-expressions-lts.Need-same-length-2 (two-expressions-claims t)
-    (two-expressions-at t) two-expressions.Post
-two-expressions-same-length-2 t c = search needs
-
 two-expressions-returns-2 : (t : ℕ) → two-expressions-lts.Need-returns-2 (two-expressions-claims t)
     (two-expressions-at t) two-expressions.Post
 two-expressions-returns-2 t c =
@@ -784,10 +656,6 @@ two-formulas-survey-requires : (t : ℕ) → two-formulas-lts.Need-survey-requir
     (two-formulas-at t) two-formulas.Post
 two-formulas-survey-requires t c κs = place-most (c .before .args .at) (formulas-inside (c .before .pre .1))
 
-two-formulas-survey-requires-2 : (t : ℕ) → two-formulas-lts.Need-survey-requires-2 (two-formulas-claims t)
-    (two-formulas-at t) two-formulas.Post
-two-formulas-survey-requires-2 t c κs = search needs
-
 two-formulas-state-formula-requires : (t : ℕ) → two-formulas-lts.Need-state-formula-requires (two-formulas-claims t)
     (two-formulas-at t) two-formulas.Post
 two-formulas-state-formula-requires t c κs =
@@ -795,10 +663,6 @@ two-formulas-state-formula-requires t c κs =
       to-each (start .args .at) (start .args .at) t (start .pre .0) (le-refl (start .args .at)),
       first-formula-whole (start .pre .1),
     )
-
-two-formulas-mul-state-formula : (t : ℕ) → two-formulas-lts.Need-mul-state-formula (two-formulas-claims t)
-    (two-formulas-at t) two-formulas.Post
-two-formulas-mul-state-formula t c = search needs
 
 two-formulas-sub-state-formula : (t : ℕ) → two-formulas-lts.Need-sub-state-formula (two-formulas-claims t)
     (two-formulas-at t) two-formulas.Post
@@ -814,10 +678,6 @@ two-formulas-part-state-formula-start t c =
     (formulas-room (c .before .before .before .before .before .before .before .before .before .before .pre .1))
     (c .before .before .state-formula .kept .1 .1 .1 .1 .1 .0)
 
-two-formulas-part-state-formula-end : (t : ℕ) → two-formulas-lts.Need-part-state-formula-end (two-formulas-claims t)
-    (two-formulas-at t) two-formulas.Post
-two-formulas-part-state-formula-end t c = search needs
-
 two-formulas-state-formula-requires-2 : (t : ℕ) →
     two-formulas-lts.Need-state-formula-requires-2 (two-formulas-claims t) (two-formulas-at t) two-formulas.Post
 two-formulas-state-formula-requires-2 t c κs =
@@ -829,10 +689,6 @@ two-formulas-state-formula-requires-2 t c κs =
       second-formula-past (start .pre .1) first second (call .last .1 .1 .1 .1 .1 .0) (call .kept .1 .1 .1 .1 .1 .0)
           (c .before .before .before .before .before .if1 .taken),
     )
-
-two-formulas-same-length : (t : ℕ) → two-formulas-lts.Need-same-length (two-formulas-claims t) (two-formulas-at t)
-    two-formulas.Post
-two-formulas-same-length t c = search needs
 
 two-formulas-returns : (t : ℕ) → two-formulas-lts.Need-returns (two-formulas-claims t) (two-formulas-at t)
     two-formulas.Post
@@ -852,10 +708,6 @@ two-formulas-state-formula-requires-3 t c κs =
     let first = c .before .before .before .before .before .survey .ensures in
     (to-each (start .args .at) _ t (start .pre .0) (first .forward), second-formula-whole (start .pre .1) first)
 
-two-formulas-mul-state-formula-2 : (t : ℕ) → two-formulas-lts.Need-mul-state-formula-2 (two-formulas-claims t)
-    (two-formulas-at t) two-formulas.Post
-two-formulas-mul-state-formula-2 t c = search needs
-
 two-formulas-sub-state-formula-2 : (t : ℕ) → two-formulas-lts.Need-sub-state-formula-2 (two-formulas-claims t)
     (two-formulas-at t) two-formulas.Post
 two-formulas-sub-state-formula-2 t c =
@@ -864,22 +716,11 @@ two-formulas-sub-state-formula-2 t c =
     (c .before .before .state-formula3 .kept .1 .1 .1 .1 .1 .0)
 
 two-formulas-part-state-formula-start-2 :
-    (t : ℕ) → two-formulas-lts.Need-part-state-formula-start-2 (
-      survey-reads.Asked,
-      survey-reads.Learnt,
-      state-formula-below t,
-      state-formula.Post,
-      swap-reads.Asked,
-      swap-reads.Learnt,
-    ) (two-formulas-at t) two-formulas.Post
+    (t : ℕ) → two-formulas-lts.Need-part-state-formula-start-2 (two-formulas-claims t) (two-formulas-at t) two-formulas.Post
 two-formulas-part-state-formula-start-2 t c =
     front-kept (c .before .before .before .before .before .before .before .before .before .before .args .g .tuples)
     (formulas-room (c .before .before .before .before .before .before .before .before .before .before .pre .1))
     (c .before .before .state-formula3 .kept .1 .1 .1 .1 .1 .0)
-
-two-formulas-part-state-formula-end-2 : (t : ℕ) →
-    two-formulas-lts.Need-part-state-formula-end-2 (two-formulas-claims t) (two-formulas-at t) two-formulas.Post
-two-formulas-part-state-formula-end-2 t c = search needs
 
 two-formulas-state-formula-requires-4 : (t : ℕ) →
     two-formulas-lts.Need-state-formula-requires-4 (two-formulas-claims t) (two-formulas-at t) two-formulas.Post
@@ -904,10 +745,6 @@ two-formulas-swap-requires t c κs =
     (front-kept T (formulas-room (start .pre .1)) (call .kept .1 .1 .1 .1 .1 .0)) (other .kept .1 .1 .1 .1 .1 .0) in
     room-kept (room-kept (formulas-room (start .pre .1)) (call .kept .1 .1 .1 .1 .1 .0)) (back .long)
 
-two-formulas-same-length-2 : (t : ℕ) → two-formulas-lts.Need-same-length-2 (two-formulas-claims t) (two-formulas-at t)
-    two-formulas.Post
-two-formulas-same-length-2 t c = search needs
-
 two-formulas-returns-2 : (t : ℕ) → two-formulas-lts.Need-returns-2 (two-formulas-claims t) (two-formulas-at t)
     two-formulas.Post
 two-formulas-returns-2 t c =
@@ -929,29 +766,15 @@ pub +combined+expression+path+state-formula+two-expressions+two-formulas-spec :
     μ-state-formula
     μ-two-expressions
     μ-two-formulas
-    (λ t. combined-lts.spec (
-      two-expressions-below t,
-      two-expressions.Post,
-      combine-reads.Asked,
-      combine-reads.Learnt,
-    )
+    (λ t. combined-lts.spec (combined-claims t)
     (combined-at t)
     combined.Post
-    (combined-two-expressions-requires t)
+    (λ c κs. search needs)
     (combined-combine-requires t)
     (combined-mul-t14 t)
     (λ c. search needs)
     (combined-returns t))
-    (λ t. expression-lts.spec (
-      path-below t,
-      path.Post,
-      constant-reads.Asked,
-      constant-reads.Learnt,
-      combined-below t,
-      combined.Post,
-      nothing-reads.Asked,
-      nothing-reads.Learnt,
-    )
+    (λ t. expression-lts.spec (expression-claims t)
     (expression-at t)
     expression.Post
     (expression-mul-slot t)
@@ -959,46 +782,33 @@ pub +combined+expression+path+state-formula+two-expressions+two-formulas-spec :
     (λ c. search needs)
     (expression-add-path t)
     (expression-path-requires t)
-    (expression-enum-known-node t)
-    (expression-cast-constant t)
+    (λ c. search needs)
+    (λ c. search needs)
     (expression-constant-requires t)
     (expression-add-t25 t)
     (λ c. search needs)
-    (expression-enum-told-2 t)
+    (λ c. search needs)
     (expression-add-combined t)
     (expression-combined-requires t)
-    (expression-enum-told-3 t)
+    (λ c. search needs)
     (expression-add-combined-2 t)
     (expression-combined-requires-2 t)
-    (expression-enum-told-4 t)
+    (λ c. search needs)
     (expression-add-combined-3 t)
     (expression-combined-requires-3 t)
-    (expression-nothing-requires t)
-    (expression-same-length t)
+    (λ c κs. search needs)
+    (λ c. search needs)
     (expression-returns t)
-    (expression-same-length-2 t)
+    (λ c. search needs)
     (expression-returns-2 t)
-    (expression-same-length-3 t)
+    (λ c. search needs)
     (expression-returns-3 t)
-    (expression-same-length-4 t)
+    (λ c. search needs)
     (expression-returns-4 t)
-    (expression-same-length-5 t)
+    (λ c. search needs)
     (expression-returns-5 t)
     (expression-returns-6 t))
-    (λ t. path-lts.spec (
-      state-formula-below t,
-      state-formula.Post,
-      joint-step-reads.Asked,
-      joint-step-reads.Learnt,
-      scaled-reads.Asked,
-      scaled-reads.Learnt,
-      two-formulas-below t,
-      two-formulas.Post,
-      until-within-reads.Asked,
-      until-within-reads.Learnt,
-      nothing-reads.Asked,
-      nothing-reads.Learnt,
-    )
+    (λ t. path-lts.spec (path-claims t)
     (path-at t)
     path.Post
     (path-mul-slot t)
@@ -1021,115 +831,82 @@ pub +combined+expression+path+state-formula+two-expressions+two-formulas-spec :
     (λ c. search needs)
     (path-returns-2 t)
     (path-returns-3 t))
-    (λ t. state-formula-lts.spec (
-      always-reads.Asked,
-      always-reads.Learnt,
-      label-reads.Asked,
-      label-reads.Learnt,
-      state-formula-below t,
-      state-formula.Post,
-      negated-reads.Asked,
-      negated-reads.Learnt,
-      two-formulas-below t,
-      two-formulas.Post,
-      both-reads.Asked,
-      both-reads.Learnt,
-      two-expressions-below t,
-      two-expressions.Post,
-      relation-of-reads.Asked,
-      relation-of-reads.Learnt,
-      compare-reads.Asked,
-      compare-reads.Learnt,
-    )
+    (λ t. state-formula-lts.spec (state-formula-claims t)
     (state-formula-at t)
     state-formula.Post
     (state-formula-mul-slot t)
     (state-formula-array-copy-out-slot t)
-    (state-formula-enum-told t)
+    (λ c. search needs)
     (state-formula-always-requires t)
     (state-formula-add-result t)
-    (state-formula-enum-known-node t)
+    (λ c. search needs)
     (state-formula-label-requires t)
     (state-formula-add-result-2 t)
-    (state-formula-enum-told-2 t)
+    (λ c. search needs)
     (state-formula-add-state-formula t)
     (state-formula-state-formula-requires t)
     (state-formula-negated-requires t)
-    (state-formula-enum-told-3 t)
+    (λ c. search needs)
     (state-formula-add-two-formulas t)
     (state-formula-two-formulas-requires t)
     (state-formula-both-requires t)
-    (state-formula-enum-known-node-2 t)
+    (λ c. search needs)
     (state-formula-add-two-expressions t)
     (state-formula-two-expressions-requires t)
-    (state-formula-relation-of-requires t)
+    (λ c κs. search needs)
     (state-formula-compare-requires t)
-    (state-formula-same-length t)
+    (λ c. search needs)
     (state-formula-returns t)
-    (state-formula-same-length-2 t)
+    (λ c. search needs)
     (state-formula-returns-2 t)
-    (state-formula-same-length-3 t)
+    (λ c. search needs)
     (state-formula-returns-3 t)
-    (state-formula-same-length-4 t)
+    (λ c. search needs)
     (state-formula-returns-4 t)
-    (state-formula-same-length-5 t)
+    (λ c. search needs)
     (state-formula-returns-5 t)
     (state-formula-returns-6 t))
-    (λ t. two-expressions-lts.spec (
-      survey-reads.Asked,
-      survey-reads.Learnt,
-      expression-below t,
-      expression.Post,
-      swap-reads.Asked,
-      swap-reads.Learnt,
-    )
+    (λ t. two-expressions-lts.spec (two-expressions-claims t)
     (two-expressions-at t)
     two-expressions.Post
     (two-expressions-survey-requires t)
-    (two-expressions-survey-requires-2 t)
+    (λ c κs. search needs)
     (two-expressions-expression-requires t)
-    (two-expressions-mul-expression t)
+    (λ c. search needs)
     (two-expressions-sub-expression t)
     (two-expressions-part-expression-start t)
-    (two-expressions-part-expression-end t)
+    (λ c. search needs)
     (two-expressions-expression-requires-2 t)
-    (two-expressions-same-length t)
+    (λ c. search needs)
     (two-expressions-returns t)
     (two-expressions-expression-requires-3 t)
-    (two-expressions-mul-expression-2 t)
+    (λ c. search needs)
     (two-expressions-sub-expression-2 t)
     (two-expressions-part-expression-start-2 t)
-    (two-expressions-part-expression-end-2 t)
+    (λ c. search needs)
     (two-expressions-expression-requires-4 t)
     (two-expressions-swap-requires t)
-    (two-expressions-same-length-2 t)
+    (λ c. search needs)
     (two-expressions-returns-2 t))
-    λ t. two-formulas-lts.spec (
-      survey-reads.Asked,
-      survey-reads.Learnt,
-      state-formula-below t,
-      state-formula.Post,
-      swap-reads.Asked,
-      swap-reads.Learnt,
-    )
+    λ t. two-formulas-lts.spec (two-formulas-claims t)
     (two-formulas-at t)
     two-formulas.Post
     (two-formulas-survey-requires t)
-    (two-formulas-survey-requires-2 t)
+    (λ c κs. search needs)
     (two-formulas-state-formula-requires t)
-    (two-formulas-mul-state-formula t)
+    (λ c. search needs)
     (two-formulas-sub-state-formula t)
     (two-formulas-part-state-formula-start t)
-    (two-formulas-part-state-formula-end t)
+    (λ c. search needs)
     (two-formulas-state-formula-requires-2 t)
-    (two-formulas-same-length t)
+    (λ c. search needs)
     (two-formulas-returns t)
     (two-formulas-state-formula-requires-3 t)
-    (two-formulas-mul-state-formula-2 t)
+    (λ c. search needs)
     (two-formulas-sub-state-formula-2 t)
     (two-formulas-part-state-formula-start-2 t)
-    (two-formulas-part-state-formula-end-2 t)
+    (λ c. search needs)
     (two-formulas-state-formula-requires-4 t)
     (two-formulas-swap-requires t)
-    (two-formulas-same-length-2 t)
+    (λ c. search needs)
     (two-formulas-returns-2 t)

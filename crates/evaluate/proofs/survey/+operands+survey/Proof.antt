@@ -54,14 +54,6 @@ survey-claims t = (
   of-two-reads.Learnt,
 )
 
-operands-survey-requires-2 : (t : ℕ) → operands-lts.Need-survey-requires-2 (operands-claims t) (operands-at t)
-    operands.Post
-operands-survey-requires-2 t c κs = search needs
-
-operands-need-of-requires : (t : ℕ) → operands-lts.Need-need-of-requires (operands-claims t) (operands-at t)
-    operands.Post
-operands-need-of-requires t c κs = search needs
-
 operands-returns : (t : ℕ) → operands-lts.Need-returns (operands-claims t) (operands-at t) operands.Post
 operands-returns t c =
     let a = c .before .before .before .args in
@@ -101,8 +93,8 @@ pub +operands+survey-spec : {M : Type 1} → statement M
     (operands-at t)
     operands.Post
     (λ c κs. search needs)
-    (operands-survey-requires-2 t)
-    (operands-need-of-requires t)
+    (λ c κs. search needs)
+    (λ c κs. search needs)
     (operands-returns t))
     λ t. survey-lts.spec (
       wants-of-reads.Asked,
