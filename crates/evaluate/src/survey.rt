@@ -79,21 +79,8 @@ fn of_two(node: Node, two: Extent) -> Extent
     ensures { λ r. ⌜ (r .next ≡ two .next) × (r .layers ≡ layersOfTwo node (two .layers)) ⌝ }
 {
     match node {
-        Node::True => two,
-        Node::Label {
-            label: _,
-            variable: _,
-        } => two,
-        Node::Not => two,
-        Node::And => two,
-        Node::Compare(_) => two,
-        Node::Probability => two,
-        Node::Constant { top: _, bottom: _ } => two,
-        Node::Sum => two,
-        Node::Difference => two,
-        Node::Product => two,
-        Node::Next => two,
         Node::Until { from: _, to: _ } => at_least_three(two),
+        _ => two,
     }
 }
 

@@ -1,40 +1,41 @@
 -- `survey::of_two` meets its contract: only an until changes what the two need.
 use borrow.Author.Needs.{needs}
-use mathlib.Core.Path.{sym, ap, _∙_}
+use Prim.Native.Nat.{ℕ}
+use mathlib.Core.List.{List, [], _∷_}
+use mathlib.Core.Path.{_≡_, refl, sym, ap, _∙_}
+use types.Run.{OneOf, miss}
+use denote.Enum.Declared.{tagOf}
+use Rattle.sentence.proofs.Node.{the-type}
 use Rattle.sentence.specs.declared.Node.{Node}
+use Rattle.sentence.specs.declared.Node.the-variants.{True, Label, Not, And, Compare, Probability, Constant, Sum, Difference, Product, Next, Until}
 use Rattle.evaluate.specs.Surveys.{layersOfTwo}
 use Rattle.evaluate.proofs.survey.of_two.Statement.{statement}
 use Rattle.evaluate.proofs.survey.of_two.Tie as tie
 
-returns-12 : tie.Need-returns-12
-returns-12 c = (c .at-least-three .ensures .0, c .at-least-three .ensures .1 ∙ sym (ap (λ (n : Node). layersOfTwo n (c .before .before .before .args .two .layers)) (c .before .enum-told12 .given .1)))
+-- the tags of the nodes that are no until
+abbrev noUntil : List ℕ
+noUntil = 0 ∷ 1 ∷ 2 ∷ 3 ∷ 4 ∷ 5 ∷ 6 ∷ 7 ∷ 8 ∷ 9 ∷ 10 ∷ []
+
+-- a node that is no until needs what its operands need
+as-two : (n : Node) (k : ℕ) → OneOf noUntil (tagOf the-type n) → k ≡ layersOfTwo n k
+as-two True k o = refl
+as-two (Label l i) k o = refl
+as-two Not k o = refl
+as-two And k o = refl
+as-two (Compare r) k o = refl
+as-two Probability k o = refl
+as-two (Constant a b) k o = refl
+as-two Sum k o = refl
+as-two Difference k o = refl
+as-two Product k o = refl
+as-two Next k o = refl
+as-two (Until k1 k2) k o = absurd (miss noUntil 11 tt o)
+
+returns : tie.Need-returns
+returns c = (c .at-least-three .ensures .0, c .at-least-three .ensures .1 ∙ sym (ap (λ (n : Node). layersOfTwo n (c .before .before .before .args .two .layers)) (c .before .enum-told .given .1)))
+
+returns-2 : tie.Need-returns-2
+returns-2 c = (refl, as-two (c .before .args .node) (c .before .args .two .layers) (c .match .keys2))
 
 pub of-two-spec : {M : Type 1} → statement M
-of-two-spec =
-    tie.close
-    (tie.spec
-    (λ c. search needs)
-    (λ c. search needs)
-    (λ c. search needs)
-    (λ c. search needs)
-    (λ c. search needs)
-    (λ c. search needs)
-    (λ c. search needs)
-    (λ c. search needs)
-    (λ c. search needs)
-    (λ c. search needs)
-    (λ c. search needs)
-    (λ c. search needs)
-    (λ c κs. search needs)
-    (λ c. search needs)
-    (λ c. search needs)
-    (λ c. search needs)
-    (λ c. search needs)
-    (λ c. search needs)
-    (λ c. search needs)
-    (λ c. search needs)
-    (λ c. search needs)
-    (λ c. search needs)
-    (λ c. search needs)
-    (λ c. search needs)
-    returns-12)
+of-two-spec = tie.close (tie.spec (λ c. search needs) (λ c κs. search needs) returns returns-2)
