@@ -22,6 +22,8 @@ use Rattle.evaluate.proofs.Pathways.{until-times, until-scales, taking-
 use Rattle.evaluate.proofs.Places.{to-operand, to-operands, to-operation, to-each, place-most, next-fits}
 use Rattle.evaluate.proofs.Places.{place-fits, small-fits, times-fit, room-kept, front-kept}
 use Prim.Native.Nat.{ℕ, _+_, _-_, _*_, _<_}
+use mir.Syntax.{w64}
+use mir.Val.{Fits}
 use borrow.Fn.Kinds.{In}
 use borrow.Fn.PlainCycle.{Measures, is, falls, and}
 use Rattle.evaluate.proofs.nodes.combined.Reads as combined
@@ -233,17 +235,16 @@ combined-returns t c =
     combined-done (c .before .before .before .before .before .before .before .two-expressions .ensures)
     (c .before .before .before .combine .ensures)
 
+-- the place after the node is a number of 64 bits
+expression-next : (t : ℕ) (start : expression-lts.Start (expression-claims t) (expression-at t) expression.Post) → Fits w64 (start .args .at + 1)
+expression-next t start = next-fits (start .args .at) (expression-inside (start .pre .1))
+
 expression-mul-slot : (t : ℕ) → expression-lts.Need-mul-slot (expression-claims t) (expression-at t) expression.Post
 expression-mul-slot t c = place-fits (c .before .args .at) (expression-inside (c .before .pre .1))
 
 expression-array-copy-out-slot : (t : ℕ) → expression-lts.Need-array-copy-out-slot (expression-claims t)
     (expression-at t) expression.Post
 expression-array-copy-out-slot t c = expression-inside (c .before .pre .1)
-
-expression-add-path : (t : ℕ) → expression-lts.Need-add-path (expression-claims t) (expression-at t) expression.Post
-expression-add-path t c =
-    let start = c .before .before .before .before in
-    next-fits (start .args .at) (expression-inside (start .pre .1))
 
 expression-path-requires : (t : ℕ) → expression-lts.Need-path-requires (expression-claims t) (expression-at t)
     expression.Post
@@ -257,17 +258,6 @@ expression-constant-requires : (t : ℕ) → expression-lts.Need-constant-requir
     expression.Post
 expression-constant-requires t c κs = expression-room (c .before .before .before .before .before .before .pre .1)
 
-expression-add-t25 : (t : ℕ) → expression-lts.Need-add-t25 (expression-claims t) (expression-at t) expression.Post
-expression-add-t25 t c =
-    let start = c .before .before .before .before .before .before .before .before .before in
-    next-fits (start .args .at) (expression-inside (start .pre .1))
-
-expression-add-combined : (t : ℕ) → expression-lts.Need-add-combined (expression-claims t) (expression-at t)
-    expression.Post
-expression-add-combined t c =
-    let start = c .before .before .before .before in
-    next-fits (start .args .at) (expression-inside (start .pre .1))
-
 expression-combined-requires : (t : ℕ) → expression-lts.Need-combined-requires (expression-claims t) (expression-at t)
     expression.Post
 expression-combined-requires t c κs =
@@ -276,12 +266,6 @@ expression-combined-requires t c κs =
       sum-ready (start .pre .1) (c .before .enum-told2 .given .1),
     )
 
-expression-add-combined-2 : (t : ℕ) → expression-lts.Need-add-combined-2 (expression-claims t) (expression-at t)
-    expression.Post
-expression-add-combined-2 t c =
-    let start = c .before .before .before .before in
-    next-fits (start .args .at) (expression-inside (start .pre .1))
-
 expression-combined-requires-2 : (t : ℕ) → expression-lts.Need-combined-requires-2 (expression-claims t)
     (expression-at t) expression.Post
 expression-combined-requires-2 t c κs =
@@ -289,12 +273,6 @@ expression-combined-requires-2 t c κs =
       to-operation (start .args .at) t (expression-inside (start .pre .1)) (start .pre .0),
       difference-ready (start .pre .1) (c .before .enum-told3 .given .1),
     )
-
-expression-add-combined-3 : (t : ℕ) → expression-lts.Need-add-combined-3 (expression-claims t) (expression-at t)
-    expression.Post
-expression-add-combined-3 t c =
-    let start = c .before .before .before .before in
-    next-fits (start .args .at) (expression-inside (start .pre .1))
 
 expression-combined-requires-3 : (t : ℕ) → expression-lts.Need-combined-requires-3 (expression-claims t)
     (expression-at t) expression.Post
@@ -328,16 +306,15 @@ expression-returns-5 t c =
 expression-returns-6 : (t : ℕ) → expression-lts.Need-returns-6 (expression-claims t) (expression-at t) expression.Post
 expression-returns-6 t c = no-expression (c .before .match .keys6)
 
+-- the place after the node is a number of 64 bits
+path-next : (t : ℕ) (start : path-lts.Start (path-claims t) (path-at t) path.Post) → Fits w64 (start .args .at + 1)
+path-next t start = next-fits (start .args .at) (path-inside (start .pre .1))
+
 path-mul-slot : (t : ℕ) → path-lts.Need-mul-slot (path-claims t) (path-at t) path.Post
 path-mul-slot t c = place-fits (c .before .args .at) (path-inside (c .before .pre .1))
 
 path-array-copy-out-slot : (t : ℕ) → path-lts.Need-array-copy-out-slot (path-claims t) (path-at t) path.Post
 path-array-copy-out-slot t c = path-inside (c .before .pre .1)
-
-path-add-state-formula : (t : ℕ) → path-lts.Need-add-state-formula (path-claims t) (path-at t) path.Post
-path-add-state-formula t c =
-    let start = c .before .before .before .before in
-    next-fits (start .args .at) (path-inside (start .pre .1))
 
 path-state-formula-requires : (t : ℕ) → path-lts.Need-state-formula-requires (path-claims t) (path-at t) path.Post
 path-state-formula-requires t c κs =
@@ -358,11 +335,6 @@ path-scaled-requires t c κs =
     (c .before .before .before .before .before .before .before .before .before .before .before .before .pre .1)
     (c .before .before .before .before .before .before .before .before .enum-told .given .1) in
     (scales .0, scales .1)
-
-path-add-two-formulas : (t : ℕ) → path-lts.Need-add-two-formulas (path-claims t) (path-at t) path.Post
-path-add-two-formulas t c =
-    let start = c .before .before .before .before .before in
-    next-fits (start .args .at) (path-inside (start .pre .1))
 
 path-two-formulas-requires : (t : ℕ) → path-lts.Need-two-formulas-requires (path-claims t) (path-at t) path.Post
 path-two-formulas-requires t c κs =
@@ -406,6 +378,10 @@ path-returns-2 t c =
 path-returns-3 : (t : ℕ) → path-lts.Need-returns-3 (path-claims t) (path-at t) path.Post
 path-returns-3 t c = no-path (c .before .match .keys3)
 
+-- the place after the node is a number of 64 bits
+state-formula-next : (t : ℕ) (start : state-formula-lts.Start (state-formula-claims t) (state-formula-at t) state-formula.Post) → Fits w64 (start .args .at + 1)
+state-formula-next t start = next-fits (start .args .at) (formula-inside (start .pre .1))
+
 state-formula-mul-slot : (t : ℕ) → state-formula-lts.Need-mul-slot (state-formula-claims t) (state-formula-at t)
     state-formula.Post
 state-formula-mul-slot t c = place-fits (c .before .args .at) (formula-inside (c .before .pre .1))
@@ -418,30 +394,12 @@ state-formula-always-requires : (t : ℕ) → state-formula-lts.Need-always-requ
     (state-formula-at t) state-formula.Post
 state-formula-always-requires t c κs = formula-room (c .before .before .before .before .before .pre .1)
 
-state-formula-add-result : (t : ℕ) → state-formula-lts.Need-add-result (state-formula-claims t) (state-formula-at t)
-    state-formula.Post
-state-formula-add-result t c =
-    let start = c .before .before .before .before .before .before .before .before in
-    next-fits (start .args .at) (formula-inside (start .pre .1))
-
 state-formula-label-requires : (t : ℕ) → state-formula-lts.Need-label-requires (state-formula-claims t)
     (state-formula-at t) state-formula.Post
 state-formula-label-requires t c κs =
     let start = c .before .before .before .before .before .before in
     let node = c .before .before .node .given in
     label-ready (start .pre .1) (node .0 .0) (node .0 .1 .0) (node .1)
-
-state-formula-add-result-2 : (t : ℕ) → state-formula-lts.Need-add-result-2 (state-formula-claims t) (state-formula-at t)
-    state-formula.Post
-state-formula-add-result-2 t c =
-    let start = c .before .before .before .before .before .before .before .before .before in
-    next-fits (start .args .at) (formula-inside (start .pre .1))
-
-state-formula-add-state-formula : (t : ℕ) → state-formula-lts.Need-add-state-formula (state-formula-claims t)
-    (state-formula-at t) state-formula.Post
-state-formula-add-state-formula t c =
-    let start = c .before .before .before .before in
-    next-fits (start .args .at) (formula-inside (start .pre .1))
 
 state-formula-state-formula-requires : (t : ℕ) → state-formula-lts.Need-state-formula-requires (state-formula-claims t)
     (state-formula-at t) state-formula.Post
@@ -456,12 +414,6 @@ state-formula-negated-requires : (t : ℕ) → state-formula-lts.Need-negated-re
 state-formula-negated-requires t c κs =
     room-kept (formula-room (c .before .before .before .before .before .before .before .before .before .pre .1))
     (c .before .before .before .state-formula .kept .1 .1 .1 .1 .1 .0)
-
-state-formula-add-two-formulas : (t : ℕ) → state-formula-lts.Need-add-two-formulas (state-formula-claims t)
-    (state-formula-at t) state-formula.Post
-state-formula-add-two-formulas t c =
-    let start = c .before .before .before .before in
-    next-fits (start .args .at) (formula-inside (start .pre .1))
 
 state-formula-two-formulas-requires : (t : ℕ) → state-formula-lts.Need-two-formulas-requires (state-formula-claims t)
     (state-formula-at t) state-formula.Post
@@ -478,12 +430,6 @@ state-formula-both-requires t c κs =
     (c .before .before .before .before .before .before .before .before .before .pre .1)
     (c .before .before .before .before .before .enum-told3 .given .1)))
     (c .before .before .before .two-formulas .kept .1 .1 .1 .1 .1 .0)
-
-state-formula-add-two-expressions : (t : ℕ) → state-formula-lts.Need-add-two-expressions (state-formula-claims t)
-    (state-formula-at t) state-formula.Post
-state-formula-add-two-expressions t c =
-    let start = c .before .before .before .before .before in
-    next-fits (start .args .at) (formula-inside (start .pre .1))
 
 state-formula-two-expressions-requires : (t : ℕ) →
     state-formula-lts.Need-two-expressions-requires (state-formula-claims t) (state-formula-at t) state-formula.Post
@@ -560,14 +506,6 @@ two-expressions-sub-expression t c =
     (expressions-room (c .before .before .before .before .before .before .before .before .before .before .pre .1))
     (c .before .before .expression .kept .1 .1 .1 .1 .1 .0)
 
-two-expressions-part-expression-start : (t : ℕ) →
-    two-expressions-lts.Need-part-expression-start (two-expressions-claims t) (two-expressions-at t)
-    two-expressions.Post
-two-expressions-part-expression-start t c =
-    front-kept (c .before .before .before .before .before .before .before .before .before .before .args .g .tuples)
-    (expressions-room (c .before .before .before .before .before .before .before .before .before .before .pre .1))
-    (c .before .before .expression .kept .1 .1 .1 .1 .1 .0)
-
 two-expressions-expression-requires-2 : (t : ℕ) →
     two-expressions-lts.Need-expression-requires-2 (two-expressions-claims t) (two-expressions-at t)
     two-expressions.Post
@@ -604,13 +542,6 @@ two-expressions-expression-requires-3 t c κs =
 two-expressions-sub-expression-2 : (t : ℕ) → two-expressions-lts.Need-sub-expression-2 (two-expressions-claims t)
     (two-expressions-at t) two-expressions.Post
 two-expressions-sub-expression-2 t c =
-    front-kept (c .before .before .before .before .before .before .before .before .before .before .args .g .tuples)
-    (expressions-room (c .before .before .before .before .before .before .before .before .before .before .pre .1))
-    (c .before .before .expression3 .kept .1 .1 .1 .1 .1 .0)
-
-two-expressions-part-expression-start-2 :
-    (t : ℕ) → two-expressions-lts.Need-part-expression-start-2 (two-expressions-claims t) (two-expressions-at t) two-expressions.Post
-two-expressions-part-expression-start-2 t c =
     front-kept (c .before .before .before .before .before .before .before .before .before .before .args .g .tuples)
     (expressions-room (c .before .before .before .before .before .before .before .before .before .before .pre .1))
     (c .before .before .expression3 .kept .1 .1 .1 .1 .1 .0)
@@ -671,13 +602,6 @@ two-formulas-sub-state-formula t c =
     (formulas-room (c .before .before .before .before .before .before .before .before .before .before .pre .1))
     (c .before .before .state-formula .kept .1 .1 .1 .1 .1 .0)
 
-two-formulas-part-state-formula-start : (t : ℕ) →
-    two-formulas-lts.Need-part-state-formula-start (two-formulas-claims t) (two-formulas-at t) two-formulas.Post
-two-formulas-part-state-formula-start t c =
-    front-kept (c .before .before .before .before .before .before .before .before .before .before .args .g .tuples)
-    (formulas-room (c .before .before .before .before .before .before .before .before .before .before .pre .1))
-    (c .before .before .state-formula .kept .1 .1 .1 .1 .1 .0)
-
 two-formulas-state-formula-requires-2 : (t : ℕ) →
     two-formulas-lts.Need-state-formula-requires-2 (two-formulas-claims t) (two-formulas-at t) two-formulas.Post
 two-formulas-state-formula-requires-2 t c κs =
@@ -711,13 +635,6 @@ two-formulas-state-formula-requires-3 t c κs =
 two-formulas-sub-state-formula-2 : (t : ℕ) → two-formulas-lts.Need-sub-state-formula-2 (two-formulas-claims t)
     (two-formulas-at t) two-formulas.Post
 two-formulas-sub-state-formula-2 t c =
-    front-kept (c .before .before .before .before .before .before .before .before .before .before .args .g .tuples)
-    (formulas-room (c .before .before .before .before .before .before .before .before .before .before .pre .1))
-    (c .before .before .state-formula3 .kept .1 .1 .1 .1 .1 .0)
-
-two-formulas-part-state-formula-start-2 :
-    (t : ℕ) → two-formulas-lts.Need-part-state-formula-start-2 (two-formulas-claims t) (two-formulas-at t) two-formulas.Post
-two-formulas-part-state-formula-start-2 t c =
     front-kept (c .before .before .before .before .before .before .before .before .before .before .args .g .tuples)
     (formulas-room (c .before .before .before .before .before .before .before .before .before .before .pre .1))
     (c .before .before .state-formula3 .kept .1 .1 .1 .1 .1 .0)
@@ -780,21 +697,21 @@ pub +combined+expression+path+state-formula+two-expressions+two-formulas-spec :
     (expression-mul-slot t)
     (expression-array-copy-out-slot t)
     (λ c. search needs)
-    (expression-add-path t)
+    (λ c. expression-next t (c .before .before .before .before))
     (expression-path-requires t)
     (λ c. search needs)
     (λ c. search needs)
     (expression-constant-requires t)
-    (expression-add-t25 t)
+    (λ c. expression-next t (c .before .before .before .before .before .before .before .before .before))
     (λ c. search needs)
     (λ c. search needs)
-    (expression-add-combined t)
+    (λ c. expression-next t (c .before .before .before .before))
     (expression-combined-requires t)
     (λ c. search needs)
-    (expression-add-combined-2 t)
+    (λ c. expression-next t (c .before .before .before .before))
     (expression-combined-requires-2 t)
     (λ c. search needs)
-    (expression-add-combined-3 t)
+    (λ c. expression-next t (c .before .before .before .before))
     (expression-combined-requires-3 t)
     (λ c κs. search needs)
     (λ c. search needs)
@@ -814,12 +731,12 @@ pub +combined+expression+path+state-formula+two-expressions+two-formulas-spec :
     (path-mul-slot t)
     (path-array-copy-out-slot t)
     (λ c. search needs)
-    (path-add-state-formula t)
+    (λ c. path-next t (c .before .before .before .before))
     (path-state-formula-requires t)
     (path-joint-step-requires t)
     (path-scaled-requires t)
     (λ c. search needs)
-    (path-add-two-formulas t)
+    (λ c. path-next t (c .before .before .before .before .before))
     (path-two-formulas-requires t)
     (path-until-within-requires t)
     (λ c. search needs)
@@ -838,20 +755,20 @@ pub +combined+expression+path+state-formula+two-expressions+two-formulas-spec :
     (state-formula-array-copy-out-slot t)
     (λ c. search needs)
     (state-formula-always-requires t)
-    (state-formula-add-result t)
+    (λ c. state-formula-next t (c .before .before .before .before .before .before .before .before))
     (λ c. search needs)
     (state-formula-label-requires t)
-    (state-formula-add-result-2 t)
+    (λ c. state-formula-next t (c .before .before .before .before .before .before .before .before .before))
     (λ c. search needs)
-    (state-formula-add-state-formula t)
+    (λ c. state-formula-next t (c .before .before .before .before))
     (state-formula-state-formula-requires t)
     (state-formula-negated-requires t)
     (λ c. search needs)
-    (state-formula-add-two-formulas t)
+    (λ c. state-formula-next t (c .before .before .before .before))
     (state-formula-two-formulas-requires t)
     (state-formula-both-requires t)
     (λ c. search needs)
-    (state-formula-add-two-expressions t)
+    (λ c. state-formula-next t (c .before .before .before .before .before))
     (state-formula-two-expressions-requires t)
     (λ c κs. search needs)
     (state-formula-compare-requires t)
@@ -874,7 +791,7 @@ pub +combined+expression+path+state-formula+two-expressions+two-formulas-spec :
     (two-expressions-expression-requires t)
     (λ c. search needs)
     (two-expressions-sub-expression t)
-    (two-expressions-part-expression-start t)
+    (two-expressions-sub-expression t)
     (λ c. search needs)
     (two-expressions-expression-requires-2 t)
     (λ c. search needs)
@@ -882,7 +799,7 @@ pub +combined+expression+path+state-formula+two-expressions+two-formulas-spec :
     (two-expressions-expression-requires-3 t)
     (λ c. search needs)
     (two-expressions-sub-expression-2 t)
-    (two-expressions-part-expression-start-2 t)
+    (two-expressions-sub-expression-2 t)
     (λ c. search needs)
     (two-expressions-expression-requires-4 t)
     (two-expressions-swap-requires t)
@@ -896,7 +813,7 @@ pub +combined+expression+path+state-formula+two-expressions+two-formulas-spec :
     (two-formulas-state-formula-requires t)
     (λ c. search needs)
     (two-formulas-sub-state-formula t)
-    (two-formulas-part-state-formula-start t)
+    (two-formulas-sub-state-formula t)
     (λ c. search needs)
     (two-formulas-state-formula-requires-2 t)
     (λ c. search needs)
@@ -904,7 +821,7 @@ pub +combined+expression+path+state-formula+two-expressions+two-formulas-spec :
     (two-formulas-state-formula-requires-3 t)
     (λ c. search needs)
     (two-formulas-sub-state-formula-2 t)
-    (two-formulas-part-state-formula-start-2 t)
+    (two-formulas-sub-state-formula-2 t)
     (λ c. search needs)
     (two-formulas-state-formula-requires-4 t)
     (two-formulas-swap-requires t)
