@@ -3,8 +3,7 @@
  *
  * Memory is lent for the length of a call. A slice is a pointer and then its length in elements; an array of a fixed size
  * is a pointer to its first element, and has at least as many as are named. No pointer may be null, not even that of a slice
- * of length 0. What a call may write
- * overlaps nothing else that is lent to it. The calls allocate nothing, and keep no pointer.
+ * of length 0. What a call may write overlaps nothing else that is lent to it. The calls allocate nothing, and keep no pointer.
  *
  * Refusals. Of the rows that belong to a call the smallest number that applies is given. A refusal carries only its number:
  * all lent memory is as it was.

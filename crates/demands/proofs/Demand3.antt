@@ -2,18 +2,20 @@
 use Prim.Native.Nat.{ℕ, _≤_, _<_}
 use mathlib.Core.Bool.{Bool, true, false, not, true≢false}
 use mathlib.Core.List.{List, map}
+use mathlib.Core.Logic.{_↔_}
 use mathlib.Core.Path.{_≡_, refl, sym, ap, ap₂, subst, _∙_}
 use native.Mathlib.Decide.{decLt}
-use native.Mathlib.Nat.{le-of-eq}
 use native.Mathlib.Omega.{arith}
 use borrow.Author.Tests.{le-ltb}
 use lib.ListN.{length, take, length-map}
+use lib.Seq.{take-at}
 use Rattle.refusal.specs.declared.Written.{Written}
 use Rattle.refusal.specs.declared.Written.the-variants.{Wrote}
-use Rattle.refusal.specs.Answers.{gives, numberIn, Writes}
-use Rattle.refusal.proofs.Ensuring.{number-decided, right-of, written-told}
+use Rattle.refusal.specs.Rows.{Applies, refused as smallest-of, Given}
+use Rattle.refusal.specs.Answers.{gives, refuses, replyOfWritten, Writes}
+use Rattle.refusal.proofs.Ensuring.{right-of, written-told}
 use Rattle.refusal.proofs.Laws.{first-later, first-none}
-use Rattle.refusal.proofs.Listed.{list-number}
+use Rattle.refusal.proofs.Listed.{none-applies}
 use Rattle.model.specs.Layout.{fieldsOf}
 use Rattle.model.specs.Rows.{fileNumber}
 use Rattle.meaning.specs.Lists.{every}
@@ -25,7 +27,6 @@ use Rattle.meaning.specs.Merging.{Stable}
 use Rattle.trees.specs.Listed.{formulaNodes}
 use Rattle.chain.proofs.Accepted.{fields-right}
 use Rattle.question.specs.Rows.{labelRight, QuestionRow, area, model, sentence, labels, size, tuples}
-use Rattle.question.proofs.Numbers.{none-of}
 use Rattle.question.proofs.Stages.{none-of-file}
 use Rattle.verdict.specs.declared.Answer as Judged
 use Rattle.verdict.specs.Calls.{VerdictAnswer, replyOf as replyJudged}
@@ -40,9 +41,10 @@ use Rattle.merge.specs.Kept.{Kept}
 use Rattle.merge.proofs.Exact.{refused-13, stable-alike}
 use Rattle.merge.proofs.Grouped.{grouping-right, count-is}
 use Rattle.merge.proofs.Numbers.{merge-rows, file-accepted}
-use Rattle.merge.proofs.Theorems.{kept-written}
-use Rattle.demands.specs.Demands.{chainIn, Keeps, MergeAsked, Demand3}
-use Rattle.demands.proofs.Free.{one-sentence, none-asked, inside-members, members, tuple-inside}
+use Rattle.merge.proofs.Theorems.{merge-smallest, mergeable, merged-read, kept-written}
+use Rattle.demands.specs.Demands.{chainIn, MergeAsked, Keeps, MergedWritten, Demand3}
+use Rattle.demands.proofs.Free.{one-sentence, inside-members, members, tuple-inside}
+use Rattle.demands.proofs.Demand1.{demand-1}
 
 -- ---- what merging keeps
 
@@ -68,9 +70,8 @@ module _ (file grouping merged : List ℕ) (accepted : fileNumber merged ≡ 0)
       by (no h) = let few = kept .tuples (length ps) (omega arith) in omega (arith, few, e)
 
   verdicts : {text before before′ after after′ : List ℕ} {a b : Judged.Answer} → 8192 ≤ length before′ → VerdictAnswer file text before a after →
-      numberIn (replyJudged a) ≡ 0 → VerdictAnswer merged text before′ b after′ → a ≡ b
-  verdicts {a = a} {b} space x free y =
-      let none = none-of (number-decided (x .ensured)) (le-of-eq free) in
+      ((n : ℕ) → QuestionRow file text (length before) n → ⊥) → VerdictAnswer merged text before′ b after′ → a ≡ b
+  verdicts {a = a} {b} space x none y =
       let full = right-of none (x .ensured) in
       let less = right-of (question-free space none) (y .ensured) in
       let one = one-sentence (full .2 .sentence) (less .2 .sentence) in
@@ -92,10 +93,9 @@ module _ (file grouping merged : List ℕ) (accepted : fileNumber merged ≡ 0)
   asked-free space none n (missing f s e) = none 15 (missing f s e)
 
   numerators : {text tuple before before′ after after′ : List ℕ} {path : ℕ} {a b : Counted.Answer} → 8192 ≤ length before′ →
-      NumeratorAnswer file text tuple path before a after → numberIn (replyCounted a) ≡ 0 →
+      NumeratorAnswer file text tuple path before a after → ((n : ℕ) → NumeratorRow file text tuple path (length before) n → ⊥) →
       NumeratorAnswer merged text (map (groupOf grouping) tuple) path before′ b after′ → a ≡ b
-  numerators {tuple = tuple} {path = path} {a} {b} space x free y =
-      let none = none-asked (number-decided (x .ensured)) free in
+  numerators {tuple = tuple} {path = path} {a} {b} space x none y =
       let full = right-of none (x .ensured) in
       let less = right-of (asked-free space none) (y .ensured) in
       let s = full .2 .sentence in
@@ -115,7 +115,7 @@ module _ (file grouping merged : List ℕ) (accepted : fileNumber merged ≡ 0)
       counted-told a b (full .1 ∙ ap gives (ap₂ (λ (a b : ℕ). (a, b)) top bottom) ∙ sym (less .1))
 
   keeps : Keeps file grouping merged
-  keeps = record { verdicts = λ space x free y. verdicts space x free y; numerators = λ space x free y. numerators space x free y }
+  keeps = record { verdicts = λ space x none y. verdicts space x none y; numerators = λ space x none y. numerators space x none y }
 
 -- ---- when merge refuses
 
@@ -132,21 +132,53 @@ module _ {file grouping : List ℕ} {M room : ℕ} (asked : MergeAsked file grou
       first-later 14 _ (le-ltb room (length (mergedFile file grouping)) (asked .fits)) ∙
       first-none
 
-pub demand-3 : {file grouping before after : List ℕ} {M : ℕ} {answer : Written} → MergeAsked file grouping M (length before) →
-    Writes (mergeRows file grouping (length before)) (mergedFile file grouping) before after answer → Demand3 file grouping M answer after
-unfolding mergeNumber
-demand-3 {file} {grouping} {before} {after} {M} {answer} asked w =
-    let room = length before in
-    let number = list-number (merge-rows file grouping room) (w .ensured) in
-    let exactly = refused-13 file grouping room (asked .accepted) M (asked .long) (asked .grouped) in
-    record {
-      refused = (
-        λ some st. let none = stable-free asked st in omega (arith, number, none, some),
-        λ differ. let here = exactly .1 differ in omega (arith, number, here),
-      );
-      written = λ size e.
-          let wrote : Writes (mergeRows file grouping room) (mergedFile file grouping) before after (Wrote size) =
-          subst (λ (x : Written). Writes (mergeRows file grouping room) (mergedFile file grouping) before after x) (written-told answer (Wrote size) e) w in
-          let kept = kept-written file grouping before after size wrote in
-          (kept .0, keeps file grouping (take size after) (kept .0) (kept .1));
-    }
+module _ (file grouping : List ℕ) (M : ℕ) {before after : List ℕ} {w : Written} (asked : MergeAsked file grouping M (length before))
+    (writes : Writes (mergeRows file grouping (length before)) (mergedFile file grouping) before after w) where
+  -- it is refused exactly if the grouping is not stable
+  refused-so : ((n : ℕ) × (replyOfWritten w ≡ refuses n)) ↔ (Stable (chainIn file) (groupOf grouping) M → ⊥)
+  unfolding mergeNumber
+  refused-so = (
+    λ e st. none-applies (merge-rows file grouping (length before)) (stable-free asked st) (e .0)
+        (demand-1 .merge-call file grouping writes .refusal (e .0) .0 (e .1) .0),
+    λ differ.
+        let here = refused-13 file grouping (length before) (asked .accepted) M (asked .long) (asked .grouped) .1 differ in
+        let ends = demand-1 .merge-call file grouping writes .refusal 13 in
+        (13, ends .1 (given-13 here)),
+  )
+    where
+      given-13 : mergeNumber file grouping (length before) ≡ 13 →
+          Applies 13 (mergeRows file grouping (length before)) × ((m : ℕ) → Applies m (mergeRows file grouping (length before)) → 13 ≤ m)
+      given-13 e = by (subst (Given (mergeRows file grouping (length before))) e (merge-smallest file grouping (length before)))
+        where
+          by : Given (mergeRows file grouping (length before)) 13 →
+              Applies 13 (mergeRows file grouping (length before)) × ((m : ℕ) → Applies m (mergeRows file grouping (length before)) → 13 ≤ m)
+          by (smallest-of row least) = (row, least)
+
+  -- otherwise the merged model is written
+  written-so : Stable (chainIn file) (groupOf grouping) M → MergedWritten file grouping w after
+  unfolding mergeNumber
+  written-so st =
+      let free = none-applies (merge-rows file grouping (length before)) (stable-free asked st) in
+      let right = right-of free (writes .ensured) in
+      let size = right .0 in
+      let wrote : Writes (mergeRows file grouping (length before)) (mergedFile file grouping) before after (Wrote size) =
+      subst (λ (x : Written). Writes (mergeRows file grouping (length before)) (mergedFile file grouping) before after x)
+      (written-told w (Wrote size) (right .1)) writes in
+      let kept = kept-written file grouping before after size wrote in
+      let m = mergeable file grouping (length before) (stable-free asked st) in
+      let front : take size after ≡ mergedFile file grouping =
+      ap (take size) (right .2 .left) ∙ take-at (right .2 .text) _ size (sym (right .2 .sized)) ∙ right .2 .asked in
+      record {
+        size = size;
+        answered = right .1;
+        front = front;
+        accepted = kept .0;
+        model = ap fieldsOf front ∙ merged-read file grouping (m .accepted) (m .grouped) (m .alike);
+        keeps = keeps file grouping (take size after) (kept .0) (kept .1);
+      }
+
+pub demand-3 : Demand3
+demand-3 = record {
+  refused = λ file grouping M asked writes. refused-so file grouping M asked writes;
+  written = λ file grouping M asked writes. written-so file grouping M asked writes;
+}

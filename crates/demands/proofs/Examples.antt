@@ -13,15 +13,18 @@ use Rattle.sentence.specs.Grammar.{digits, numberText, kindOf, wants, Nests, bo
 use Rattle.sentence.specs.Grammar.Nests.{end, node}
 use Rattle.sentence.specs.Writing.{sameKind, writable}
 use Rattle.sentence.proofs.Fitting.{same-eq, has-text}
-use Rattle.meaning.specs.Lists.{below, every, Each, nothing, further}
+use Rattle.counting.specs.Below.{table}
+use Rattle.meaning.specs.Lists.{below, every, total, Each, nothing, further}
+use Rattle.meaning.specs.Merging.{weightInto, member, merged as merged-chain}
 use Rattle.meaning.specs.Tree.{Formula, letterOf}
-use Rattle.meaning.specs.Examples.{Claim as Meant, met, claims as onSentences}
+use Rattle.meaning.specs.Examples.{M1, M2 as chainM2, M2merged as chainM2merged, Claim as Meant, met, claims as onSentences}
 use Rattle.meaning.proofs.Tests.{and-left, and-right}
 use Rattle.meaning.proofs.Examples.{examples as meant}
 use Rattle.trees.specs.Listed.{formulaNodes, expressionNodes}
-use Rattle.merge.specs.Examples.{Claim as Merging, Met as MetMerging, claims as onMerging}
+use Rattle.chain.specs.Of.{chainOf}
+use Rattle.merge.specs.Examples.{modelWith, M2, M2merged, Claim as Merging, Met as MetMerging, claims as onMerging}
 use Rattle.merge.proofs.Examples.{examples as merged}
-use Rattle.demands.specs.Examples.{ascii, TextOf, SentenceText, Written, Claim, means, merging, Met, claims}
+use Rattle.demands.specs.Examples.{ascii, TextOf, SentenceText, Texted, modelM1, sameChain, Claim, describes, means, merging, Met, claims}
 
 -- whether nodes are just what is wanted: of a list that is written out, by computing
 abbrev nesting : List Kind → List Node → Bool
@@ -58,8 +61,8 @@ sentence ps body text some few n e =
     }
 
 -- the document's texts are those of the trees
-texts : Each Written (length onSentences) onSentences
-unfolding Written onSentences ascii below formulaNodes expressionNodes numberText digits
+texts : Each Texted (length onSentences) onSentences
+unfolding Texted onSentences ascii below formulaNodes expressionNodes numberText digits
 texts =
     further (expression _ "PXa1" refl refl)
     (further (expression _ "PXa1" refl refl)
@@ -86,15 +89,30 @@ unfolding Met
 on-merging [] nothing = nothing
 on-merging (x ∷ xs) (further m rest) = further m (on-merging xs rest)
 
-on-sentences : (l : List Meant) (after : List Claim) → every met l ≡ true → Each Written (length l) l → Each Met (length after) after →
+on-sentences : (l : List Meant) (after : List Claim) → every met l ≡ true → Each Texted (length l) l → Each Met (length after) after →
     Each Met (length (map means l ++ after)) (map means l ++ after)
 unfolding every Met
 on-sentences [] after e nothing r = r
 on-sentences (x ∷ xs) after e (further w rest) r =
-    let both : (met x ≡ true) × Written x = (and-left (met x) (every met xs) e, w) in
+    let both : (met x ≡ true) × Texted x = (and-left (met x) (every met xs) e, w) in
     further both (on-sentences xs after (and-right (met x) (every met xs) e) rest r)
+
+-- the chains of the lines are those of the models
+same-M1 : sameChain 1 (chainOf modelM1) M1 ≡ true
+unfolding sameChain modelM1 modelWith M1 every below table
+same-M1 = refl
+
+same-M2 : sameChain 1 (chainOf M2) chainM2 ≡ true
+unfolding sameChain M2 chainM2 modelWith every below table
+same-M2 = refl
+
+same-merged : sameChain 1 (chainOf M2merged) chainM2merged ≡ true
+unfolding sameChain M2merged chainM2merged chainM2 modelWith every below table merged-chain weightInto member total
+same-merged = refl
 
 -- every line marked * agrees with the definitions
 pub examples : Each Met (length claims) claims
-unfolding claims
-examples = on-sentences onSentences (map merging onMerging) meant texts (on-merging onMerging merged)
+unfolding claims Met modelM1 M2 M2merged modelWith
+examples =
+    further same-M1 (further same-M2 (further same-merged
+    (on-sentences onSentences (map merging onMerging) meant texts (on-merging onMerging merged))))

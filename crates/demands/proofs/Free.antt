@@ -23,19 +23,6 @@ use Rattle.numerator.specs.Calls.{NumeratorRow, question, long, member, missing
 pub one-sentence : {text : List ℕ} (s t : SentenceOf text) → (s .prefix ≡ t .prefix) × (s .body ≡ t .body)
 one-sentence s t = sentence-once (s .body) (t .body) (s .spelled) (t .spelled)
 
--- every row of numerator has a number of 1 or more
-row-asked : {file text tuple : List ℕ} {path room n : ℕ} → NumeratorRow file text tuple path room n → 1 ≤ n
-row-asked (question row) = row-some row
-row-asked (long f s h) = omega arith
-row-asked (member h) = omega arith
-row-asked (missing f s h) = omega arith
-
--- where the number given is 0, no row of numerator applies
-pub none-asked : {file text tuple : List ℕ} {path room n : ℕ} → Decided (NumeratorRow file text tuple path room) n → n ≡ 0 →
-    (m : ℕ) → NumeratorRow file text tuple path room m → ⊥
-none-asked (refused row least) e m r = let some = row-asked row in omega (arith, some, e)
-none-asked (accepted none) e m r = none m r
-
 -- a tuple of states has its members below N
 pub inside-members : {N n : ℕ} {s : List ℕ} → Inside N n s → membersBelow N s ≡ true
 unfolding every

@@ -4,6 +4,7 @@ use mathlib.Core.List.{List}
 use mathlib.Core.Path.{_≡_, refl, sym, ap, subst, _∙_}
 use lib.ListN.{length, take}
 use lib.Seq.{take-at}
+use Rattle.refusal.specs.declared.Outcome.{Outcome}
 use Rattle.refusal.specs.declared.Outcome.the-variants.{Done}
 use Rattle.refusal.specs.declared.Written.{Written}
 use Rattle.refusal.specs.declared.Written.the-variants.{Wrote}
@@ -20,12 +21,12 @@ use Rattle.sentence.proofs.RoundTrips.{read-then-write, write-then-read}
 use Rattle.demands.specs.Demands.{RoundTrips}
 
 -- writing a model that was read
-file-back : {file before after : List ℕ} {r : ModelRead} {w : Written} → Reads file r → numberIn (replyOf (r .outcome)) ≡ 0 →
+file-back : {file before after : List ℕ} {r : ModelRead} {w : Written} → Reads file r → r .outcome ≡ Done →
     length file ≤ length before → Writes (recordRows (r .model) (length before)) (fileOf (r .model)) before after w →
     (w ≡ Wrote (length file)) × (after ≡ atFront file before)
 unfolding recordNumber
-file-back {file} {before} {after} {r} {w} reads free room writes =
-    let accepted = sym (reads-number reads) ∙ free in
+file-back {file} {before} {after} {r} {w} reads done room writes =
+    let accepted = sym (reads-number reads) ∙ ap (λ (o : Outcome). numberIn (replyOf o)) done in
     let m = fieldsOf file in
     let same = write-of-read file accepted in
     let text = subst (λ (x : Model). Writes (recordRows x (length before)) (fileOf x) before after w) (reads-value reads accepted) writes in
@@ -49,7 +50,7 @@ model-back {m} {before} {after} {size} {r} shaped writes reads =
 pub round-trips : RoundTrips
 round-trips =
     record {
-      files = λ reads free room writes. file-back reads free room writes;
+      files = λ reads done room writes. file-back reads done room writes;
       texts = λ reads done room writes. read-then-write reads done room writes;
       models = λ shaped writes reads. model-back shaped writes reads;
       sentences = λ long writes reads. write-then-read long writes reads;

@@ -1,40 +1,66 @@
 -- The three demands of document 00, said of whatever the calls' contracts allow: of every reply, and of all that is left.
-use Prim.Native.Nat.{ℕ, _≤_, _<_}
-use mathlib.Core.List.{List, map}
+use Prim.Native.Nat.{ℕ, _≤_}
+use mathlib.Core.List.{List, [], map}
 use mathlib.Core.Logic.{_↔_}
 use mathlib.Core.Path.{_≡_}
 use lib.ListN.{length, take}
 use Rattle.refusal.specs.declared.Outcome.the-variants.{Done}
 use Rattle.refusal.specs.declared.Written.{Written}
 use Rattle.refusal.specs.declared.Written.the-variants.{Wrote}
-use Rattle.refusal.specs.Rows.{Decided}
-use Rattle.refusal.specs.Answers.{Reply, gives, numberIn, replyOf, replyOfWritten, atFront, Writes}
+use Rattle.refusal.specs.Rows.{Applies}
+use Rattle.refusal.specs.Answers.{Reply, gives, refuses, replyOf, replyOfWritten, atFront, Writes}
 use Rattle.model.specs.declared.Model.{Model}
 use Rattle.model.specs.declared.ModelRead.{ModelRead}
 use Rattle.model.specs.Layout.{Shaped, fieldsOf, fileOf}
-use Rattle.model.specs.Rows.{fileNumber, Reads, recordRows}
+use Rattle.model.specs.Rows.{fileRows, fileNumber, emptyModel, Reads, recordRows}
 use Rattle.sentence.specs.declared.Sentence.{Sentence}
 use Rattle.sentence.specs.declared.SentenceRead.{SentenceRead}
-use Rattle.sentence.specs.Calls.{recordOf, ReadAnswer, prefixOf, nodesOf, WriteAnswer}
+use Rattle.sentence.specs.Calls.{ReadRow, recordOf, ReadAnswer, prefixOf, nodesOf, WriteRow, WriteAnswer}
 use Rattle.meaning.specs.Lists.{total}
 use Rattle.meaning.specs.Chain.{Chain, runWeight, runs}
 use Rattle.meaning.specs.Tree.{PathFormula, next, until, letterOf}
 use Rattle.meaning.specs.Meaning.{numerator, verdict}
 use Rattle.meaning.specs.Merging.{Grouping, Stable}
 use Rattle.chain.specs.Of.{chainOf}
-use Rattle.question.specs.Rows.{SentenceOf}
+use Rattle.question.specs.Rows.{QuestionRow, SentenceOf}
 use Rattle.verdict.specs.declared.Answer as Judged
 use Rattle.verdict.specs.Calls.{VerdictAnswer, replyOf as replyJudged}
 use Rattle.numerator.specs.declared.Answer as Counted
-use Rattle.numerator.specs.Calls.{NumeratorAnswer, numbered, replyOf as replyCounted}
-use Rattle.merge.specs.Groups.{groupOf}
-use Rattle.merge.specs.Rows.{mergedFile}
+use Rattle.numerator.specs.Calls.{NumeratorRow, NumeratorAnswer, numbered, replyOf as replyCounted}
+use Rattle.merge.specs.Groups.{groupOf, mergedModel}
+use Rattle.merge.specs.Rows.{mergeRows, mergedFile}
 
--- Demand 1, of every call, whose contract is an `Ensured`: a refusal is numbered exactly when its row says, with the smallest
--- number; and a refusal leaves all lent memory unchanged.
-pub record Demand1 {A L : Type 0} (R : ℕ → Type 0) (before : L) (reply : Reply A) (after : L) : Type 0 where
-  pub numbers : Decided R (numberIn reply)
-  pub unchanged : 0 < numberIn reply → after ≡ before
+-- ---- Demand 1
+
+-- How a call ends, of its rows (`R n` says that the row with the number n applies), what it is lent, its reply and what it leaves:
+pub record Ends {A L : Type 0} (R : ℕ → Type 0) (before : L) (reply : Reply A) (after : L) : Type 0 where
+  -- in a numbered refusal exactly if its row applies and none with a smaller number,
+  pub refusal : (n : ℕ) → (reply ≡ refuses n) ↔ (R n × ((m : ℕ) → R m → n ≤ m))
+  -- and in an answer exactly if no row applies.
+  pub answer : ((v : A) × (reply ≡ gives v)) ↔ ((m : ℕ) → R m → ⊥)
+  -- A refusal leaves all lent memory unchanged.
+  pub unchanged : (n : ℕ) → reply ≡ refuses n → after ≡ before
+
+-- Every model file, sentence and grouping of any length ends so, in each of the seven calls. A reader is lent nothing: what it
+-- returns beside a refusal is an empty record.
+pub record Demand1 : Type 0 where
+  pub read-model : {file : List ℕ} {r : ModelRead} → Reads file r →
+      Ends (λ n. Applies n (fileRows file)) emptyModel (replyOf (r .outcome)) (r .model)
+  pub write-model : (m : Model) {before after : List ℕ} {w : Written} → Writes (recordRows m (length before)) (fileOf m) before after w →
+      Ends (λ n. Applies n (recordRows m (length before))) before (replyOfWritten w) after
+  pub read-sentence : {text : List ℕ} {r : SentenceRead} → ReadAnswer text r →
+      Ends (ReadRow text) (recordOf [] []) (replyOf (r .outcome)) (r .sentence)
+  pub write-sentence : {s : Sentence} {before after : List ℕ} {w : Written} → WriteAnswer s before w after →
+      Ends (WriteRow s (length before)) before (replyOfWritten w) after
+  pub verdict-call : {file text before after : List ℕ} {a : Judged.Answer} → VerdictAnswer file text before a after →
+      Ends (QuestionRow file text (length before)) before (replyJudged a) after
+  pub numerator-call : {file text tuple before after : List ℕ} {path : ℕ} {a : Counted.Answer} → NumeratorAnswer file text tuple path before a after →
+      Ends (NumeratorRow file text tuple path (length before)) before (replyCounted a) after
+  pub merge-call : (file grouping : List ℕ) {before after : List ℕ} {w : Written} →
+      Writes (mergeRows file grouping (length before)) (mergedFile file grouping) before after w →
+      Ends (λ n. Applies n (mergeRows file grouping (length before))) before (replyOfWritten w) after
+
+-- ---- Demand 2
 
 -- the steps of the runs that a path formula speaks of
 abbrev pub stepsOf : PathFormula → ℕ
@@ -45,58 +71,81 @@ stepsOf (until k1 k2 f g) = k2
 abbrev pub chainIn : List ℕ → Chain
 chainIn file = chainOf (fieldsOf file)
 
--- Demand 2, of verdict and numerator on a file, where no refusal applies.
+-- what numerator gives of a path formula at a tuple: the total weight of the satisfying runs, each run once, over the total weight
+-- of all
+pub record Probability (file : List ℕ) (p : PathFormula) (n : ℕ) (tuple : List ℕ) (reply : Reply (ℕ × ℕ)) : Type 0 where
+  pub bottom : ℕ
+  pub given : reply ≡ gives (numerator p (chainIn file) n tuple, bottom)
+  pub whole : bottom ≡ total (runWeight (chainIn file)) (runs (chainIn file) n (stepsOf p) tuple)
+
+-- Demand 2, of verdict and numerator on a file, where no row applies: the text has a sentence, and one only;
 pub record Demand2 (file : List ℕ) : Type 0 where
-  -- The verdict is 'holds' exactly if the sentence holds.
+  pub one-sentence : {text : List ℕ} (s t : SentenceOf text) → (s .prefix ≡ t .prefix) × (s .body ≡ t .body)
+  -- the verdict is 'holds' exactly if it holds;
   pub verdicts : {text before after : List ℕ} {a : Judged.Answer} → VerdictAnswer file text before a after →
-      numberIn (replyJudged a) ≡ 0 → (s : SentenceOf text) →
-      replyJudged a ≡ gives (verdict (chainIn file) (map letterOf (s .prefix)) (s .body))
-  -- Each probability is the total weight of the satisfying runs, each run once,
-  pub numerators : {text tuple before after : List ℕ} {path : ℕ} {a : Counted.Answer} → NumeratorAnswer file text tuple path before a after →
-      numberIn (replyCounted a) ≡ 0 → (s : SentenceOf text) →
-      (bottom : ℕ) × (replyCounted a ≡ gives (numerator (numbered (s .body) path) (chainIn file) (length (s .prefix)) tuple, bottom)) ×
-      -- over the total weight of all.
-      (bottom ≡ total (runWeight (chainIn file)) (runs (chainIn file) (length (s .prefix)) (stepsOf (numbered (s .body) path)) tuple))
+      ((n : ℕ) → QuestionRow file text (length before) n → ⊥) →
+      (s : SentenceOf text) × (replyJudged a ≡ gives (verdict (chainIn file) (map letterOf (s .prefix)) (s .body)))
+  -- and each probability is the total weight of the satisfying runs over the total weight of all.
+  pub probabilities : {text tuple before after : List ℕ} {path : ℕ} {a : Counted.Answer} → NumeratorAnswer file text tuple path before a after →
+      ((n : ℕ) → NumeratorRow file text tuple path (length before) n → ⊥) →
+      (s : SentenceOf text) × Probability file (numbered (s .body) path) (length (s .prefix)) tuple (replyCounted a)
 
 -- Demand 2, of the readers and writers.
 pub record RoundTrips : Type 0 where
   -- Writing what was read gives the same file
-  pub files : {file before after : List ℕ} {r : ModelRead} {w : Written} → Reads file r → numberIn (replyOf (r .outcome)) ≡ 0 →
-      length file ≤ length before → Writes (recordRows (r .model) (length before)) (fileOf (r .model)) before after w →
+  pub files : {file before after : List ℕ} {r : ModelRead} {w : Written} → Reads file r → r .outcome ≡ Done → length file ≤ length before →
+      Writes (recordRows (r .model) (length before)) (fileOf (r .model)) before after w →
       (w ≡ Wrote (length file)) × (after ≡ atFront file before)
   -- or text,
   pub texts : {text before after : List ℕ} {r : SentenceRead} {w : Written} → ReadAnswer text r → r .outcome ≡ Done →
       length text ≤ length before → WriteAnswer (r .sentence) before w after → (w ≡ Wrote (length text)) × (after ≡ atFront text before)
-  -- and reading what was written gives the same model
+  -- and reading what was written gives the same model, of a record as its type has it,
   pub models : {m : Model} {before after : List ℕ} {size : ℕ} {r : ModelRead} → Shaped m →
       Writes (recordRows m (length before)) (fileOf m) before after (Wrote size) → Reads (take size after) r → r ≡ record { outcome = Done; model = m }
-  -- or sentence: its prefix and its nodes, as places past the count are no part of it.
+  -- or sentence, of a record with four places for letters, as its type has them: its prefix and its nodes, since places past the
+  -- count are no part of it.
   pub sentences : {s : Sentence} {before after : List ℕ} {size : ℕ} {r : SentenceRead} → length (s .exists) ≡ 4 →
       WriteAnswer s before (Wrote size) after → ReadAnswer (take size after) r →
       r ≡ record { outcome = Done; sentence = recordOf (prefixOf s) (nodesOf s) }
 
--- Demand 3, of two files, the second with the groups of the first as its states: what merging keeps.
-pub record Keeps (file grouping merged : List ℕ) : Type 0 where
-  -- For every sentence not refused on the full model the verdicts are equal,
-  pub verdicts : {text area area′ left left′ : List ℕ} {a b : Judged.Answer} → 8192 ≤ length area′ → VerdictAnswer file text area a left →
-      numberIn (replyJudged a) ≡ 0 → VerdictAnswer merged text area′ b left′ → a ≡ b
-  -- and each path formula's numerator and denominator, at every tuple of states, equal those on the merged model at the tuple of
-  -- their groups.
-  pub numerators : {text tuple area area′ left left′ : List ℕ} {path : ℕ} {a b : Counted.Answer} → 8192 ≤ length area′ →
-      NumeratorAnswer file text tuple path area a left → numberIn (replyCounted a) ≡ 0 →
-      NumeratorAnswer merged text (map (groupOf grouping) tuple) path area′ b left′ → a ≡ b
+-- ---- Demand 3
 
--- Demand 3 speaks of a model that is accepted, a grouping that gives each state one of M groups, every group number used, and an
--- output that has room:
+-- It speaks of a model that is accepted, a grouping that gives each state one of M groups, every group number used, and an output
+-- that has room.
 pub record MergeAsked (file grouping : List ℕ) (M room : ℕ) : Type 0 where
   pub accepted : fileNumber file ≡ 0
   pub long : length grouping ≡ fieldsOf file .n
   pub grouped : Grouping (chainIn file) (groupOf grouping) M
   pub fits : length (mergedFile file grouping) ≤ room
 
--- of these, what merge answers and leaves.
-pub record Demand3 (file grouping : List ℕ) (M : ℕ) (answer : Written) (after : List ℕ) : Type 0 where
+-- What merging keeps, of the answers on a file and on the file that it is merged to (where the second work area is long enough):
+pub record Keeps (file grouping merged : List ℕ) : Type 0 where
+  -- for every sentence not refused on the full model the verdicts are equal,
+  pub verdicts : {text area area′ left left′ : List ℕ} {a b : Judged.Answer} → 8192 ≤ length area′ → VerdictAnswer file text area a left →
+      ((n : ℕ) → QuestionRow file text (length area) n → ⊥) → VerdictAnswer merged text area′ b left′ → a ≡ b
+  -- and each path formula's numerator and denominator, at every tuple of states, equal those on the merged model at the tuple of
+  -- their groups.
+  pub numerators : {text tuple area area′ left left′ : List ℕ} {path : ℕ} {a b : Counted.Answer} → 8192 ≤ length area′ →
+      NumeratorAnswer file text tuple path area a left → ((n : ℕ) → NumeratorRow file text tuple path (length area) n → ⊥) →
+      NumeratorAnswer merged text (map (groupOf grouping) tuple) path area′ b left′ → a ≡ b
+
+-- The merged model is written: the bytes at the front are its file, which is accepted and read as that model, and what merging
+-- keeps is kept.
+pub record MergedWritten (file grouping : List ℕ) (answer : Written) (after : List ℕ) : Type 0 where
+  pub size : ℕ
+  pub answered : replyOfWritten answer ≡ gives size
+  pub front : take size after ≡ mergedFile file grouping
+  pub accepted : fileNumber (take size after) ≡ 0
+  pub model : fieldsOf (take size after) ≡ mergedModel (fieldsOf file) grouping
+  pub keeps : Keeps file grouping (take size after)
+
+-- Demand 3, of whatever merge answers and leaves.
+pub record Demand3 : Type 0 where
   -- It is refused exactly if two states of one group differ in labels or in their weight into some group.
-  pub refused : (0 < numberIn (replyOfWritten answer)) ↔ (Stable (chainIn file) (groupOf grouping) M → ⊥)
-  -- Otherwise the merged model is written: the bytes at the front are an accepted file, and what merging keeps is kept.
-  pub written : (size : ℕ) → replyOfWritten answer ≡ gives size → (fileNumber (take size after) ≡ 0) × Keeps file grouping (take size after)
+  pub refused : (file grouping : List ℕ) (M : ℕ) {before after : List ℕ} {w : Written} → MergeAsked file grouping M (length before) →
+      Writes (mergeRows file grouping (length before)) (mergedFile file grouping) before after w →
+      ((n : ℕ) × (replyOfWritten w ≡ refuses n)) ↔ (Stable (chainIn file) (groupOf grouping) M → ⊥)
+  -- Otherwise the merged model is written, and what merging keeps is kept.
+  pub written : (file grouping : List ℕ) (M : ℕ) {before after : List ℕ} {w : Written} → MergeAsked file grouping M (length before) →
+      Writes (mergeRows file grouping (length before)) (mergedFile file grouping) before after w →
+      Stable (chainIn file) (groupOf grouping) M → MergedWritten file grouping w after

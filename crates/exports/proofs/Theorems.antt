@@ -94,6 +94,39 @@ module _ {file text tuple before value after after′ v v′ : List ℕ} {path r
         a .value-left ∙ ap (λ (x : Counted.Answer). valuesLeft (replyCounted x) value) (same .0) ∙ sym (b .value-left),
       )
 
+-- ---- a refusal leaves all lent memory unchanged
+
+-- where the reply's number is not 0, what is lent is as it was
+filled-none : {A B : Type 0} (q : Reply A) (value before : B) → 0 < numberIn q → filled q value before ≡ before
+filled-none (gives v) value before some = absurd (omega arith)
+filled-none (refuses n) value before some = refl
+
+module _ {head masks h m : List ℕ} {rows w : List (List ℕ)} {r : ℕ} where
+  pub model-unchanged : {file : List ℕ} → ReadsModel file head masks rows h m w r → 0 < r → (h ≡ head) × (m ≡ masks) × (w ≡ rows)
+  model-unchanged a some =
+      let refusal = subst (λ (n : ℕ). 0 < n) (a .answered) some in (
+        a .head-left ∙ filled-none (replyOf (a .read .outcome)) _ head refusal,
+        a .masks-left ∙ filled-none (replyOf (a .read .outcome)) _ masks refusal,
+        a .rows-left ∙ filled-none (replyOf (a .read .outcome)) _ rows refusal,
+      )
+
+module _ {text head exists h e : List ℕ} {codes c : List (List ℕ)} {r : ℕ} where
+  pub sentence-unchanged : ReadsSentence text head exists codes h e c r → 0 < r → (h ≡ head) × (e ≡ exists) × (c ≡ codes)
+  sentence-unchanged a some =
+      let refusal = subst (λ (n : ℕ). 0 < n) (a .answered) some in (
+        a .head-left ∙ filled-none (replyOf (a .read .outcome)) _ head refusal,
+        a .exists-left ∙ filled-none (replyOf (a .read .outcome)) _ exists refusal,
+        a .codes-left ∙ filled-none (replyOf (a .read .outcome)) _ codes refusal,
+      )
+
+module _ {file text tuple before value after v : List ℕ} {path r : ℕ} where
+  pub value-unchanged : GivesNumerator file text tuple path before value after v r → 0 < r → v ≡ value
+  value-unchanged a some = a .value-left ∙ none (replyCounted (a .counted)) (subst (λ (n : ℕ). 0 < n) (a .answered) some)
+    where
+      none : (q : Reply (ℕ × ℕ)) → 0 < numberIn q → valuesLeft q value ≡ value
+      none (gives x) some = absurd (omega arith)
+      none (refuses n) some = refl
+
 -- ---- the two numbers that are lent for numerator's values
 
 pub values-given : {q : Reply (ℕ × ℕ)} {v : ℕ × ℕ} → q ≡ gives v → (before : List ℕ) → valuesLeft q before ≡ v .0 ∷ v .1 ∷ []

@@ -10,7 +10,7 @@ use Rattle.model.specs.Layout.{modelOf, fileOf}
 use Rattle.merge.specs.Rows.{mergeNumber, mergedFile}
 
 -- the model with these masks and rows
-modelWith : (n a d : ℕ) → List ℕ → List (List ℕ) → Model
+unfoldable pub modelWith : (n a d : ℕ) → List ℕ → List (List ℕ) → Model
 modelWith n a d masks rows =
     modelOf n a d (table 32 (λ s. getD masks s 0)) (table 32 (λ s. table 32 (λ t. getD (getD rows s []) t 0)))
 

@@ -1,4 +1,5 @@
--- Demand 3 of document 00: what merging keeps, said of the two models and document 01's definitions of them.
+-- What merging keeps, said of the two models and document 01's definitions of them: a step to demand 3 of document 00, which the
+-- crate `demands` says of the answers.
 use Prim.Native.Nat.{ℕ, _≤_}
 use mathlib.Core.Bool.{false}
 use mathlib.Core.List.{List, map}

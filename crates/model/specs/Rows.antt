@@ -79,7 +79,7 @@ emptyModel = record {
   weights = record { rows = table 32 (λ s. table 32 (λ t. 0)) };
 }
 
--- what read model ensures of the file and what it answers: the fields of an accepted file
+-- what read model ensures of the file and what it answers: the fields of an accepted file, and beside a refusal the empty model
 pub record Reads (file : List ℕ) (r : ModelRead) : Type 0 where
   pub ensured : Ensured (λ n. Applies n (fileRows file)) (λ done m. m ≡ fieldsOf file) emptyModel (replyOf (r .outcome)) (r .model)
 

@@ -36,7 +36,8 @@ labelRight a Next = true
 labelRight a (Until k1 k2) = true
 
 -- the rows: `QuestionRow file text room n` says that the row with the number n applies to the model file, the sentence text
--- and a work area of `room` numbers. A sentence is the prefix ps and the body f that spell the text.
+-- and a work area of `room` numbers. A sentence is the prefix ps and the body f that spell the text: every node list of the grammar
+-- is that of a tree, and of one only (`formula-of` and `sentence-once` of the crate `trees`).
 pub data QuestionRow (file text : List ℕ) (room : ℕ) : ℕ → Type 0 where
   area : room < 8192 → QuestionRow file text room 1
   model : {n : ℕ} → Applies n (fileRows file) → QuestionRow file text room n

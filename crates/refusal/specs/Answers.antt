@@ -26,9 +26,10 @@ abbrev pub filled : {A B : Type 0} → Reply A → B → B → B
 filled (gives values) value before = value
 filled (refuses number) value before = before
 
--- What a call ensures of its reply and of what it leaves: of the rows that apply the smallest number is given, and all is left
--- as it was; and where none applies the right values are given, and left is what is right.
--- `R n` says that the row with the number n applies, `Right v l` that the values v and what is left, l, are right.
+-- What a call ensures of its reply and of what it leaves. Where rows apply, it refuses with the smallest number, and leaves all as it
+-- was; where none applies, it gives the right values, and leaves what is right.
+-- `R n` says that the row with the number n applies, `Right v l` that the values v and what is left, l, are right. Of a reader, which
+-- is lent nothing, 'left' is the record that it returns beside its reply, and 'before' the empty record.
 pub data Ensured {A L : Type 0} (R : ℕ → Type 0) (Right : A → L → Type 0) (before : L) (reply : Reply A) (after : L) : Type 0 where
   refused : {n : ℕ} → reply ≡ refuses n → after ≡ before → R n → ((m : ℕ) → R m → n ≤ m) → Ensured R Right before reply after
   answered : {v : A} → reply ≡ gives v → Right v after → ((m : ℕ) → R m → ⊥) → Ensured R Right before reply after
