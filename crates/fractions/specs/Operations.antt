@@ -79,9 +79,10 @@ pub record LayersFit (fit : ℤ → ℤ → Type 0) (T : ℕ) (w : List ℕ) : T
   pub room : T + T ≤ length w
   pub fits : (k : ℕ) → k < T → fit (decoded (getD w k 0)) (decoded (getD w (T + k) 0))
 
--- they fit the operation, and their cross products fit
+-- they fit the operation
 abbrev pub CombineFits : Operation → (d1 d2 T : ℕ) → List ℕ → Type 0
 CombineFits op d1 d2 T w = LayersFit (λ a b. OperandsFit op a d1 b d2) T w
 
+-- their cross products fit
 abbrev pub CompareFits : (d1 d2 T : ℕ) → List ℕ → Type 0
 CompareFits d1 d2 T w = LayersFit (λ a b. CrossesFit a d1 b d2) T w
