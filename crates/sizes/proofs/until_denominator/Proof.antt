@@ -11,5 +11,8 @@ mul-power c =
     let few : c .args .n * c .args .to ≤ 4 * c .args .to = mul-le-mul-right (c .args .to) (c .pre) in
     omega (arith, few, c .fits .to)
 
+returns : tie.Need-returns
+returns c = c .power .ensures
+
 pub until-denominator-spec : {M : Type 1} → statement M
-until-denominator-spec = tie.close (tie.spec mul-power (λ c κs. search needs) (λ c. search needs))
+until-denominator-spec = tie.close (tie.spec mul-power (λ c κs. search needs) returns)
