@@ -12,7 +12,7 @@ use lib.ListN.{length, take}
 use lib.Seq.{take-at}
 use Rattle.counting.proofs.Laws.{length-table, table-at}
 use Rattle.refusal.specs.Rows.{Applies, Given}
-use Rattle.refusal.specs.Answers.{gives, Ensured, refused, answered, Fronted, Writes}
+use Rattle.refusal.specs.Answers.{gives, Ensured, refused, answered, TextAtFront, Writes}
 use Rattle.refusal.specs.declared.Written.the-variants.{Wrote}
 use Rattle.refusal.proofs.Listed.{list-number}
 use Rattle.refusal.proofs.Laws.{smallest, none-here}
@@ -144,7 +144,7 @@ kept-written file grouping before after size w = by (w .ensured)
     free : mergeNumber file grouping (length before) ≡ 0
     free = sym (list-number (merge-rows file grouping (length before)) (w .ensured))
 
-    by : Ensured (λ n. Applies n (mergeRows file grouping (length before))) (Fronted (λ t. t ≡ mergedFile file grouping) before) before (gives size) after →
+    by : Ensured (λ n. Applies n (mergeRows file grouping (length before))) (TextAtFront (λ t. t ≡ mergedFile file grouping) before) before (gives size) after →
         Result (take size after)
     by (refused {n} e l row least) =
         let z : _≡_ {A = ℕ} 0 1 = cc in

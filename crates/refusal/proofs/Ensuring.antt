@@ -9,7 +9,7 @@ use Rattle.refusal.specs.declared.Outcome.{Outcome}
 use Rattle.refusal.specs.declared.Outcome.the-variants.{Done, Refused}
 use Rattle.refusal.specs.declared.Written.{Written}
 use Rattle.refusal.specs.declared.Written.the-variants.{Wrote, Refused as Unwritten}
-use Rattle.refusal.specs.Answers.{Reply, gives, refuses, numberIn, filled, Ensured, refused, answered, replyOf, replyOfWritten, atFront, Fronted}
+use Rattle.refusal.specs.Answers.{Reply, gives, refuses, numberIn, filled, Ensured, refused, answered, replyOf, replyOfWritten, atFront, TextAtFront}
 use Rattle.refusal.specs.Rows.{Decided, refused as smallest, accepted}
 
 module _ {A L : Type 0} {R : ℕ → Type 0} {Right : A → L → Type 0} {before : L} where
@@ -49,7 +49,7 @@ filled-refused {A} e value before = ap (λ (x : Reply A). filled x value before)
 
 -- what is right of a writer is one, where one text is asked for
 pub one-front : {Asked : List ℕ → Type 0} {before : List ℕ} → ((t t′ : List ℕ) → Asked t → Asked t′ → t ≡ t′) → (size size′ : ℕ)
-    (after after′ : List ℕ) → Fronted Asked before size after → Fronted Asked before size′ after′ → (size ≡ size′) × (after ≡ after′)
+    (after after′ : List ℕ) → TextAtFront Asked before size after → TextAtFront Asked before size′ after′ → (size ≡ size′) × (after ≡ after′)
 one-front {before = before} one size size′ after after′ f f′ =
     let same = one (f .text) (f′ .text) (f .asked) (f′ .asked) in
     (f .sized ∙ ap length same ∙ sym (f′ .sized), f .left ∙ ap (λ (t : List ℕ). atFront t before) same ∙ sym (f′ .left))

@@ -6,7 +6,7 @@ use native.Mathlib.Omega.{arith}
 use lib.ListN.{length}
 use Rattle.refusal.specs.declared.Written.{Written}
 use Rattle.refusal.specs.declared.Written.the-variants.{Wrote, Refused as Unwritten}
-use Rattle.refusal.specs.Answers.{Reply, gives, refuses, numberIn, Ensured, refused, answered, replyOfWritten, atFront, Fronted, Writes}
+use Rattle.refusal.specs.Answers.{Reply, gives, refuses, numberIn, Ensured, refused, answered, replyOfWritten, atFront, TextAtFront, Writes}
 use Rattle.refusal.specs.Rows.{Row, first, Ascending, Applies, refused as smallest-of, accepted, Given}
 use Rattle.refusal.proofs.Ensuring.{one-result, number-decided, refused-as, one-front, written-told}
 use Rattle.refusal.proofs.Laws.{above, smallest, one-number}
@@ -55,7 +55,7 @@ pub rows-changed : {rows rows′ : List Row} → Ascending 0 rows → Ascending 
     {text before after : List ℕ} {r : Written} → Writes rows text before after r → Writes rows′ text before after r
 rows-changed {rows} {rows′} up up′ same {text} {before} {after} {r} w = by (w .ensured)
   where
-    by : Ensured (λ n. Applies n rows) (Fronted (λ t. t ≡ text) before) before (replyOfWritten r) after → Writes rows′ text before after r
+    by : Ensured (λ n. Applies n rows) (TextAtFront (λ t. t ≡ text) before) before (replyOfWritten r) after → Writes rows′ text before after r
     by (refused {n} e l row least) =
         let number = sym (ap numberIn e) ∙ list-number up (w .ensured) ∙ same in
         record { ensured = refused-as (given-first up′ (sym number)) (above up n row) e l }

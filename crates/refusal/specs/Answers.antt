@@ -51,7 +51,7 @@ abbrev pub atFront : List ℕ → List ℕ → List ℕ
 atFront text before = text ++ drop (length text) before
 
 -- what is right of a writer: a text that is asked for stands at the front, and its length is given
-pub record Fronted (Asked : List ℕ → Type 0) (before : List ℕ) (size : ℕ) (after : List ℕ) : Type 0 where
+pub record TextAtFront (Asked : List ℕ → Type 0) (before : List ℕ) (size : ℕ) (after : List ℕ) : Type 0 where
   pub text : List ℕ
   pub asked : Asked text
   pub sized : size ≡ length text
@@ -59,4 +59,4 @@ pub record Fronted (Asked : List ℕ → Type 0) (before : List ℕ) (size : ℕ
 
 -- what a writer ensures whose rows are a list and that writes a given text, of the output before and after, and its answer
 pub record Writes (rows : List Row) (text before after : List ℕ) (answer : Written) : Type 0 where
-  pub ensured : Ensured (λ n. Applies n rows) (Fronted (λ t. t ≡ text) before) before (replyOfWritten answer) after
+  pub ensured : Ensured (λ n. Applies n rows) (TextAtFront (λ t. t ≡ text) before) before (replyOfWritten answer) after

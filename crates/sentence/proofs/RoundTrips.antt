@@ -11,7 +11,7 @@ use Rattle.sentence.specs.Grammar.{Spells, someOutOfRange}
 use Rattle.refusal.specs.declared.Outcome.the-variants.{Done}
 use Rattle.refusal.specs.declared.Written.{Written}
 use Rattle.refusal.specs.declared.Written.the-variants.{Wrote}
-use Rattle.refusal.specs.Answers.{gives, refuses, replyOf, Ensured, refused, answered, atFront, Fronted}
+use Rattle.refusal.specs.Answers.{gives, refuses, replyOf, Ensured, refused, answered, atFront, TextAtFront}
 use Rattle.sentence.specs.Calls.{slot, recordOf, ReadRow, Spelled, ReadAnswer, prefixOf, nodesOf, WriteRow, WriteAnswer}
 use Rattle.sentence.specs.Calls.ReadRow.{outside, long, range, many}
 use Rattle.sentence.specs.Calls.WriteRow.{counted, lettered, unspelled, short}
@@ -98,7 +98,7 @@ pub write-then-read : {s : Sentence} {out after : List ℕ} {n : ℕ} {r : Sente
     → r ≡ record { outcome = Done; sentence = recordOf (prefixOf s) (nodesOf s) }
 write-then-read {s} {out} {after} {n} {r} len b a = by (b .ensured)
   where
-    by : Ensured (WriteRow s (length out)) (Fronted (Spells (prefixOf s) (nodesOf s)) out) out (gives n) after → r ≡ record { outcome = Done; sentence = recordOf (prefixOf s) (nodesOf s) }
+    by : Ensured (WriteRow s (length out)) (TextAtFront (Spells (prefixOf s) (nodesOf s)) out) out (gives n) after → r ≡ record { outcome = Done; sentence = recordOf (prefixOf s) (nodesOf s) }
     by (refused {n = m} e k row least) =
         let z : _≡_ {A = ℕ} 0 1 = cc in
         absurd (omega arith)

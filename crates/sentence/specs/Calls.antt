@@ -5,7 +5,7 @@ use mathlib.Core.List.{List, [], _++_, map}
 use mathlib.Core.Path.{_≡_}
 use lib.ListN.{length, take, replicate}
 use Rattle.refusal.specs.declared.Written.{Written}
-use Rattle.refusal.specs.Answers.{replyOf, replyOfWritten, Fronted, Ensured}
+use Rattle.refusal.specs.Answers.{replyOf, replyOfWritten, TextAtFront, Ensured}
 use Rattle.sentence.specs.Grammar.{Spells, someOutOfRange}
 use Rattle.sentence.specs.declared.Node.{Node}
 use Rattle.sentence.specs.declared.Node.the-variants.{True}
@@ -64,4 +64,4 @@ pub data WriteRow (s : Sentence) (room : ℕ) : ℕ → Type 0 where
 -- what write sentence ensures of the record, the output before and after, and what it answers: the text that the record's prefix
 -- and nodes spell stands at the front
 pub record WriteAnswer (s : Sentence) (before : List ℕ) (w : Written) (after : List ℕ) : Type 0 where
-  pub ensured : Ensured (WriteRow s (length before)) (Fronted (Spells (prefixOf s) (nodesOf s)) before) before (replyOfWritten w) after
+  pub ensured : Ensured (WriteRow s (length before)) (TextAtFront (Spells (prefixOf s) (nodesOf s)) before) before (replyOfWritten w) after
