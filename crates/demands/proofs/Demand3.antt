@@ -29,10 +29,10 @@ use Rattle.chain.proofs.Accepted.{fields-right}
 use Rattle.question.specs.Rows.{labelRight, QuestionRow, area, model, sentence, labels, size, tuples}
 use Rattle.question.proofs.Stages.{none-of-file}
 use Rattle.verdict.specs.declared.Answer as Judged
-use Rattle.verdict.specs.Calls.{VerdictAnswer, replyOf as replyJudged}
+use Rattle.verdict.specs.Calls.{VerdictAnswer}
 use Rattle.verdict.proofs.Single.{reply-told as judged-told}
 use Rattle.numerator.specs.declared.Answer as Counted
-use Rattle.numerator.specs.Calls.{NumeratorRow, question, long, member, missing, NumeratorAnswer, numbered, replyOf as replyCounted}
+use Rattle.numerator.specs.Calls.{NumeratorRow, question, long, member, missing, NumeratorAnswer, numbered}
 use Rattle.numerator.proofs.Single.{reply-told as counted-told}
 use Rattle.paths.proofs.Members.{members-inside}
 use Rattle.merge.specs.Groups.{groupOf}

@@ -24,7 +24,7 @@ use Rattle.trees.specs.Listed.{formulaNodes, expressionNodes}
 use Rattle.chain.specs.Of.{chainOf}
 use Rattle.merge.specs.Examples.{modelWith, M2, M2merged, Claim as Merging, Met as MetMerging, claims as onMerging}
 use Rattle.merge.proofs.Examples.{examples as merged}
-use Rattle.demands.specs.Examples.{ascii, TextOf, SentenceText, Texted, modelM1, sameChain, Claim, describes, means, merging, Met, claims}
+use Rattle.demands.specs.Examples.{ascii, TextOf, SentenceText, Texted, modelM1, sameChain, Claim, means, merging, Met, claims}
 
 -- whether nodes are just what is wanted: of a list that is written out, by computing
 abbrev nesting : List Kind → List Node → Bool

@@ -1,14 +1,12 @@
 -- A question to which no row applies: what its tuple is, and that there is one sentence of its text.
-use Prim.Native.Nat.{ℕ, _≤_}
+use Prim.Native.Nat.{ℕ}
 use mathlib.Core.Bool.{Bool, true, false}
 use mathlib.Core.List.{List}
 use mathlib.Core.Path.{_≡_, refl, subst}
-use native.Mathlib.Omega.{arith}
 use borrow.Author.Tests.{eqb-true, eqb-false, lt-ltb}
 use lib.Dec.{eqb}
 use lib.ListN.{length}
 use Rattle.counting.proofs.Laws.{and-true}
-use Rattle.refusal.specs.Rows.{Decided, refused, accepted}
 use Rattle.model.specs.Layout.{fieldsOf}
 use Rattle.meaning.specs.Lists.{every, nothing, further}
 use Rattle.meaning.specs.Chain.{Inside}
@@ -16,8 +14,7 @@ use Rattle.trees.proofs.Once.{sentence-once}
 use Rattle.paths.specs.Tuples.{membersBelow}
 use Rattle.paths.proofs.Members.{members-inside}
 use Rattle.question.specs.Rows.{SentenceOf}
-use Rattle.question.proofs.Numbers.{row-some}
-use Rattle.numerator.specs.Calls.{NumeratorRow, question, long, member, missing}
+use Rattle.numerator.specs.Calls.{NumeratorRow, long, member}
 
 -- a text has one sentence
 pub one-sentence : {text : List ℕ} (s t : SentenceOf text) → (s .prefix ≡ t .prefix) × (s .body ≡ t .body)
