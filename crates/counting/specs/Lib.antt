@@ -1,2 +1,3 @@
--- Sums, tests and tables over the numbers below n.
+-- Sums, tests and tables over the numbers below n; texts as bytes.
 pub mod Below
+pub mod Ascii

@@ -9,10 +9,11 @@ use lib.ListN.{length}
 use Rattle.sentence.specs.declared.Kind.{Kind}
 use Rattle.sentence.specs.declared.Kind.the-variants.{State, Expression}
 use Rattle.sentence.specs.declared.Node.{Node}
-use Rattle.sentence.specs.Grammar.{digits, numberText, kindOf, wants, Nests, bodyText, sentenceText}
+use Rattle.numerals.specs.Numeral.{digits, numberText}
+use Rattle.sentence.specs.Grammar.{kindOf, wants, Nests, bodyText, sentenceText, writable}
 use Rattle.sentence.specs.Grammar.Nests.{end, node}
-use Rattle.sentence.specs.Writing.{sameKind, writable}
-use Rattle.sentence.proofs.Fitting.{same-eq, has-text}
+use Rattle.sentence.specs.Working.{sameKind}
+use Rattle.sentence.proofs.Suiting.{same-eq}
 use Rattle.counting.specs.Below.{table}
 use Rattle.meaning.specs.Lists.{below, every, total, Each, nothing, further}
 use Rattle.meaning.specs.Merging.{weightInto, member, merged as merged-chain}
@@ -39,7 +40,7 @@ nested [] (n ∷ ns) e = absurd (false≢true e)
 nested (k ∷ ks) [] e = absurd (false≢true e)
 nested (k ∷ ks) (n ∷ ns) e =
     let rest = and-right (sameKind (kindOf n) k) (writable n && nesting (wants n ++ ks) ns) e in
-    node (has-text n (and-left (writable n) (nesting (wants n ++ ks) ns) rest))
+    node (and-left (writable n) (nesting (wants n ++ ks) ns) rest)
     (same-eq (kindOf n) k (and-left (sameKind (kindOf n) k) (writable n && nesting (wants n ++ ks) ns) e))
     (nested (wants n ++ ks) ns (and-right (writable n) (nesting (wants n ++ ks) ns) rest))
 

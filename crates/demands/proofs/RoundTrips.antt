@@ -17,7 +17,7 @@ use Rattle.model.specs.Layout.{Shaped, fieldsOf, fileOf}
 use Rattle.model.specs.Rows.{Reads, recordRows, recordNumber}
 use Rattle.model.proofs.Answer.{record-rows, reads-number, reads-value, reads-done}
 use Rattle.model.proofs.Theorems.{one-reading, write-of-read, write-of-read-fits, read-of-write}
-use Rattle.sentence.proofs.RoundTrips.{read-then-write, write-then-read}
+use Rattle.round_trips.proofs.RoundTrips.{read-then-write, write-then-read}
 use Rattle.demands.specs.Demands.{RoundTrips}
 
 -- writing a model that was read

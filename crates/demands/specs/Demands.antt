@@ -14,8 +14,10 @@ use Rattle.model.specs.declared.ModelRead.{ModelRead}
 use Rattle.model.specs.Layout.{Shaped, fieldsOf, fileOf}
 use Rattle.model.specs.Rows.{fileRows, fileNumber, emptyModel, Reads, recordRows}
 use Rattle.sentence.specs.declared.Sentence.{Sentence}
-use Rattle.sentence.specs.declared.SentenceRead.{SentenceRead}
-use Rattle.sentence.specs.Calls.{ReadRow, recordOf, ReadAnswer, prefixOf, nodesOf, WriteRow, WriteAnswer}
+use Rattle.sentence_reader.specs.declared.SentenceRead.{SentenceRead}
+use Rattle.sentence_reader.specs.Contract.{ReadRow, ReadSentenceEnsures}
+use Rattle.sentence.specs.Record.{recordOf, prefixOf, nodesOf}
+use Rattle.sentence_writer.specs.Contract.{WriteRow, WriteSentenceEnsures}
 use Rattle.meaning.specs.Lists.{total}
 use Rattle.meaning.specs.Chain.{Chain, runWeight, runs}
 use Rattle.meaning.specs.Tree.{PathFormula, next, until, letterOf}
@@ -48,9 +50,9 @@ pub record Demand1 : Type 0 where
       Ends (λ n. Applies n (fileRows file)) emptyModel (replyOf (r .outcome)) (r .model)
   pub write-model : (m : Model) {before after : List ℕ} {w : Written} → Writes (recordRows m (length before)) (fileOf m) before after w →
       Ends (λ n. Applies n (recordRows m (length before))) before (replyOfWritten w) after
-  pub read-sentence : {text : List ℕ} {r : SentenceRead} → ReadAnswer text r →
+  pub read-sentence : {text : List ℕ} {r : SentenceRead} → ReadSentenceEnsures text r →
       Ends (ReadRow text) (recordOf [] []) (replyOf (r .outcome)) (r .sentence)
-  pub write-sentence : {s : Sentence} {before after : List ℕ} {w : Written} → WriteAnswer s before w after →
+  pub write-sentence : {s : Sentence} {before after : List ℕ} {w : Written} → WriteSentenceEnsures s before w after →
       Ends (WriteRow s (length before)) before (replyOfWritten w) after
   pub verdict-call : {file text before after : List ℕ} {a : Judged.Answer} → VerdictAnswer file text before a after →
       Ends (QuestionRow file text (length before)) before (replyJudged a) after
@@ -97,15 +99,15 @@ pub record RoundTrips : Type 0 where
       Writes (recordRows (r .model) (length before)) (fileOf (r .model)) before after w →
       (w ≡ Wrote (length file)) × (after ≡ atFront file before)
   -- or text,
-  pub texts : {text before after : List ℕ} {r : SentenceRead} {w : Written} → ReadAnswer text r → r .outcome ≡ Done →
-      length text ≤ length before → WriteAnswer (r .sentence) before w after → (w ≡ Wrote (length text)) × (after ≡ atFront text before)
+  pub texts : {text before after : List ℕ} {r : SentenceRead} {w : Written} → ReadSentenceEnsures text r → r .outcome ≡ Done →
+      length text ≤ length before → WriteSentenceEnsures (r .sentence) before w after → (w ≡ Wrote (length text)) × (after ≡ atFront text before)
   -- and reading what was written gives the same model, of a record as its type has it,
   pub models : {m : Model} {before after : List ℕ} {size : ℕ} {r : ModelRead} → Shaped m →
       Writes (recordRows m (length before)) (fileOf m) before after (Wrote size) → Reads (take size after) r → r ≡ record { outcome = Done; model = m }
   -- or sentence, of a record with four places for letters, as its type has them: its prefix and its nodes, since places past the
   -- count are no part of it.
   pub sentences : {s : Sentence} {before after : List ℕ} {size : ℕ} {r : SentenceRead} → length (s .exists) ≡ 4 →
-      WriteAnswer s before (Wrote size) after → ReadAnswer (take size after) r →
+      WriteSentenceEnsures s before (Wrote size) after → ReadSentenceEnsures (take size after) r →
       r ≡ record { outcome = Done; sentence = recordOf (prefixOf s) (nodesOf s) }
 
 -- ---- Demand 3

@@ -12,7 +12,7 @@ use Rattle.sentence.specs.declared.Node.the-variants.{True, Label, Not, And, Co
 use Rattle.sentence.specs.declared.Node.the-variants.{Difference, Product, Next, Until}
 use Rattle.sentence.specs.declared.Kind.{Kind}
 use Rattle.sentence.specs.declared.Wants.the-variants.{Nothing, One, Two}
-use Rattle.sentence.specs.Writing.{wantsOf}
+use Rattle.sentence.specs.Grammar.{wantsOf}
 use Rattle.meaning.specs.Tree.{Formula, Expression, PathFormula}
 use Rattle.trees.specs.Need.{paired, need, needIn, needFrom}
 use Rattle.trees.specs.Standing.{nodeAt, FormulaAt, ExpressionAt}

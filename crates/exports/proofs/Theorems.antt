@@ -1,7 +1,7 @@
 -- What the exported contracts leave: one result and one content of all that is lent; a node's code stands for that node, and
 -- a verdict's code for that verdict.
 use Prim.Native.Nat.{ℕ, _≤_, _<_}
-use mathlib.Core.Bool.{Bool, true, false, not, cond}
+use mathlib.Core.Bool.{Bool, true, false, not, cond, false≢true}
 use mathlib.Core.List.{List, [], _∷_, _++_}
 use mathlib.Core.Path.{_≡_, refl, sym, ap, subst, _∙_}
 use native.Mathlib.Omega.{arith}
@@ -14,18 +14,19 @@ use Rattle.refusal.proofs.Listed.{one-writing}
 use Rattle.model.specs.declared.Model.{Model}
 use Rattle.model.specs.declared.ModelRead.{ModelRead}
 use Rattle.model.proofs.Theorems.{one-reading}
-use Rattle.sentence.specs.Calls.{slot, nodesOf, WriteRow}
+use Rattle.sentence.specs.Record.{slot, nodesOf}
+use Rattle.sentence_writer.specs.Contract.{WriteRow}
 use Rattle.sentence.specs.Grammar.{Writable}
-use Rattle.sentence.specs.Writing.{AllWritable}
+use Rattle.sentence.specs.Working.{AllWritable}
 use Rattle.sentence.specs.declared.Slot.{Slot}
 use Rattle.sentence.specs.declared.Relation.the-variants.{Less, AtMost, Equal, AtLeast, Greater}
 use Rattle.sentence.specs.declared.Node.{Node}
 use Rattle.sentence.specs.declared.Node.the-variants.{True, Label, Not, And, Compare, Probability, Constant, Sum, Difference, Product, Next, Until}
 use Rattle.sentence.specs.declared.Sentence.{Sentence}
-use Rattle.sentence.specs.declared.SentenceRead.{SentenceRead}
-use Rattle.sentence.proofs.ReadAll.{one-answer}
+use Rattle.sentence_reader.specs.declared.SentenceRead.{SentenceRead}
+use Rattle.sentence_reader.proofs.ReadAll.{one-answer}
 use Rattle.sentence.proofs.Unique.{all-writable}
-use Rattle.sentence.proofs.WriteAll.{one-writing as one-text}
+use Rattle.sentence_writer.proofs.WriteAll.{one-writing as one-text}
 use Rattle.verdict.specs.declared.Answer as Judged
 use Rattle.verdict.specs.declared.Answer.the-variants.{Holds, Fails, Refused}
 use Rattle.verdict.specs.Calls.{VerdictAnswer, replyOf as replyJudged}
@@ -222,4 +223,4 @@ inner-writable (x ∷ before) after n h = inner-writable before after n (h .1)
 pub no-node-refused : (s : Sentence) (room : ℕ) (before after : List Node) → nodesOf s ≡ before ++ unspelled ∷ after → WriteRow s room 6
 no-node-refused s room before after e = WriteRow.unspelled (λ t p short.
     let w = inner-writable before after unspelled (subst AllWritable e (all-writable (p .nests))) in
-    omega (arith, w .0))
+    let z : _≡_ {A = Bool} false true = w in absurd (false≢true z))

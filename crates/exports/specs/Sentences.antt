@@ -7,14 +7,16 @@ use lib.Dec.{leb, eqb}
 use lib.ListN.{getD}
 use Rattle.counting.specs.Below.{table}
 use Rattle.refusal.specs.Answers.{numberIn, filled, replyOf}
-use Rattle.sentence.specs.Calls.{slot, ReadAnswer, WriteAnswer}
+use Rattle.sentence.specs.Record.{slot}
+use Rattle.sentence_reader.specs.Contract.{ReadSentenceEnsures}
+use Rattle.sentence_writer.specs.Contract.{WriteSentenceEnsures}
 use Rattle.sentence.specs.declared.Relation.{Relation}
 use Rattle.sentence.specs.declared.Relation.the-variants.{Less, AtMost, Equal, AtLeast, Greater}
 use Rattle.sentence.specs.declared.Node.{Node}
 use Rattle.sentence.specs.declared.Node.the-variants.{True, Label, Not, And, Compare, Probability, Constant, Sum, Difference, Product, Next, Until}
 use Rattle.sentence.specs.declared.Slot.{Slot}
 use Rattle.sentence.specs.declared.Sentence.{Sentence}
-use Rattle.sentence.specs.declared.SentenceRead.{SentenceRead}
+use Rattle.sentence_reader.specs.declared.SentenceRead.{SentenceRead}
 use Rattle.exports.specs.Records.{Coded, codeOf}
 
 -- ---- what read sentence leaves
@@ -66,7 +68,7 @@ letterCodes exists = table 4 (λ i. letterCode (getD exists i false))
 -- read sentence, exported: the number of what read sentence answers, and the parts of its record
 pub record ReadsSentence (text : List ℕ) (head exists : List ℕ) (codes : List (List ℕ)) (head′ exists′ : List ℕ) (codes′ : List (List ℕ)) (r : ℕ) : Type 0 where
   pub read : SentenceRead
-  pub answer : ReadAnswer text read
+  pub answer : ReadSentenceEnsures text read
   pub answered : r ≡ numberIn (replyOf (read .outcome))
   pub head-left : head′ ≡ filled (replyOf (read .outcome)) (sentenceHead (read .sentence)) head
   pub exists-left : exists′ ≡ filled (replyOf (read .outcome)) (letterCodes (read .sentence .exists)) exists
@@ -118,4 +120,4 @@ sentenceOf letters count exists codes =
 
 -- write sentence, exported
 abbrev pub WritesSentence : Sentence → (before after : List ℕ) → ℕ → Type 0
-WritesSentence s before = Coded codeOf (WriteAnswer s before)
+WritesSentence s before = Coded codeOf (WriteSentenceEnsures s before)

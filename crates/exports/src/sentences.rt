@@ -85,7 +85,7 @@ pub extern "C" fn twolsken_read_sentence(
 ) -> u32
     ensures { λ r. ⌜ ReadsSentence (now (text .entry)) (now (head .entry)) (now (exists .entry)) (now (codes .entry)) (now (head .exit)) (now (exists .exit)) (now (codes .exit)) r ⌝ }
 {
-    let read = sentence::read_sentence(text);
+    let read = sentence_reader::read_sentence(text);
     let outcome = read.outcome;
     match outcome {
         Outcome::Refused(number) => number as u32,
@@ -213,6 +213,6 @@ pub extern "C" fn twolsken_write_sentence(
         count: count as usize,
         nodes: places_of(*codes),
     };
-    let written = sentence::write_sentence(s, out);
+    let written = sentence_writer::write_sentence(s, out);
     written_code(written)
 }

@@ -9,7 +9,7 @@ use lib.Dec.{ltb, eqb}
 use lib.ListN.{length}
 use Rattle.model.specs.declared.Model.{Model}
 use Rattle.sentence.specs.declared.Sentence.{Sentence}
-use Rattle.sentence.specs.Calls.{recordOf}
+use Rattle.sentence.specs.Record.{recordOf}
 use Rattle.meaning.specs.Tree.{Formula, next, always, pathsOf}
 use Rattle.meaning.proofs.Tests.{and-left, and-right}
 use Rattle.trees.specs.Listed.{formulaNodes}

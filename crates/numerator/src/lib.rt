@@ -15,7 +15,7 @@ use paths::tuple_right;
 use question::first_number;
 use question::setting_of;
 use sentence::Sentence;
-use sentence::read_sentence;
+use sentence_reader::read_sentence;
 
 // What numerator answers.
 pub enum Answer {

@@ -6,7 +6,7 @@ use mathlib.Core.List.{List}
 use mathlib.Core.Path.{_≡_, refl, sym, subst}
 use native.Mathlib.Omega.{arith}
 use lib.ListN.{length, getD}
-use Rattle.sentence.specs.Calls.{recordOf}
+use Rattle.sentence.specs.Record.{recordOf}
 use Rattle.sentence.specs.declared.Slot.{Slot}
 use Rattle.meaning.specs.Tree.{Formula, PathFormula, pathsOf}
 use Rattle.meaning.specs.Meaning.{denominator}

@@ -10,9 +10,10 @@ use Rattle.model.specs.declared.ModelRead as Loaded
 use Rattle.model.specs.Rows.{fileNumber, Reads}
 use Rattle.model.proofs.Answer.{reads-value}
 use Rattle.sentence.specs.declared.Node.{Node}
-use Rattle.sentence.specs.declared.SentenceRead as Parsed
+use Rattle.sentence_reader.specs.declared.SentenceRead as Parsed
 use Rattle.sentence.specs.Grammar.{Spells}
-use Rattle.sentence.specs.Calls.{ReadRow, Spelled, ReadAnswer, recordOf}
+use Rattle.sentence_reader.specs.Contract.{ReadRow, Spelled, ReadSentenceEnsures}
+use Rattle.sentence.specs.Record.{recordOf}
 use Rattle.trees.proofs.Exists.{formula-of}
 use Rattle.question.specs.Rows.{QuestionRow, area, model, sentence, labels, size, tuples}
 use Rattle.question.specs.Working.{ModelRead, SentenceRead}
@@ -33,7 +34,7 @@ file-read reads e = record { accepted = e; fields = reads-value reads e }
 
 -- the text
 
-pub gives-text : {file text : List ℕ} {room : ℕ} {r : Parsed.SentenceRead} → 8192 ≤ room → fileNumber file ≡ 0 → ReadAnswer text r →
+pub gives-text : {file text : List ℕ} {room : ℕ} {r : Parsed.SentenceRead} → 8192 ≤ room → fileNumber file ≡ 0 → ReadSentenceEnsures text r →
     0 < numberIn (replyOf (r .outcome)) → Decided (QuestionRow file text room) (numberIn (replyOf (r .outcome)))
 gives-text {file} {text} {room} space free said h = by (number-decided (said .ensured)) h
   where
@@ -49,7 +50,7 @@ gives-text {file} {text} {room} space free said h = by (number-decided (said .en
         from j (size f s b) = let x = text-number row in omega arith
         from j (tuples f s b) = let x = text-number row in omega arith
 
-pub text-read : {text : List ℕ} {r : Parsed.SentenceRead} → ReadAnswer text r → numberIn (replyOf (r .outcome)) ≡ 0 → SentenceRead text (r .sentence)
+pub text-read : {text : List ℕ} {r : Parsed.SentenceRead} → ReadSentenceEnsures text r → numberIn (replyOf (r .outcome)) ≡ 0 → SentenceRead text (r .sentence)
 text-read {text} {r} said free = by (said .ensured)
   where
     by : Ensured (ReadRow text) (λ done. Spelled text) (recordOf [] []) (replyOf (r .outcome)) (r .sentence) → SentenceRead text (r .sentence)

@@ -11,7 +11,7 @@ use lib.Seq.{drop-cons, getD-take, length-take-le}
 use Rattle.refusal.specs.Rows.{Applies, here, later, Decided, refused, accepted, Given}
 use Rattle.model.specs.Rows.{fileRows, fileNumber}
 use Rattle.model.proofs.Theorems.{read-smallest}
-use Rattle.sentence.specs.Calls.{ReadRow, outside, long, range, many}
+use Rattle.sentence_reader.specs.Contract.{ReadRow, outside, long, range, many}
 use Rattle.meaning.specs.Lists.{every}
 use Rattle.question.specs.Rows.{QuestionRow, area, model, sentence, labels, size, tuples}
 

@@ -8,8 +8,9 @@ use lib.ListN.{length}
 use Rattle.model.specs.declared.Model.{Model}
 use Rattle.sentence.specs.declared.Sentence.{Sentence}
 use Rattle.sentence.specs.declared.Node.{Node}
-use Rattle.sentence.specs.Calls.{many, recordOf, prefixOf, nodesOf}
-use Rattle.sentence.proofs.RoundTrips.{same-sentence}
+use Rattle.sentence_reader.specs.Contract.{many}
+use Rattle.sentence.specs.Record.{recordOf, prefixOf, nodesOf}
+use Rattle.sentence.proofs.Records.{same-sentence}
 use Rattle.trees.specs.Listed.{formulaNodes}
 use Rattle.trees.specs.Standing.{FormulaAt}
 use Rattle.trees.proofs.Once.{formula-once}

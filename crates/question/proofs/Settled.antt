@@ -14,9 +14,10 @@ use Rattle.model.specs.declared.ModelRead as Loaded
 use Rattle.model.specs.Layout.{fieldsOf}
 use Rattle.model.specs.Rows.{fileNumber, Reads}
 use Rattle.sentence.specs.declared.Sentence.{Sentence}
-use Rattle.sentence.specs.declared.SentenceRead as Parsed
+use Rattle.sentence_reader.specs.declared.SentenceRead as Parsed
 use Rattle.sentence.specs.Grammar.{someOutOfRange}
-use Rattle.sentence.specs.Calls.{ReadAnswer, range, recordOf}
+use Rattle.sentence_reader.specs.Contract.{ReadSentenceEnsures, range}
+use Rattle.sentence.specs.Record.{recordOf}
 use Rattle.meaning.specs.Chain.{Sound}
 use Rattle.meaning.specs.Size.{exceeds}
 use Rattle.layers.specs.Columns.{weightIn}
@@ -52,17 +53,17 @@ module _ {file text : List ℕ} {room : ℕ} (none : (n : ℕ) → QuestionRow f
       by zero e = refl
       by (suc n) e = absurd (none (suc n) (least-model space e .0))
 
-  text-free : {s : Parsed.SentenceRead} → ReadAnswer text s → numberIn (replyOf (s .outcome)) ≡ 0
+  text-free : {s : Parsed.SentenceRead} → ReadSentenceEnsures text s → numberIn (replyOf (s .outcome)) ≡ 0
   text-free said = ap numberIn (right-of (λ n row. none n (sentence row)) (said .ensured) .1)
 
   -- the readers' answers, where no row applies
   pub model-of : {m : Loaded.ModelRead} → Reads file m → ModelRead file (m .model)
   model-of reads = file-read reads file-free
 
-  pub sentence-of : {s : Parsed.SentenceRead} → ReadAnswer text s → SentenceRead text (s .sentence)
+  pub sentence-of : {s : Parsed.SentenceRead} → ReadSentenceEnsures text s → SentenceRead text (s .sentence)
   sentence-of said = text-read said (text-free said)
 
-  pub ready-of : {m : Loaded.ModelRead} {s : Parsed.SentenceRead} → Reads file m → ReadAnswer text s → Ready (m .model) (s .sentence)
+  pub ready-of : {m : Loaded.ModelRead} {s : Parsed.SentenceRead} → Reads file m → ReadSentenceEnsures text s → Ready (m .model) (s .sentence)
   ready-of {m} {s} reads said = record {
     read = record { file = file; text = text; model = a; sentence = b };
     small = size-same a b ∙ fits (exceeds (b .body) (fieldsOf file .d) (length (b .prefix))) refl;

@@ -15,8 +15,8 @@ use Rattle.sentence.specs.declared.Node.{Node}
 use Rattle.sentence.specs.declared.Slot.{Slot}
 use Rattle.sentence.specs.declared.Sentence.{Sentence}
 use Rattle.sentence.specs.Grammar.{Spells}
-use Rattle.sentence.specs.Calls.{nodesOf}
-use Rattle.sentence.proofs.RoundTrips.{same-sentence}
+use Rattle.sentence.specs.Record.{nodesOf}
+use Rattle.sentence.proofs.Records.{same-sentence}
 use Rattle.meaning.specs.Lists.{every}
 use Rattle.meaning.specs.Chain.{tupleCount}
 use Rattle.meaning.specs.Tree.{Formula}

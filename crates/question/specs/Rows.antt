@@ -12,7 +12,7 @@ use Rattle.model.specs.Rows.{fileRows}
 use Rattle.sentence.specs.declared.Node.{Node}
 use Rattle.sentence.specs.declared.Node.the-variants.{True, Label, Not, And, Compare, Probability, Constant, Sum, Difference, Product, Next, Until}
 use Rattle.sentence.specs.Grammar.{Spells}
-use Rattle.sentence.specs.Calls.{ReadRow}
+use Rattle.sentence_reader.specs.Contract.{ReadRow}
 use Rattle.meaning.specs.Lists.{every}
 use Rattle.meaning.specs.Chain.{tupleCount}
 use Rattle.meaning.specs.Tree.{Formula}

@@ -9,9 +9,10 @@ use Rattle.model.specs.declared.ModelRead as Loaded
 use Rattle.model.specs.Layout.{fieldsOf}
 use Rattle.model.specs.Rows.{fileNumber, Reads}
 use Rattle.sentence.specs.declared.Sentence.{Sentence}
-use Rattle.sentence.specs.declared.SentenceRead as Parsed
+use Rattle.sentence_reader.specs.declared.SentenceRead as Parsed
 use Rattle.sentence.specs.Grammar.{Spells}
-use Rattle.sentence.specs.Calls.{ReadRow, ReadAnswer, recordOf}
+use Rattle.sentence_reader.specs.Contract.{ReadRow, ReadSentenceEnsures}
+use Rattle.sentence.specs.Record.{recordOf}
 use Rattle.meaning.specs.Tree.{Formula}
 use Rattle.meaning.specs.Size.{exceeds}
 use Rattle.evaluate.specs.declared.Setting.{Setting}
@@ -47,11 +48,11 @@ pub record Answered (m : Loaded.ModelRead) (s : Parsed.SentenceRead) : Type 0 wh
   pub file : List ℕ
   pub text : List ℕ
   pub model : Reads file m
-  pub sentence : ReadAnswer text s
+  pub sentence : ReadSentenceEnsures text s
 
 -- the number that the rows give, of whatever file and text the readers were asked
 pub record First (room : ℕ) (m : Loaded.ModelRead) (s : Parsed.SentenceRead) (number : ℕ) : Type 0 where
-  pub each : (file text : List ℕ) → Reads file m → ReadAnswer text s → Decided (QuestionRow file text room) number
+  pub each : (file text : List ℕ) → Reads file m → ReadSentenceEnsures text s → Decided (QuestionRow file text room) number
 
 -- no row applies to the pair
 pub record Ready (m : Model) (s : Sentence) : Type 0 where

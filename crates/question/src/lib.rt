@@ -13,8 +13,8 @@ use model::ModelRead;
 use refusal::Outcome;
 use sentence::Node;
 use sentence::Sentence;
-use sentence::SentenceRead;
 use sentence::Slot;
+use sentence_reader::SentenceRead;
 use sizes::exceeds;
 
 // Whether a node's label letter, if it has one, is below A.

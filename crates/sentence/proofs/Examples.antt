@@ -4,7 +4,8 @@ use Prim.Native.Nat.{ℕ}
 use mathlib.Core.Bool.{Bool, true, false}
 use mathlib.Core.List.{List, [], _∷_, map}
 use mathlib.Core.Path.{_≡_, refl}
-use Rattle.sentence.specs.Grammar.{digits, numberText, sentenceText, someOutOfRange}
+use Rattle.numerals.specs.Numeral.{digits, numberText}
+use Rattle.sentence.specs.Grammar.{sentenceText, someOutOfRange}
 use Rattle.sentence.specs.declared.Relation.the-variants.{AtMost, Equal, AtLeast}
 use Rattle.sentence.specs.declared.Node.{Node}
 use Rattle.sentence.specs.declared.Node.the-variants.{True, Label, Compare, Probability, Constant, Difference, Next, Until}

@@ -1,19 +1,9 @@
--- The laws that the proofs of the sentence crate share.
+-- Laws of the grammar and of the record.
 pub mod Arms
-pub mod Numbers
-pub mod Places
-pub mod NumberAt
 pub mod Unique
-pub mod Results
-pub mod NodeAt
-pub mod PrefixAt
+pub mod Letters
 pub mod Once
-pub mod ReadAll
-pub mod Found
-pub mod Fitting
-pub mod Sizes
-pub mod Puts
-pub mod WriteAll
-pub mod RoundTrips
+pub mod Records
+pub mod Suiting
 pub mod Nesting
 pub mod Examples

@@ -15,17 +15,17 @@ pair : {k : Kind} (ks : List Kind) (f g r : List Node) → Nests (k ∷ k ∷ ks
 pair {k} ks f g r n = subst (Nests (k ∷ k ∷ ks)) (sym (append-assoc f g r)) n
 
 form-nests : {k : Kind} {f : List Node} → Form k f → (ks : List Kind) (r : List Node) → Nests ks r → Nests (k ∷ ks) (f ++ r)
-form-nests truth ks r n = node tt refl n
+form-nests truth ks r n = node refl refl n
 form-nests (label w) ks r n = node w refl n
-form-nests (negation a) ks r n = node tt refl (form-nests a ks r n)
-form-nests (conjunction {f} {g} a b) ks r n = node tt refl (pair ks f g r (form-nests a (State ∷ ks) (g ++ r) (form-nests b ks r n)))
-form-nests (comparison c {d} {e} a b) ks r n = node tt refl (pair ks d e r (form-nests a (Expression ∷ ks) (e ++ r) (form-nests b ks r n)))
-form-nests (probability a) ks r n = node tt refl (form-nests a ks r n)
+form-nests (negation a) ks r n = node refl refl (form-nests a ks r n)
+form-nests (conjunction {f} {g} a b) ks r n = node refl refl (pair ks f g r (form-nests a (State ∷ ks) (g ++ r) (form-nests b ks r n)))
+form-nests (comparison c {d} {e} a b) ks r n = node refl refl (pair ks d e r (form-nests a (Expression ∷ ks) (e ++ r) (form-nests b ks r n)))
+form-nests (probability a) ks r n = node refl refl (form-nests a ks r n)
 form-nests (constant w) ks r n = node w refl n
-form-nests (sum {d} {e} a b) ks r n = node tt refl (pair ks d e r (form-nests a (Expression ∷ ks) (e ++ r) (form-nests b ks r n)))
-form-nests (difference {d} {e} a b) ks r n = node tt refl (pair ks d e r (form-nests a (Expression ∷ ks) (e ++ r) (form-nests b ks r n)))
-form-nests (product {d} {e} a b) ks r n = node tt refl (pair ks d e r (form-nests a (Expression ∷ ks) (e ++ r) (form-nests b ks r n)))
-form-nests (next a) ks r n = node tt refl (form-nests a ks r n)
+form-nests (sum {d} {e} a b) ks r n = node refl refl (pair ks d e r (form-nests a (Expression ∷ ks) (e ++ r) (form-nests b ks r n)))
+form-nests (difference {d} {e} a b) ks r n = node refl refl (pair ks d e r (form-nests a (Expression ∷ ks) (e ++ r) (form-nests b ks r n)))
+form-nests (product {d} {e} a b) ks r n = node refl refl (pair ks d e r (form-nests a (Expression ∷ ks) (e ++ r) (form-nests b ks r n)))
+form-nests (next a) ks r n = node refl refl (form-nests a ks r n)
 form-nests (until {f = f} {g = g} w a b) ks r n = node w refl (pair ks f g r (form-nests a (State ∷ ks) (g ++ r) (form-nests b ks r n)))
 
 -- things of the kinds ks, one after another

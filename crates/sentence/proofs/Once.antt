@@ -7,7 +7,7 @@ use Rattle.sentence.specs.Grammar.{letterByte, bodyText, Spells, Nests}
 use Rattle.sentence.specs.Grammar.Nests.{end}
 use Rattle.sentence.specs.declared.Node.{Node}
 use Rattle.sentence.proofs.Unique.{Peeled, peel}
-use Rattle.sentence.proofs.PrefixAt.{one-prefix}
+use Rattle.sentence.proofs.Letters.{one-prefix}
 
 -- nothing is wanted, and there is no node
 pub no-nodes : {ns : List Node} → Nests [] ns → ns ≡ []

@@ -8,16 +8,18 @@ use mathlib.Core.Path.{_≡_, refl, sym, ap, _∙_, subst}
 use native.Mathlib.Omega.{arith}
 use borrow.Author.Tests.{le-leb}
 use lib.Dec.{leb, eqb}
-use Rattle.sentence.specs.Grammar.{numberText, nodeText, Writable, wants, Nests, bodyText}
+use Rattle.numerals.specs.Numeral.{numberText}
+use Rattle.sentence.specs.Grammar.{nodeText, Writable, wants, Nests, bodyText}
 use Rattle.sentence.specs.Grammar.Nests.{end, node}
-use Rattle.sentence.specs.Reading.{NoDigit, operatorNode}
-use Rattle.sentence.specs.Writing.{AllWritable}
+use Rattle.numerals.specs.Working.{NoDigit}
+use Rattle.sentence.specs.Working.{operatorNode, AllWritable}
 use Rattle.sentence.specs.declared.Kind.{Kind}
 use Rattle.sentence.specs.declared.Relation.the-variants.{Less, AtMost, Equal, AtLeast, Greater}
 use Rattle.sentence.specs.declared.Node.{Node}
 use Rattle.sentence.specs.declared.Node.the-variants.{True, Label, Not, And, Compare, Probability, Constant, Sum, Difference, Product, Next, Until}
-use Rattle.sentence.proofs.Numbers.{scan, scan-number, scan-other}
-use Rattle.sentence.proofs.Places.{first}
+use Rattle.numerals.proofs.Numbers.{scan, scan-number, scan-other}
+use Rattle.numerals.proofs.Places.{first}
+use Rattle.sentence.proofs.Suiting.{numbers-written}
 
 -- the two numbers at the front of a text, each with a byte after it, and the text after them
 abbrev pub twoNumbers : (ℕ → ℕ → Node) → List ℕ → Node × List ℕ
@@ -59,12 +61,12 @@ decoded (Compare Equal) s w = refl
 decoded (Compare AtLeast) s w = refl
 decoded (Compare Greater) s w = refl
 decoded Probability s w = refl
-decoded (Constant a b) s w = two-numbers Constant a b 47 59 s (w .0) (w .1) (inl (omega arith)) (inr (omega arith))
+decoded (Constant a b) s w = two-numbers Constant a b 47 59 s (numbers-written a b w .0) (numbers-written a b w .1) (inl (omega arith)) (inr (omega arith))
 decoded Sum s w = refl
 decoded Difference s w = refl
 decoded Product s w = refl
 decoded Next s w = refl
-decoded (Until a b) s w = two-numbers Until a b 44 58 s (w .0) (w .1) (inl (omega arith)) (inr (omega arith))
+decoded (Until a b) s w = two-numbers Until a b 44 58 s (numbers-written a b w .0) (numbers-written a b w .1) (inl (omega arith)) (inr (omega arith))
 
 -- a text has one node at its front
 pub one-node : {n m : Node} (r s : List ℕ) → Writable n → Writable m → nodeText n ++ r ≡ nodeText m ++ s → (n ≡ m) × (r ≡ s)

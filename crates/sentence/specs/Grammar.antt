@@ -1,66 +1,64 @@
 -- Document 01, 'The sentence text': which prefix and node list spells which text. Operators come first, so the grammar is a
 -- table: each node has a kind, its own text, and the kinds that it wants after it. Bytes are ASCII.
-use Prim.Native.Nat.{ℕ, zero, suc, _+_, _/_, _%_, _≤_, _<_}
-use mathlib.Core.Bool.{Bool, true, false, _||_, cond}
+use Prim.Native.Nat.{ℕ, _+_, _≤_}
+use mathlib.Core.Bool.{Bool, true, false, _&&_, _||_}
 use mathlib.Core.List.{List, [], _∷_, _++_, map}
 use mathlib.Core.Path.{_≡_}
-use lib.Dec.{ltb, eqb}
+use lib.Dec.{leb, ltb, eqb}
 use lib.ListN.{length}
+use Rattle.counting.specs.Ascii.{byte, ascii}
+use Rattle.numerals.specs.Numeral.{numberText}
 use Rattle.sentence.specs.declared.Kind.{Kind}
 use Rattle.sentence.specs.declared.Kind.the-variants.{State, Expression, Path}
 use Rattle.sentence.specs.declared.Relation.{Relation}
 use Rattle.sentence.specs.declared.Relation.the-variants.{Less, AtMost, Equal, AtLeast, Greater}
+use Rattle.sentence.specs.declared.Wants.{Wants}
+use Rattle.sentence.specs.declared.Wants.the-variants.{Nothing, One, Two}
 use Rattle.sentence.specs.declared.Node.{Node}
 use Rattle.sentence.specs.declared.Node.the-variants.{True, Label, Not, And, Compare, Probability, Constant, Sum, Difference, Product, Next, Until}
 
--- the decimal digits of n, at most k of them: the last digit stands for the remainder by ten
-unfoldable pub digits : ℕ → ℕ → List ℕ
-digits zero n = []
-digits (suc k) n = cond (ltb n 10) ((48 + n) ∷ []) (digits k (n / 10) ++ (48 + n % 10) ∷ [])
-
--- a number as it is written: one to five digits, with no leading zero unless it is `0`
-unfoldable pub numberText : ℕ → List ℕ
-unfolding digits
-numberText n = digits 5 n
-
 -- the five comparisons: `<` less, `L` at most, `=` equal, `G` at least, `>` greater
 abbrev pub relationByte : Relation → ℕ
-relationByte Less = 60
-relationByte AtMost = 76
-relationByte Equal = 61
-relationByte AtLeast = 71
-relationByte Greater = 62
+relationByte Less = byte "<"
+relationByte AtMost = byte "L"
+relationByte Equal = byte "="
+relationByte AtLeast = byte "G"
+relationByte Greater = byte ">"
 
 -- a node's own text: `T`; a letter and a digit; `!`; `&`; a comparison; `P`; `#` number `/` number `;`; `+`; `-`; `*`; `X`;
 -- `U` number `,` number `:`
 abbrev pub nodeText : Node → List ℕ
-nodeText True = 84 ∷ []
-nodeText (Label l v) = (97 + l) ∷ (48 + v) ∷ []
-nodeText Not = 33 ∷ []
-nodeText And = 38 ∷ []
+nodeText True = ascii "T"
+nodeText (Label l v) = (byte "a" + l) ∷ (byte "0" + v) ∷ []
+nodeText Not = ascii "!"
+nodeText And = ascii "&"
 nodeText (Compare r) = relationByte r ∷ []
-nodeText Probability = 80 ∷ []
-nodeText (Constant a b) = 35 ∷ (numberText a ++ 47 ∷ (numberText b ++ 59 ∷ []))
-nodeText Sum = 43 ∷ []
-nodeText Difference = 45 ∷ []
-nodeText Product = 42 ∷ []
-nodeText Next = 88 ∷ []
-nodeText (Until a b) = 85 ∷ (numberText a ++ 44 ∷ (numberText b ++ 58 ∷ []))
+nodeText Probability = ascii "P"
+nodeText (Constant a b) = ascii "#" ++ (numberText a ++ (ascii "/" ++ (numberText b ++ ascii ";")))
+nodeText Sum = ascii "+"
+nodeText Difference = ascii "-"
+nodeText Product = ascii "*"
+nodeText Next = ascii "X"
+nodeText (Until a b) = ascii "U" ++ (numberText a ++ (ascii "," ++ (numberText b ++ ascii ":")))
 
--- the grammar has the letters `a`..`p`, the digits 1..4 and numbers of one to five digits
+-- whether the grammar has a text for the node: the letters `a`..`p`, the digits 1..4, numbers of one to five digits
+abbrev pub writable : Node → Bool
+writable True = true
+writable (Label l v) = ltb l 16 && leb 1 v && leb v 4
+writable Not = true
+writable And = true
+writable (Compare r) = true
+writable Probability = true
+writable (Constant a b) = ltb a 100000 && ltb b 100000
+writable Sum = true
+writable Difference = true
+writable Product = true
+writable Next = true
+writable (Until a b) = ltb a 100000 && ltb b 100000
+
+-- the grammar has a text for the node
 abbrev pub Writable : Node → Type 0
-Writable True = Unit
-Writable (Label l v) = (l < 16) × (1 ≤ v) × (v ≤ 4)
-Writable Not = Unit
-Writable And = Unit
-Writable (Compare r) = Unit
-Writable Probability = Unit
-Writable (Constant a b) = (a < 100000) × (b < 100000)
-Writable Sum = Unit
-Writable Difference = Unit
-Writable Product = Unit
-Writable Next = Unit
-Writable (Until a b) = (a < 100000) × (b < 100000)
+Writable n = writable n ≡ true
 
 -- what a node is: a state formula, an expression or a path
 abbrev pub kindOf : Node → Kind
@@ -77,20 +75,30 @@ kindOf Product = Expression
 kindOf Next = Path
 kindOf (Until a b) = Path
 
--- what follows a node's own text, in order
+-- what follows a node's own text: nothing, one thing, or two of one kind
+abbrev pub wantsOf : Node → Wants
+wantsOf True = Nothing
+wantsOf (Label l v) = Nothing
+wantsOf Not = One State
+wantsOf And = Two State
+wantsOf (Compare r) = Two Expression
+wantsOf Probability = One Path
+wantsOf (Constant a b) = Nothing
+wantsOf Sum = Two Expression
+wantsOf Difference = Two Expression
+wantsOf Product = Two Expression
+wantsOf Next = One State
+wantsOf (Until a b) = Two State
+
+-- the kinds that are wanted: none, one, or twice the same
+abbrev pub wanted : Wants → List Kind
+wanted Nothing = []
+wanted (One k) = k ∷ []
+wanted (Two k) = k ∷ k ∷ []
+
+-- the kinds of what follows a node's own text, in order
 abbrev pub wants : Node → List Kind
-wants True = []
-wants (Label l v) = []
-wants Not = State ∷ []
-wants And = State ∷ State ∷ []
-wants (Compare r) = Expression ∷ Expression ∷ []
-wants Probability = Path ∷ []
-wants (Constant a b) = []
-wants Sum = Expression ∷ Expression ∷ []
-wants Difference = Expression ∷ Expression ∷ []
-wants Product = Expression ∷ Expression ∷ []
-wants Next = State ∷ []
-wants (Until a b) = State ∷ State ∷ []
+wants n = wanted (wantsOf n)
 
 -- `Nests ks ns`: where things of the kinds ks are wanted, the nodes ns are just these, in written order
 pub data Nests : List Kind → List Node → Type 0 where
@@ -104,12 +112,12 @@ bodyText (n ∷ ns) = nodeText n ++ bodyText ns
 
 -- a letter of the prefix: `A` for all, `E` exists
 abbrev pub letterByte : Bool → ℕ
-letterByte false = 65
-letterByte true = 69
+letterByte false = byte "A"
+letterByte true = byte "E"
 
 -- the prefix: its letters and a dot
 abbrev pub prefixText : List Bool → List ℕ
-prefixText ps = map letterByte ps ++ 46 ∷ []
+prefixText ps = map letterByte ps ++ ascii "."
 
 -- the text of a prefix and a node list
 abbrev pub sentenceText : List Bool → List Node → List ℕ

@@ -1,6 +1,5 @@
--- What the contracts of the sentence crate cite: the grammar of document 01, 'The sentence text', and the calls over it.
+-- The grammar of document 01, 'The sentence text', and the record of a sentence.
 pub mod Grammar
 pub mod Forms
-pub mod Calls
-pub mod Reading
-pub mod Writing
+pub mod Record
+pub mod Working

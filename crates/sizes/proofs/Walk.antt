@@ -18,7 +18,7 @@ use Rattle.sentence.specs.declared.Node.the-variants.{True, Label, Not, And, Co
 use Rattle.meaning.specs.Tree.{Formula, Expression, PathFormula, sum, difference, product}
 use Rattle.meaning.specs.Meaning.{denominator}
 use Rattle.meaning.specs.Size.{size, addS, mulS, tooLarge, largeSize, largeCross, exceeds, exceedsIn, exceedsFrom}
-use Rattle.sentence.specs.Writing.{wantsOf}
+use Rattle.sentence.specs.Grammar.{wantsOf}
 use Rattle.trees.specs.Wanted.{operandCount}
 use Rattle.trees.specs.Standing.{nodeAt, FormulaAt, ExpressionAt}
 use Rattle.trees.proofs.Cases.{FormulaCase, ExpressionCase, PathCase, formula-case, expression-case, path-case, formula-place, expression-place, path-place}

@@ -5,10 +5,8 @@ use mathlib.Core.Path.{_≡_, refl, sym, subst}
 use Rattle.sentence.specs.declared.Slot.{Slot}
 use Rattle.sentence.specs.declared.Node.{Node}
 use Rattle.sentence.specs.declared.Node.the-variants.{True, Label, Not, And, Compare, Probability, Constant, Sum, Difference, Product, Next, Until}
-use Rattle.meaning.specs.Tree.{Relation}
-use Rattle.meaning.specs.Tree.{Formula, always, labelled, negation, both, compare}
+use Rattle.meaning.specs.Tree.{Relation, Formula, always, labelled, negation, both, compare, PathFormula, next, until}
 use Rattle.meaning.specs.Tree.{Expression, probability, constant, sum, difference, product}
-use Rattle.meaning.specs.Tree.{PathFormula, next, until}
 use Rattle.trees.specs.Listed.{relationOf}
 use Rattle.trees.specs.Standing.{nodeAt, FormulaAt, always-at, labelled-at, negation-at, both-at, compare-at}
 use Rattle.trees.specs.Standing.{ExpressionAt, probability-at, constant-at, sum-at, difference-at, product-at, PathAt, next-at, until-at}

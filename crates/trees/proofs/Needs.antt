@@ -10,9 +10,8 @@ use lib.Dec.{eqb}
 use lib.ListN.{length, length-append}
 use lib.Pow.{pow-mono}
 use Rattle.sentence.specs.declared.Node.{Node}
-use Rattle.meaning.specs.Tree.{Formula, always, labelled, negation, both, compare}
+use Rattle.meaning.specs.Tree.{Formula, always, labelled, negation, both, compare, PathFormula, next, until}
 use Rattle.meaning.specs.Tree.{Expression, probability, constant, sum, difference, product}
-use Rattle.meaning.specs.Tree.{PathFormula, next, until}
 use Rattle.trees.specs.Listed.{formulaNodes, expressionNodes, pathNodes}
 use Rattle.trees.specs.Need.{paired, need, needIn, needFrom}
 

@@ -7,12 +7,11 @@ use native.Mathlib.Decide.{decLt, ℕ-discrete}
 use native.Mathlib.Numerals.{add-one}
 use native.Mathlib.Omega.{arith}
 use lib.ListN.{length, getD}
-use Rattle.sentence.specs.Calls.{recordOf}
+use Rattle.sentence.specs.Record.{recordOf}
 use Rattle.sentence.specs.declared.Slot.{Slot}
 use Rattle.sentence.specs.declared.Node.{Node}
-use Rattle.meaning.specs.Tree.{Formula, always, labelled, negation, both, compare, pathsOf}
+use Rattle.meaning.specs.Tree.{Formula, always, labelled, negation, both, compare, pathsOf, PathFormula, next, until, pathsFrom}
 use Rattle.meaning.specs.Tree.{Expression, probability, constant, sum, difference, product, pathsIn}
-use Rattle.meaning.specs.Tree.{PathFormula, next, until, pathsFrom}
 use Rattle.trees.specs.Listed.{formulaNodes, expressionNodes, pathNodes}
 use Rattle.trees.specs.Standing.{nodeAt, PathAt}
 use Rattle.trees.specs.Numbered.{startsPath, pathsBelow}

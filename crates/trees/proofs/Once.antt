@@ -7,10 +7,8 @@ use Rattle.sentence.specs.declared.Node.{Node}
 use Rattle.sentence.specs.declared.Node.the-variants.{True, Label, Not, And, Compare, Probability, Constant, Sum, Difference, Product, Next, Until}
 use Rattle.sentence.specs.Grammar.{Spells}
 use Rattle.sentence.proofs.Once.{spelled-once}
-use Rattle.meaning.specs.Tree.{Relation, less, atMost, equal, atLeast, greater}
-use Rattle.meaning.specs.Tree.{Formula, always, labelled, negation, both, compare}
-use Rattle.meaning.specs.Tree.{Expression, probability, constant, sum, difference, product}
-use Rattle.meaning.specs.Tree.{PathFormula, next, until}
+use Rattle.meaning.specs.Tree.{Relation, less, atMost, equal, atLeast, greater, Formula, always, labelled, negation, both, compare}
+use Rattle.meaning.specs.Tree.{Expression, probability, constant, sum, difference, product, PathFormula, next, until}
 use Rattle.trees.specs.Listed.{relationOf, unspelled, formulaNodes, expressionNodes, pathNodes}
 
 -- the relation of a comparison's node is the comparison's

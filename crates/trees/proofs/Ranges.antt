@@ -11,10 +11,10 @@ use Rattle.sentence.specs.Grammar.{Writable, outOfRange, someOutOfRange, Nests}
 use Rattle.sentence.specs.Grammar.Nests.{end, node}
 use Rattle.sentence.specs.declared.Kind.{Kind}
 use Rattle.sentence.specs.declared.Node.{Node}
-use Rattle.meaning.specs.Tree.{Formula, always, labelled, negation, both, compare}
+use Rattle.meaning.specs.Tree.{Formula, always, labelled, negation, both, compare, PathFormula, next, until}
 use Rattle.meaning.specs.Tree.{Expression, probability, constant, sum, difference, product}
-use Rattle.meaning.specs.Tree.{PathFormula, next, until}
 use Rattle.meaning.proofs.Tests.{or-left, or-right}
+use Rattle.sentence.proofs.Suiting.{label-written}
 use Rattle.trees.specs.Listed.{formulaNodes, expressionNodes, pathNodes}
 use Rattle.trees.specs.Ranged.{Ranged, RangedIn, RangedFrom}
 
@@ -52,7 +52,9 @@ mutual
   -- the numbers of a state formula are in their ranges where its nodes are
   pub formula-ranged : (f : Formula) (n : ℕ) → InRange n (formulaNodes f) → Ranged n f
   formula-ranged always n h = tt
-  formula-ranged (labelled l i) n h = (h .0 .0, h .0 .1, ltb-false n i (h .1))
+  formula-ranged (labelled l i) n h =
+      let written = label-written l i (h .0) in
+      (written .0, written .1, ltb-false n i (h .1))
   formula-ranged (negation f) n h = formula-ranged f n (h .2)
   formula-ranged (both f g) n h =
       (formula-ranged f n (in-front n (formulaNodes f) (formulaNodes g) (h .2)), formula-ranged g n (behind n (formulaNodes f) (formulaNodes g) (h .2)))

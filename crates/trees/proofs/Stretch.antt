@@ -5,13 +5,12 @@ use mathlib.Core.List.{List, [], _∷_, _++_, map, append-assoc}
 use mathlib.Core.Path.{_≡_, refl, ap, subst}
 use native.Mathlib.Omega.{arith}
 use lib.ListN.{length, getD, replicate, length-append}
-use Rattle.sentence.specs.Calls.{slot, recordOf}
+use Rattle.sentence.specs.Record.{slot, recordOf}
 use Rattle.sentence.specs.declared.Slot.{Slot}
 use Rattle.sentence.specs.declared.Node.{Node}
 use Rattle.sentence.specs.declared.Node.the-variants.{True}
-use Rattle.meaning.specs.Tree.{Formula, always, labelled, negation, both, compare}
+use Rattle.meaning.specs.Tree.{Formula, always, labelled, negation, both, compare, PathFormula, next, until}
 use Rattle.meaning.specs.Tree.{Expression, probability, constant, sum, difference, product}
-use Rattle.meaning.specs.Tree.{PathFormula, next, until}
 use Rattle.trees.specs.Listed.{formulaNodes, expressionNodes, pathNodes}
 use Rattle.trees.specs.Standing.{nodeAt, FormulaAt, always-at, labelled-at, negation-at, both-at, compare-at}
 use Rattle.trees.specs.Standing.{ExpressionAt, probability-at, constant-at, sum-at, difference-at, product-at, PathAt, next-at, until-at}

@@ -8,9 +8,8 @@ use native.Mathlib.Omega.{arith}
 use lib.ListN.{length, getD, length-append}
 use Rattle.sentence.specs.declared.Node.{Node}
 use Rattle.sentence.specs.declared.Node.the-variants.{And, Compare, Sum, Difference, Product, Until}
-use Rattle.meaning.specs.Tree.{Formula, always, labelled, negation, both, compare, pathsOf}
+use Rattle.meaning.specs.Tree.{Formula, always, labelled, negation, both, compare, pathsOf, PathFormula, next, until, pathsFrom}
 use Rattle.meaning.specs.Tree.{Expression, probability, constant, sum, difference, product, pathsIn}
-use Rattle.meaning.specs.Tree.{PathFormula, next, until, pathsFrom}
 use Rattle.meaning.specs.Meaning.{denominator}
 use Rattle.meaning.specs.Size.{size, largeSize, largeCross, exceeds, exceedsIn, exceedsFrom}
 use Rattle.meaning.proofs.Tests.{or-left, or-right}

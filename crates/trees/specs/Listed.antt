@@ -4,10 +4,8 @@ use Rattle.sentence.specs.declared.Relation.the-variants.{Less, AtMost, Equal, 
 use Rattle.sentence.specs.declared.Relation as Spelled
 use Rattle.sentence.specs.declared.Node.{Node}
 use Rattle.sentence.specs.declared.Node.the-variants.{True, Label, Not, And, Compare, Probability, Constant, Sum, Difference, Product, Next, Until}
-use Rattle.meaning.specs.Tree.{Relation, less, atMost, equal, atLeast, greater}
-use Rattle.meaning.specs.Tree.{Formula, always, labelled, negation, both, compare}
-use Rattle.meaning.specs.Tree.{Expression, probability, constant, sum, difference, product}
-use Rattle.meaning.specs.Tree.{PathFormula, next, until}
+use Rattle.meaning.specs.Tree.{Relation, less, atMost, equal, atLeast, greater, Formula, always, labelled, negation, both, compare}
+use Rattle.meaning.specs.Tree.{Expression, probability, constant, sum, difference, product, PathFormula, next, until}
 
 -- the relation of a comparison's node
 abbrev pub relationOf : Relation → Spelled.Relation

@@ -1,11 +1,11 @@
+-- Working: what the functions of this crate promise one another. Nothing here has to be believed.
 -- How many layers of numbers the evaluation of a tree needs at once, where of two operands the one that needs more is
 -- evaluated first, and an until computes in a third layer beside those of its two formulas.
 use Prim.Native.Nat.{ℕ, suc, max}
 use mathlib.Core.Bool.{cond}
 use lib.Dec.{eqb}
-use Rattle.meaning.specs.Tree.{Formula, always, labelled, negation, both, compare}
+use Rattle.meaning.specs.Tree.{Formula, always, labelled, negation, both, compare, PathFormula, next, until}
 use Rattle.meaning.specs.Tree.{Expression, probability, constant, sum, difference, product}
-use Rattle.meaning.specs.Tree.{PathFormula, next, until}
 
 -- two operands: the larger need, or one more where they are equal
 abbrev pub paired : ℕ → ℕ → ℕ

@@ -1,3 +1,4 @@
+-- Working: what the functions of this crate promise one another. Nothing here has to be believed.
 -- The path formulas are numbered in written order. The path with the number k is the one whose node, a next or an until, has
 -- k such nodes at the places before it.
 use Prim.Native.Nat.{ℕ, zero, suc, _+_}

@@ -1,3 +1,4 @@
+-- Working: what the functions of this crate promise one another. Nothing here has to be believed.
 -- A tree stands in the places of a sentence's record: from place p on its nodes, in written order, up to place q. This is
 -- what the functions that walk the places say to one another; `Listed` says the same of whole lists.
 use Prim.Native.Nat.{ℕ, _+_, _<_}
@@ -7,11 +8,9 @@ use lib.ListN.{getD}
 use Rattle.sentence.specs.declared.Slot.{Slot}
 use Rattle.sentence.specs.declared.Node.{Node}
 use Rattle.sentence.specs.declared.Node.the-variants.{True, Label, Not, And, Compare, Probability, Constant, Sum, Difference, Product, Next, Until}
-use Rattle.sentence.specs.Calls.{slot}
-use Rattle.meaning.specs.Tree.{Relation}
-use Rattle.meaning.specs.Tree.{Formula, always, labelled, negation, both, compare}
+use Rattle.sentence.specs.Record.{slot}
+use Rattle.meaning.specs.Tree.{Relation, Formula, always, labelled, negation, both, compare, PathFormula, next, until}
 use Rattle.meaning.specs.Tree.{Expression, probability, constant, sum, difference, product}
-use Rattle.meaning.specs.Tree.{PathFormula, next, until}
 use Rattle.trees.specs.Listed.{relationOf}
 
 -- the node at a place of the record

@@ -1,3 +1,4 @@
+-- Working: what the functions of this crate promise one another. Nothing here has to be believed.
 -- How many things a node wants after it.
 use Prim.Native.Nat.{ℕ}
 use Rattle.sentence.specs.declared.Wants.{Wants}

@@ -10,7 +10,7 @@ use lib.ListN.{length, take}
 use Rattle.refusal.specs.Rows.{Decided, refused}
 use Rattle.model.specs.Rows.{lengthRight, fileNumber}
 use Rattle.model.proofs.Answer.{number-2}
-use Rattle.sentence.specs.Calls.{long}
+use Rattle.sentence_reader.specs.Contract.{long}
 use Rattle.question.specs.Rows.{QuestionRow, area, model, sentence, labels, size, tuples}
 use Rattle.question.proofs.Numbers.{text-number}
 use Rattle.question.proofs.Stages.{none-of-file}

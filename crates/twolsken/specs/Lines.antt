@@ -1,7 +1,7 @@
 -- Document 01: the program 'prints one line: `holds`, `fails`, or `refused` with a blank and the number'. Bytes are ASCII.
 use Prim.Native.Nat.{ℕ}
 use mathlib.Core.List.{List, [], _∷_, _++_}
-use Rattle.sentence.specs.Grammar.{numberText}
+use Rattle.numerals.specs.Numeral.{numberText}
 use Rattle.verdict.specs.declared.Answer.{Answer}
 use Rattle.verdict.specs.declared.Answer.the-variants.{Holds, Fails, Refused}
 

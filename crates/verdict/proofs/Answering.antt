@@ -10,8 +10,8 @@ use Rattle.refusal.proofs.Ensuring.{refused-as}
 use Rattle.model.specs.declared.Model.{Model}
 use Rattle.model.specs.declared.ModelRead as Loaded
 use Rattle.model.specs.Rows.{Reads}
-use Rattle.sentence.specs.declared.SentenceRead as Parsed
-use Rattle.sentence.specs.Calls.{ReadAnswer}
+use Rattle.sentence_reader.specs.declared.SentenceRead as Parsed
+use Rattle.sentence_reader.specs.Contract.{ReadSentenceEnsures}
 use Rattle.meaning.specs.Tree.{letterOf}
 use Rattle.meaning.specs.Meaning.{verdict}
 use Rattle.chain.specs.Of.{chainOf}
@@ -29,7 +29,7 @@ refused-so number some = record { ensured = refused-as number some refl refl }
 
 -- the verdict, where no row applies
 pub answered-so : {file text before after : List ℕ} {m : Loaded.ModelRead} {s : Parsed.SentenceRead} {t : Bool} {r : Answer} →
-    ((k : ℕ) → QuestionRow file text (length before) k → ⊥) → Reads file m → ReadAnswer text s → Judged (m .model) (s .sentence) t →
+    ((k : ℕ) → QuestionRow file text (length before) k → ⊥) → Reads file m → ReadSentenceEnsures text s → Judged (m .model) (s .sentence) t →
     replyOf r ≡ gives t → after ≡ cleared 8192 before → VerdictAnswer file text before r after
 answered-so {text = text} none reads said judged e clear =
     let b = sentence-of none said in

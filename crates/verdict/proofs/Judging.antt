@@ -7,8 +7,8 @@ use native.Mathlib.Omega.{arith}
 use lib.ListN.{length, take, length-map}
 use Rattle.model.specs.declared.Model.{Model}
 use Rattle.sentence.specs.declared.Sentence.{Sentence}
-use Rattle.sentence.specs.Calls.{prefixOf}
-use Rattle.sentence.proofs.RoundTrips.{same-sentence}
+use Rattle.sentence.specs.Record.{prefixOf}
+use Rattle.sentence.proofs.Records.{same-sentence}
 use Rattle.meaning.specs.Tree.{Formula, Letter, letterOf}
 use Rattle.meaning.specs.Meaning.{holds, verdict}
 use Rattle.meaning.specs.Size.{exceeds}

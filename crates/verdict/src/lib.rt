@@ -14,7 +14,7 @@ use model::reader::read_model;
 use question::first_number;
 use question::setting_of;
 use sentence::Sentence;
-use sentence::read_sentence;
+use sentence_reader::read_sentence;
 
 // What verdict answers.
 pub enum Answer {

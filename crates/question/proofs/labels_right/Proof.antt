@@ -5,7 +5,7 @@ use mathlib.Core.Path.{sym, _∙_}
 use native.Mathlib.Omega.{arith}
 use borrow.Author.Tests.{not-true, not-false}
 use Rattle.sentence.specs.declared.Node.the-variants.{True}
-use Rattle.sentence.specs.Calls.{slot}
+use Rattle.sentence.specs.Record.{slot}
 use Rattle.question.specs.Rows.{labelRight}
 use Rattle.question.proofs.Numbers.{Left, left-none, left-next, left-all, left-failed}
 use Rattle.question.proofs.labels_right.Statement.{statement}

@@ -1,7 +1,7 @@
 -- `wants_of` meets its contract: in each arm the node is the arm's.
 -- Assumes nothing.
 use mathlib.Core.Path.{sym, ap}
-use Rattle.sentence.specs.Writing.{wantsOf}
+use Rattle.sentence.specs.Grammar.{wantsOf}
 use borrow.Author.Needs.{needs}
 use Rattle.sentence.proofs.wants_of.Statement.{statement}
 use Rattle.sentence.proofs.wants_of.Tie as tie

@@ -6,7 +6,7 @@ use mathlib.Core.Path.{refl}
 use native.Mathlib.Omega.{arith}
 use lib.ListN.{getD}
 use Rattle.counting.proofs.Laws.{Filled, filled-none, filled-next, filled-all}
-use Rattle.sentence.specs.Calls.{slot}
+use Rattle.sentence.specs.Record.{slot}
 use Rattle.sentence.specs.declared.Node.the-variants.{True}
 use Rattle.exports.specs.Sentences.{codeOfNode}
 use Rattle.exports.proofs.sentences.codes_of.Statement.{statement}

@@ -6,7 +6,7 @@ use mathlib.Core.Path.{refl, ap}
 use native.Mathlib.Omega.{arith}
 use lib.ListN.{getD}
 use Rattle.counting.proofs.Laws.{Filled, filled-none, filled-next, filled-all}
-use Rattle.sentence.specs.Calls.{slot}
+use Rattle.sentence.specs.Record.{slot}
 use Rattle.sentence.specs.declared.Node.the-variants.{True}
 use Rattle.exports.specs.Sentences.{nodeOfCode}
 use Rattle.exports.proofs.sentences.places_of.Statement.{statement}

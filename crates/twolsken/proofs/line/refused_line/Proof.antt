@@ -5,8 +5,8 @@ use mathlib.Core.List.{List, [], _∷_, _++_}
 use mathlib.Core.Path.{_≡_, refl, sym, ap, _∙_}
 use native.Mathlib.Omega.{arith}
 use borrow.Author.Needs.{needs}
-use Rattle.sentence.specs.Grammar.{numberText}
-use Rattle.sentence.proofs.Numbers.{one-digit, digit-more}
+use Rattle.numerals.specs.Numeral.{numberText}
+use Rattle.numerals.proofs.Numbers.{one-digit, digit-more}
 use Rattle.twolsken.specs.Lines.{refusedLine}
 use Rattle.twolsken.proofs.line.refused_line.Statement.{statement}
 use Rattle.twolsken.proofs.line.refused_line.Tie as tie

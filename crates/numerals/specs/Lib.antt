@@ -1,0 +1,3 @@
+-- Numbers as they are written.
+pub mod Numeral
+pub mod Working

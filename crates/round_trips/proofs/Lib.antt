@@ -1,0 +1,2 @@
+-- The round trips of sentences.
+pub mod RoundTrips

@@ -1,0 +1,3 @@
+-- The laws that the proofs of the first pass share.
+pub mod Results
+pub mod NodeAt

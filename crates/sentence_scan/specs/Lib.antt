@@ -1,0 +1,2 @@
+-- What the first pass over a body promises.
+pub mod Working

@@ -1,0 +1,302 @@
+// Write sentence: the text of a record at the front of the output, or the refusal. The contract is in specs/Contract. All
+// that can be refused is decided before a byte is written.
+ghost use Prim.Native.Nat.{_+_, _≤_, _<_};
+ghost use mathlib.Core.List.{[], _∷_, map};
+ghost use mathlib.Core.Path.{_≡_};
+ghost use lib.ListN.{length, take, drop};
+ghost use Rattle.sentence.specs.Grammar.{nodeText, bodyText, relationByte, letterByte, writable, Writable, kindOf};
+ghost use Rattle.sentence_writer.specs.Contract.{WriteSentenceEnsures};
+ghost use Rattle.sentence.specs.Record.{listed};
+ghost use Rattle.sentence.specs.Working.{sameKind, AllWritable};
+ghost use Rattle.sentence_writer.specs.Working.{Fits, Surveyed, Decision};
+ghost use Rattle.numerals.specs.Working.{Put};
+use numerals::number_size;
+use numerals::put_byte;
+use numerals::put_numbers;
+use refusal::Written;
+use sentence::Kind;
+use sentence::Node;
+use sentence::Relation;
+use sentence::Sentence;
+use sentence::Slot;
+use sentence::Wants;
+use sentence::is_fault;
+use sentence::wants_of;
+
+// A place in a node list, and whether the list nests so far.
+pub struct Place {
+    pub ok: bool,
+    pub at: usize,
+}
+
+// The length of a list's text, and whether a node of it is out of its range.
+pub struct Survey {
+    pub size: usize,
+    pub fault: bool,
+}
+
+// The kind of a node.
+fn kind_of(node: Node) -> Kind
+    ensures { λ r. ⌜ r ≡ kindOf node ⌝ }
+{
+    match node {
+        Node::True => Kind::State,
+        Node::Label {
+            label: _,
+            variable: _,
+        } => Kind::State,
+        Node::Not => Kind::State,
+        Node::And => Kind::State,
+        Node::Compare(_) => Kind::State,
+        Node::Probability => Kind::Expression,
+        Node::Constant { top: _, bottom: _ } => Kind::Expression,
+        Node::Sum => Kind::Expression,
+        Node::Difference => Kind::Expression,
+        Node::Product => Kind::Expression,
+        Node::Next => Kind::Path,
+        Node::Until { from: _, to: _ } => Kind::Path,
+    }
+}
+
+// Two kinds are the same.
+fn same_kind(a: Kind, b: Kind) -> bool
+    ensures { λ r. ⌜ r ≡ sameKind a b ⌝ }
+{
+    match a {
+        Kind::State => match b {
+            Kind::State => true,
+            Kind::Expression => false,
+            Kind::Path => false,
+        },
+        Kind::Expression => match b {
+            Kind::State => false,
+            Kind::Expression => true,
+            Kind::Path => false,
+        },
+        Kind::Path => match b {
+            Kind::State => false,
+            Kind::Expression => false,
+            Kind::Path => true,
+        },
+    }
+}
+
+// The grammar has a text for the node: its letter, its digit, its numbers. A node without any of them always has one.
+fn has_text(node: Node) -> bool
+    ensures { λ r. ⌜ r ≡ writable node ⌝ }
+{
+    match node {
+        Node::Label { label, variable } => (label < 16) & (1 <= variable) & (variable <= 4),
+        Node::Constant { top, bottom } => (top < 100000) & (bottom < 100000),
+        Node::Until { from, to } => (from < 100000) & (to < 100000),
+        _ => true,
+    }
+}
+
+// How many bytes a node's own text has.
+fn node_size(node: Node) -> usize
+    ensures { λ r. ⌜ (r ≡ length (nodeText node)) × (r ≤ 14) ⌝ }
+{
+    match node {
+        Node::True => 1,
+        Node::Label {
+            label: _,
+            variable: _,
+        } => 2,
+        Node::Not => 1,
+        Node::And => 1,
+        Node::Compare(_) => 1,
+        Node::Probability => 1,
+        Node::Constant { top, bottom } => number_size(top) + number_size(bottom) + 3,
+        Node::Sum => 1,
+        Node::Difference => 1,
+        Node::Product => 1,
+        Node::Next => 1,
+        Node::Until { from, to } => number_size(from) + number_size(to) + 3,
+    }
+}
+
+// From a place in the first `count` nodes on: does a thing of the kind stand there, and where does it end?
+fn nest(nodes: [Slot; 64], count: usize, kind: Kind, p: Place) -> Place
+    requires { ⌜ (count ≤ 64) × (p .at ≤ count) × (length nodes ≡ 64) ⌝ }
+    ensures { λ r. ⌜ Fits (kind ∷ []) (listed nodes count) p r ⌝ }
+{
+    let ok = p.ok;
+    let at = p.at;
+    if !ok {
+        return p;
+    }
+    if count <= at {
+        return Place { ok: false, at };
+    }
+    let slot = nodes[at];
+    let node = slot.node;
+    let suits = same_kind(kind_of(node), kind) & has_text(node);
+    if !suits {
+        return Place { ok: false, at };
+    }
+    let next = Place {
+        ok: true,
+        at: at + 1,
+    };
+    let w = wants_of(node);
+    match w {
+        Wants::Nothing => next,
+        Wants::One(k) => nest(nodes, count, k, next),
+        Wants::Two(k) => {
+            let one = nest(nodes, count, k, next);
+            nest(nodes, count, k, one)
+        }
+    }
+}
+
+// The length of the text of the nodes from a place on, and whether one of them is out of its range.
+fn survey_from(nodes: [Slot; 64], letters: usize, count: usize, at: usize) -> Survey
+    requires { ⌜ (count ≤ 64) × (at ≤ count) × (length nodes ≡ 64) ⌝ }
+    ensures { λ r. ⌜ Surveyed letters (drop at (listed nodes count)) r ⌝ }
+{
+    if at == count {
+        return Survey {
+            size: 0,
+            fault: false,
+        };
+    }
+    let slot = nodes[at];
+    let node = slot.node;
+    let rest = survey_from(nodes, letters, count, at + 1);
+    Survey {
+        size: node_size(node) + rest.size,
+        fault: is_fault(letters, node) | rest.fault,
+    }
+}
+
+// A comparison's byte.
+fn relation_byte(r: Relation) -> u8
+    ensures { λ b. ⌜ b ≡ relationByte r ⌝ }
+{
+    match r {
+        Relation::Less => b'<',
+        Relation::AtMost => b'L',
+        Relation::Equal => b'=',
+        Relation::AtLeast => b'G',
+        Relation::Greater => b'>',
+    }
+}
+
+// A label is written: its letter and its digit.
+fn put_label(out: &mut [u8], at: usize, label: u8, variable: u8) -> usize
+    requires { ⌜ (label < 16) × (variable ≤ 4) × (at + 2 ≤ length (now out)) ⌝ }
+    ensures { λ r. ⌜ Put (now (out .entry)) at ((97 + label) ∷ (48 + variable) ∷ []) r (now (out .exit)) ⌝ }
+{
+    let next = put_byte(out, at, b'a' + label);
+    put_byte(out, next, b'0' + variable)
+}
+
+// A node's own text is written.
+fn put_node(out: &mut [u8], at: usize, node: Node) -> usize
+    requires { ⌜ Writable node × (at + length (nodeText node) ≤ length (now out)) ⌝ }
+    ensures { λ r. ⌜ Put (now (out .entry)) at (nodeText node) r (now (out .exit)) ⌝ }
+{
+    match node {
+        Node::True => put_byte(out, at, b'T'),
+        Node::Label { label, variable } => put_label(out, at, label, variable),
+        Node::Not => put_byte(out, at, b'!'),
+        Node::And => put_byte(out, at, b'&'),
+        Node::Compare(r) => put_byte(out, at, relation_byte(r)),
+        Node::Probability => put_byte(out, at, b'P'),
+        Node::Constant { top, bottom } => put_numbers(out, at, b'#', top, b'/', bottom, b';'),
+        Node::Sum => put_byte(out, at, b'+'),
+        Node::Difference => put_byte(out, at, b'-'),
+        Node::Product => put_byte(out, at, b'*'),
+        Node::Next => put_byte(out, at, b'X'),
+        Node::Until { from, to } => put_numbers(out, at, b'U', from, b',', to, b':'),
+    }
+}
+
+// The nodes from a place of the record on are written.
+fn put_nodes(out: &mut [u8], at: usize, nodes: [Slot; 64], count: usize, from: usize) -> usize
+    requires { ⌜ (count ≤ 64) × (from ≤ count) × (length nodes ≡ 64) × AllWritable (drop from (listed nodes count)) × (at + length (bodyText (drop from (listed nodes count))) ≤ length (now out)) ⌝ }
+    ensures { λ r. ⌜ Put (now (out .entry)) at (bodyText (drop from (listed nodes count))) r (now (out .exit)) ⌝ }
+{
+    if from == count {
+        return at;
+    }
+    let slot = nodes[from];
+    let node = slot.node;
+    let next = put_node(out, at, node);
+    put_nodes(out, next, nodes, count, from + 1)
+}
+
+// The letters of the prefix from a place on are written.
+fn put_letters(out: &mut [u8], exists: [bool; 4], letters: usize, from: usize) -> usize
+    requires { ⌜ (letters ≤ 4) × (from ≤ letters) × (length exists ≡ 4) × (letters ≤ length (now out)) ⌝ }
+    ensures { λ r. ⌜ Put (now (out .entry)) from (map letterByte (drop from (take letters exists))) r (now (out .exit)) ⌝ }
+{
+    if from == letters {
+        return from;
+    }
+    let letter = if exists[from] { b'E' } else { b'A' };
+    let next = put_byte(out, from, letter);
+    put_letters(out, exists, letters, next)
+}
+
+// What write sentence answers to a record and an output of `room` bytes, before anything is written.
+fn decide(s: Sentence, room: usize) -> Written
+    requires { ⌜ (length (s .exists) ≡ 4) × (length (s .nodes) ≡ 64) ⌝ }
+    ensures { λ r. ⌜ Decision s room r ⌝ }
+{
+    let letters = s.letters;
+    let count = s.count;
+    let nodes = s.nodes;
+    if 64 < count {
+        return Written::Refused(6);
+    }
+    if 4 < letters {
+        return Written::Refused(6);
+    }
+    if letters == 0 {
+        return Written::Refused(6);
+    }
+    let start = Place { ok: true, at: 0 };
+    let end = nest(nodes, count, Kind::State, start);
+    let end_ok = end.ok;
+    if !end_ok {
+        return Written::Refused(6);
+    }
+    if end.at != count {
+        return Written::Refused(6);
+    }
+    let all = survey_from(nodes, letters, count, 0);
+    let size = letters + 1 + all.size;
+    let fault = all.fault;
+    if 400 < size {
+        return Written::Refused(6);
+    }
+    if fault {
+        return Written::Refused(7);
+    }
+    if room < size {
+        return Written::Refused(14);
+    }
+    Written::Wrote(size)
+}
+
+// Write sentence: the text of a record at the front of the output, or the refusal.
+pub fn write_sentence(s: Sentence, out: &mut [u8]) -> Written
+    ensures { λ r. ⌜ WriteSentenceEnsures s (now (out .entry)) r (now (out .exit)) ⌝ }
+{
+    let answer = decide(s, out.len());
+    match answer {
+        Written::Refused(n) => Written::Refused(n),
+        Written::Wrote(size) => {
+            let letters = s.letters;
+            let exists = s.exists;
+            let count = s.count;
+            let nodes = s.nodes;
+            let dot = put_letters(out, exists, letters, 0);
+            let body = put_byte(out, dot, b'.');
+            let end = put_nodes(out, body, nodes, count, 0);
+            Written::Wrote(end)
+        }
+    }
+}
