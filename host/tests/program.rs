@@ -1,14 +1,13 @@
 //! The program, as the gate has built it, beside the second program: one line for the two files of a folder.
 
-use std::fs::{create_dir, remove_dir_all, write, OpenOptions};
+use std::fs::{create_dir, read, remove_dir_all, write, OpenOptions};
 use std::io::Write;
 use std::path::{Path, PathBuf};
 use std::process::{Command, Output};
 use std::thread::{sleep, spawn};
 use std::time::Duration;
-use twolsken_host::gen::model::{file_of, model_with};
-use twolsken_host::gen::Rng;
-use twolsken_host::samples::samples;
+use twolsken_host::inputs::model::{file_of, model_with};
+use twolsken_host::inputs::Rng;
 use twolsken_host::second::meaning::{verdict, WORK};
 use twolsken_host::second::model::examples::m1;
 
@@ -64,9 +63,13 @@ fn agrees(name: &str, model: Option<&[u8]>, sentence: Option<&[u8]>) {
 
 #[test]
 fn the_samples() {
-    for sample in samples() {
-        let sentence = format!("{}\n", sample.sentence);
-        agrees(sample.folder, Some(&file_of(&sample.model)), Some(sentence.as_bytes()));
+    let samples = PathBuf::from(env!("CARGO_MANIFEST_DIR")).join("../samples");
+    for entry in samples.read_dir().expect("the samples") {
+        let sample = entry.expect("a sample").path();
+        let [model, sentence] =
+            ["model.blk", "sentence.txt"].map(|name| read(sample.join(name)).expect(name));
+        let name = sample.file_name().expect("a name").to_string_lossy();
+        agrees(&name, Some(&model), Some(&sentence));
     }
 }
 

@@ -12,9 +12,9 @@ pub fn file_of(model: &Model) -> Vec<u8> {
 }
 
 /// A model with given N, A and D: random masks, and rows that add up to D.
-pub fn model_with(rng: &mut Rng, n: u8, a: u8, d: u32) -> Model {
+pub fn model_with(rng: &mut Rng, n: u32, a: u32, d: u32) -> Model {
     let mut model = Model { n, a, d, ..Model::empty() };
-    let states = usize::from(n);
+    let states = n as usize;
     for s in 0..states {
         model.masks[s] = (rng.bits() & ((1 << a) - 1)) as u16;
         for (t, share) in rng.split(d, states).into_iter().enumerate() {
@@ -28,11 +28,11 @@ pub fn model_with(rng: &mut Rng, n: u8, a: u8, d: u32) -> Model {
 pub fn model(rng: &mut Rng) -> Model {
     let n = match rng.below(8) {
         0 => rng.pick(&[1, 6, 7, 8, 14, 15, 28, 29, 31, 32]),
-        _ => rng.between(1, 32) as u8,
+        _ => rng.between(1, 32) as u32,
     };
     let a = match rng.below(4) {
         0 => rng.pick(&[1, 16]),
-        _ => rng.between(1, 16) as u8,
+        _ => rng.between(1, 16) as u32,
     };
     let d = match rng.below(4) {
         0 => rng.pick(&[1, 2, 255, 256, 257, 65_534, 65_535]),
@@ -132,11 +132,11 @@ pub fn limit_file(rng: &mut Rng, kind: usize) -> Vec<u8> {
 
 /// One change of the head block, then the checks.
 fn poke_head(rng: &mut Rng, kind: usize, model: &Model, file: &mut [u8]) {
-    let n = usize::from(model.n);
+    let n = model.n as usize;
     match kind {
         0 => file[0] = rng.pick(&[0, 1, 2, 3, 255]),
-        1 => file[1] = rng.pick(&[0, 1, 32, 33, 34, 255, model.n + 1, model.n - 1]),
-        2 => file[2] = rng.pick(&[0, 1, 16, 17, 255, model.a + 1, model.a - 1]),
+        1 => file[1] = rng.pick(&[0, 1, 32, 33, 34, 255, model.n as u8 + 1, model.n as u8 - 1]),
+        2 => file[2] = rng.pick(&[0, 1, 16, 17, 255, model.a as u8 + 1, model.a as u8 - 1]),
         3 => file[3] = rng.pick(&[0, 1, 128]),
         4 => file[4..8]
             .copy_from_slice(&rng.pick(&[0, 1, 65_535, 65_536, model.d + 1, model.d + 65_536]).to_le_bytes()),
@@ -144,12 +144,12 @@ fn poke_head(rng: &mut Rng, kind: usize, model: &Model, file: &mut [u8]) {
         // The mask bits from A on, of states below N.
         6 => {
             let (state, any) = (rng.below(n), rng.below(16));
-            let bit = rng.pick(&[usize::from(model.a).min(15), 15, any]);
+            let bit = rng.pick(&[(model.a as usize).min(15), 15, any]);
             file[8 + 2 * state + bit / 8] |= 1 << (bit % 8);
         }
         // The last label's bit: allowed.
         7 => {
-            let (state, bit) = (rng.below(n), usize::from(model.a) - 1);
+            let (state, bit) = (rng.below(n), (model.a as usize) - 1);
             file[8 + 2 * state + bit / 8] ^= 1 << (bit % 8);
         }
         // The first byte after the masks, the last before the check, any between.
@@ -162,7 +162,7 @@ fn poke_head(rng: &mut Rng, kind: usize, model: &Model, file: &mut [u8]) {
 
 /// One change of the rows, then the checks.
 fn poke_rows(rng: &mut Rng, kind: usize, model: &Model, file: &mut [u8]) {
-    let n = usize::from(model.n);
+    let n = model.n as usize;
     let state = rng.below(n);
     match kind {
         11 => file[weight_place(state, rng.below(n))] ^= 1 << rng.below(2),
@@ -170,7 +170,7 @@ fn poke_rows(rng: &mut Rng, kind: usize, model: &Model, file: &mut [u8]) {
         12 if n < 32 => file[weight_place(state, n) + rng.below(2)] = 1 << rng.below(8),
         13 if n < 32 => file[weight_place(state, 31) + 1] = 128,
         // The row of state N, where its block is there; any column.
-        14 if n % 7 != 0 => file[weight_place(n, rng.below(32))] = 1,
+        14 if !n.is_multiple_of(7) => file[weight_place(n, rng.below(32))] = 1,
         // Bytes 450..509 of a row block.
         15 => {
             let block = rng.between(1, blocks_of(n) - 1);
@@ -242,7 +242,7 @@ fn with_another_check(rng: &mut Rng) -> Vec<u8> {
 /// A file with a row that adds up to D + 65,536: D in two bytes, and yet wrong.
 fn with_wrapped_row(rng: &mut Rng) -> Vec<u8> {
     let (n, d) = (rng.between(2, 32), rng.between(1, 40_000) as u32);
-    let mut model = model_with(rng, n as u8, 3, d);
+    let mut model = model_with(rng, n as u32, 3, d);
     let mut file = file_of(&model);
     let state = rng.below(n);
     wrap_row(rng, &mut model, state);
@@ -256,7 +256,7 @@ fn with_wrapped_row(rng: &mut Rng) -> Vec<u8> {
 
 /// Gives a state of a model with N from 2 on and D up to 65,000 a row that adds up to D + 65,536.
 fn wrap_row(rng: &mut Rng, model: &mut Model, state: usize) {
-    let n = usize::from(model.n).min(32);
+    let n = (model.n as usize).min(32);
     let one = rng.below(n);
     let other = (one + rng.between(1, n - 1)) % n;
     model.weights[state] = [0; 32];
@@ -276,19 +276,20 @@ pub fn record(rng: &mut Rng) -> Model {
 
 /// Changes one field of a record, mostly for the worse.
 fn spoil(rng: &mut Rng, model: &mut Model) {
-    let n = usize::from(model.n).clamp(1, 32);
+    let n = (model.n as usize).clamp(1, 32);
     let (state, any) = (rng.below(n), rng.below(16));
     match rng.below(12) {
-        0 => model.n = rng.pick(&[0, 33, 34, 64, 255]),
+        // 256 and more end in a byte that could be right.
+        0 => model.n = rng.pick(&[0, 33, 34, 64, 255, model.n.wrapping_add(256), 258, u32::MAX]),
         1 => model.n = rng.pick(&[model.n.wrapping_add(1), model.n.wrapping_sub(1), 1, 32]),
-        2 => model.a = rng.pick(&[0, 17, 32, 255]),
+        2 => model.a = rng.pick(&[0, 17, 32, 255, model.a.wrapping_add(256), 257, u32::MAX]),
         3 => model.a = rng.pick(&[model.a.wrapping_add(1), model.a.wrapping_sub(1), 1, 16]),
         4 => model.d = rng.pick(&[0, 65_536, 65_537, 131_072, u32::MAX]),
         5 => {
             model.d =
                 rng.pick(&[model.d.wrapping_add(1), model.d.wrapping_sub(1), model.d.wrapping_add(65_536)])
         }
-        6 => model.masks[state] ^= 1 << rng.pick(&[usize::from(model.a) % 16, 15, any]),
+        6 => model.masks[state] ^= 1 << rng.pick(&[(model.a as usize) % 16, 15, any]),
         7 => model.masks[rng.pick(&[n % 32, 31])] |= 1 << rng.below(16),
         8 => model.weights[rng.below(32)][rng.pick(&[n % 32, 31])] = rng.pick(&[1, 256, 65_535]),
         9 => model.weights[rng.pick(&[n % 32, 31])][rng.below(32)] = rng.pick(&[1, 256, 65_535]),

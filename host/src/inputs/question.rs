@@ -65,8 +65,8 @@ pub fn chain(rng: &mut Rng, tuples: usize) -> (Model, usize) {
     let n = rng.between(most.min(2), most);
     let any = rng.between(1, 65_535) as u32;
     let d = rng.pick(&[1, 1, 2, 2, 2, 2, 3, 3, 4, 4, 5, 6, 10, 100, 65_535, any]);
-    let a = rng.between(1, 3) as u8;
-    (model_with(rng, n as u8, a, d), letters)
+    let a = rng.between(1, 3) as u32;
+    (model_with(rng, n as u32, a, d), letters)
 }
 
 /// The greatest k up to 60 with D to the power letters × k at most 2^62.
@@ -88,7 +88,7 @@ pub fn fitting_sentence(rng: &mut Rng, model: &Model, letters: usize, size: usiz
     for attempt in 0..8 {
         let window = rng.pick(&[1, 1, 2, 3, 5, 8, widest / 3, widest]).min(widest).min(60 >> attempt);
         let (top, bottom) = rng.pick(&[(9, 1), (2, 2), (3, 3), (4, 4), (60, 60)]);
-        let taste = Taste { variables: letters, labels: usize::from(model.a), window, top, bottom, lean };
+        let taste = Taste { variables: letters, labels: model.a as usize, window, top, bottom, lean };
         let size = (size >> (attempt / 2)).max(1);
         let loose = sentence::sentence(rng, &taste, size);
         let fits = |read: &Sentence| !too_large(read, model.d) && cost(model, read) <= work;
@@ -103,7 +103,7 @@ pub fn fitting_sentence(rng: &mut Rng, model: &Model, letters: usize, size: usiz
 
 /// About how many products the steps of a sentence's paths take on a model.
 pub fn cost(model: &Model, sentence: &Sentence) -> usize {
-    let n = usize::from(model.n);
+    let n = model.n as usize;
     let tuples = n.pow(sentence.letters as u32);
     let steps = sentence.nodes[..sentence.count].iter().map(|node| match node {
         Node::Next => 1,
@@ -118,7 +118,7 @@ pub fn cost(model: &Model, sentence: &Sentence) -> usize {
 pub fn tight(rng: &mut Rng) -> Pair {
     let (model, letters) = chain(rng, 36);
     let window = widest_window(model.d, letters).min(rng.between(1, 4));
-    let labels = usize::from(model.a);
+    let labels = model.a as usize;
     let taste = Taste { variables: letters, labels, window, top: 3, bottom: 3, lean: Lean::Any };
     let size = rng.between(2, 9);
     let path = sentence::path(rng, &taste, size);
@@ -164,8 +164,8 @@ fn near(rng: &mut Rng) -> Pair {
 /// A pair whose sentence names a label near A, on either side.
 fn with_label_beyond(rng: &mut Rng) -> Pair {
     let (mut model, letters) = chain(rng, 36);
-    model.a = rng.between(usize::from(model.a), 16) as u8;
-    let label = (usize::from(model.a) + rng.below(3)).saturating_sub(1).min(15) as u8;
+    model.a = rng.between(model.a as usize, 16) as u32;
+    let label = ((model.a as usize) + rng.below(3)).saturating_sub(1).min(15) as u8;
     let variable = rng.between(1, letters) as u8;
     let mut loose =
         Loose { prefix: sentence::prefix(rng, letters), list: vec![Node::Label { label, variable }] };
@@ -207,7 +207,7 @@ pub fn at_size_limit(rng: &mut Rng) -> Pair {
     let any = rng.between(2, 65_535) as u32;
     let d = rng.pick(&[1, 2, 2, 3, 4, 5, 7, 10, 16, 255, 256, 46_340, 65_535, any]);
     let letters = rng.between(1, 3);
-    let n = rng.between(1, 3) as u8;
+    let n = rng.between(1, 3) as u32;
     let model = model_with(rng, n, 1, d);
     let widest = widest_window(d, letters);
     let window = rng.pick(&[widest, widest, widest + 1, rng.clone().below(widest + 1)]);

@@ -21,13 +21,13 @@ pub struct Merging {
 pub fn planted(rng: &mut Rng, most: usize) -> (Model, Vec<u8>) {
     let states = rng.between(1, most);
     let groups = rng.between(1, states);
-    let (a, any) = (rng.between(1, 4) as u8, rng.between(1, 65_535) as u32);
+    let (a, any) = (rng.between(1, 4) as u32, rng.between(1, 65_535) as u32);
     let d = rng.pick(&[1, 2, 3, 4, 6, 10, 100, 65_535, any]);
-    let small = model_with(rng, groups as u8, a, d);
+    let small = model_with(rng, groups as u32, a, d);
     let mut grouping: Vec<u8> =
         (0..states).map(|s| if s < groups { s } else { rng.below(groups) } as u8).collect();
     rng.shuffle(&mut grouping);
-    let mut model = Model { n: states as u8, a, d, ..Model::empty() };
+    let mut model = Model { n: states as u32, a, d, ..Model::empty() };
     for s in 0..states {
         let g = usize::from(grouping[s]);
         model.masks[s] = small.masks[g];
@@ -49,7 +49,7 @@ pub fn merging(rng: &mut Rng) -> Merging {
     let mut file = None;
     match rng.below(20) {
         0..=6 => {}
-        7 => grouping = (0..model.n).collect(),
+        7 => grouping = (0..model.n as u8).collect(),
         8 => rng.shuffle(&mut grouping),
         9 | 10 => one_off(rng, &mut grouping),
         11 | 12 => weight_off(rng, &mut model),
@@ -57,14 +57,14 @@ pub fn merging(rng: &mut Rng) -> Merging {
         14 => wrong_length(rng, &mut grouping),
         15 => wrong_numbers(rng, &mut grouping),
         16 => {
-            model.masks = std::array::from_fn(|s| if s < usize::from(model.n) { model.masks[0] } else { 0 });
+            model.masks = std::array::from_fn(|s| if s < (model.n as usize) { model.masks[0] } else { 0 });
             grouping.fill(0);
         }
         17 => file = Some(model::file(rng)),
         18 => grouping = (0..rng.below(40)).map(|_| rng.below(4) as u8).collect(),
         _ => {
             let n = rng.between(1, 4);
-            model = model_with(rng, n as u8, 1, 1);
+            model = model_with(rng, n as u32, 1, 1);
             grouping = (0..n).map(|_| rng.below(n) as u8).collect();
         }
     }
@@ -92,7 +92,7 @@ fn one_off(rng: &mut Rng, grouping: &mut [u8]) {
 
 /// One unit of weight from one state goes to another target.
 fn weight_off(rng: &mut Rng, model: &mut Model) {
-    let n = usize::from(model.n);
+    let n = model.n as usize;
     let (s, to) = (rng.below(n), rng.below(n));
     let from = (0..n).map(|i| (i + to) % n).find(|&t| t != to && model.weights[s][t] > 0);
     if let Some(from) = from {
@@ -103,8 +103,8 @@ fn weight_off(rng: &mut Rng, model: &mut Model) {
 
 /// One label of one state changes.
 fn mask_off(rng: &mut Rng, model: &mut Model) {
-    let state = rng.below(usize::from(model.n));
-    model.masks[state] ^= 1 << rng.below(usize::from(model.a));
+    let state = rng.below(model.n as usize);
+    model.masks[state] ^= 1 << rng.below(model.a as usize);
 }
 
 /// A grouping with a byte too many or too few, or none.

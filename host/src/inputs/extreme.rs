@@ -41,7 +41,7 @@ pub enum Kind {
 }
 
 /// The most that the numbers of states and letters allow within 1,024 tuples.
-const FULL: [(u8, usize); 8] = [(32, 2), (32, 2), (31, 2), (10, 3), (9, 3), (5, 4), (4, 4), (32, 1)];
+const FULL: [(u32, usize); 8] = [(32, 2), (32, 2), (31, 2), (10, 3), (9, 3), (5, 4), (4, 4), (32, 1)];
 
 /// A pair of a kind.
 pub fn pair(rng: &mut Rng, kind: Kind) -> Pair {
@@ -116,8 +116,8 @@ fn beyond(rng: &mut Rng) -> Pair {
 fn long_window(rng: &mut Rng) -> Pair {
     let letters = rng.pick(&[1, 1, 1, 2, 2, 3, 4]);
     let most = if rng.chance(1, 30) { 1_024 } else { 100 };
-    let n = (1..=32u8).rev().find(|&n| usize::from(n).pow(letters as u32) <= most).unwrap_or(1);
-    let n = rng.between(1, usize::from(n)) as u8;
+    let n = (1..=32usize).rev().find(|&n| n.pow(letters as u32) <= most).unwrap_or(1);
+    let n = rng.between(1, n) as u32;
     let d = if letters == 1 { rng.between(1, 2) as u32 } else { 1 };
     let asked = Asked { model: model_with(rng, n, 2, d), letters, window: 60 };
     let to = rng.pick(&[60, 60, 59, 50]);
@@ -159,7 +159,7 @@ const ENDS: [(u32, usize, &str, [&str; 2]); 19] = [
 fn end(rng: &mut Rng, above: bool) -> Pair {
     loop {
         let (d, letters, body, gap) = rng.pick(&ENDS);
-        let n = rng.between(1, if letters > 2 { 3 } else { 5 }) as u8;
+        let n = rng.between(1, if letters > 2 { 3 } else { 5 }) as u32;
         let asked = Asked { model: model_with(rng, n, 2, d), letters, window: 0 };
         let (first, second) = (rng.pick(&["T", "T", "a1", "!b1"]), rng.pick(&["a1", "b1", "T", "!a1"]));
         let filled = body.replace('%', gap[usize::from(above)]);
@@ -211,7 +211,7 @@ impl Asked {
     /// one with which the kind's numbers stay mostly within the size rule.
     fn of(rng: &mut Rng, kind: Kind) -> Asked {
         let mut letters = rng.pick(&[1, 1, 2, 2, 3, 4]);
-        let mut n = rng.between(1, [0, 12, 6, 4, 3][letters]) as u8;
+        let mut n = rng.between(1, [0, 12, 6, 4, 3][letters]) as u32;
         if rng.chance(1, 20) {
             (n, letters) = rng.pick(&FULL);
         }
