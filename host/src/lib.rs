@@ -6,11 +6,13 @@
 //! * [`compare`] runs a [`compare::Library`] against `second` on those inputs.
 //! * [`proved`] is the proved library, with all that it is lent marked beforehand.
 //! * [`plain`] has two plain programs to time the library against.
+//! * [`picture`] draws the chain of a table.
 
 #![warn(missing_docs)]
 
 pub mod compare;
 pub mod inputs;
+pub mod picture;
 pub mod plain;
 pub mod proved;
 pub mod second;

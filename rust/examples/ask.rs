@@ -5,6 +5,7 @@
 
 use std::error::Error;
 use std::fs::read;
+use std::io::{stdout, Write};
 use std::path::Path;
 use std::process::ExitCode;
 use twolsken::{numerator, read_model, read_sentence, verdict, WORK_AREA};
@@ -24,13 +25,14 @@ fn ask(folder: &Path) -> Result<(), Box<dyn Error>> {
     let line = read(folder.join("sentence.txt"))?;
     let text = line.strip_suffix(b"\n").unwrap_or(&line);
     let mut work = vec![0; WORK_AREA];
-    println!("{}", verdict(&file, text, &mut work)?);
+    let mut out = stdout().lock();
+    writeln!(out, "{}", verdict(&file, text, &mut work)?)?;
     let (model, sentence) = (read_model(&file)?, read_sentence(text)?);
     let paths = sentence.nodes.iter().filter(|node| node.is_path()).count();
     for path in 0..paths {
         for tuple in tuples(model.n, sentence.prefix.len()) {
             let probability = numerator(&file, text, &tuple, path, &mut work)?;
-            println!("path formula {path} at {tuple:?}: {probability}");
+            writeln!(out, "path formula {path} at {tuple:?}: {probability}")?;
         }
     }
     Ok(())
