@@ -126,14 +126,29 @@ fn a_file_that_comes_in_parts_is_read_to_its_end() {
     writer.join().expect("the writer");
 }
 
-/// No verdict on what could not be read: the reason goes to standard error.
+/// No verdict on what could not be read: the reason goes to standard error. The exit status is 0 all the same.
 #[test]
 fn a_file_that_cannot_be_read_gets_no_verdict() {
     for name in ["model.blk", "sentence.txt"] {
         let folder = Folder::new(name);
         create_dir(folder.0.join(name)).expect("a folder in a file's place");
         let output = run(&folder.0);
-        assert!(output.stdout.is_empty());
+        assert!(output.stdout.is_empty() && output.status.success());
         assert_eq!(String::from_utf8_lossy(&output.stderr), format!("{name}: Is a directory\n"));
+    }
+}
+
+/// The script that starts the program: no line where there is nothing to judge, and 2 as its exit status.
+#[test]
+fn the_script_says_what_is_missing() {
+    let script = PathBuf::from(env!("CARGO_MANIFEST_DIR")).join("../twolsken");
+    for (words, said) in [
+        (&["no-such-folder"][..], "twolsken: there is no folder no-such-folder\n"),
+        (&["one", "two"][..], "twolsken: usage: ./twolsken [FOLDER]\n"),
+    ] {
+        let output = Command::new(&script).args(words).output().expect("the script");
+        assert_eq!(output.status.code(), Some(2));
+        assert!(output.stdout.is_empty());
+        assert_eq!(String::from_utf8_lossy(&output.stderr), said);
     }
 }

@@ -147,11 +147,24 @@ impl Error for Refusal {}
 #[cfg(test)]
 mod tests {
     use super::*;
+    use crate::{LONGEST_FILE, LONGEST_TEXT, NODES, WORK_AREA};
 
     #[test]
     fn numbers_are_those_of_the_table_of_refusals() {
         let numbers: Vec<u8> = Refusal::ALL.iter().map(|refusal| refusal.number()).collect();
         assert_eq!(numbers, (1..=15).collect::<Vec<u8>>());
+    }
+
+    #[test]
+    fn words_tell_the_limits() {
+        for (refusal, limit) in [
+            (Refusal::WorkArea, WORK_AREA),
+            (Refusal::FileLength, LONGEST_FILE),
+            (Refusal::Grammar, LONGEST_TEXT),
+            (Refusal::TooManyNodes, NODES),
+        ] {
+            assert!(refusal.words().contains(&limit.to_string()), "{refusal}");
+        }
     }
 
     #[test]
