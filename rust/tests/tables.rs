@@ -27,6 +27,8 @@ fn an_error_names_line_and_column() {
         ("D 4\n\nD 4", "line 3, column 1: D was given before"),
         ("labels a\nlabels b", "line 2, column 1: the labels were given before"),
         ("labels a b a", "line 1, column 12: the label `a` is there twice"),
+        ("labels b a", "line 1, column 8: a sentence calls this label `a`: `b` would mislead"),
+        ("labels a open p", "line 1, column 15: a sentence calls this label `c`: `p` would mislead"),
         (
             "labels",
             "line 1, column 7: a label's name is expected here, a letter and then letters, digits, `-` or \

@@ -157,6 +157,10 @@ impl<'a> Lines<'a> {
             if self.labels.len() == LABELS {
                 return word.wrong(format!("there are at most {LABELS} labels"));
             }
+            let letter = char::from(b'a' + self.labels.len() as u8).to_string();
+            if name != letter && name.len() == 1 && ("a"..="p").contains(&name) {
+                return word.wrong(format!("a sentence calls this label `{letter}`: `{name}` would mislead"));
+            }
             self.labels.push(word);
             if line.done() {
                 return Ok(());
