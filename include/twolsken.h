@@ -137,9 +137,9 @@ uint32_t twolsken_read_model(const uint8_t *file, size_t file_length, uint32_t h
                              uint16_t rows[TWOLSKEN_STATES][TWOLSKEN_STATES]);
 
 /*
- * Write model. Takes N, A and D in head, the masks and the rows as read model leaves them. rows is not written; it is no
- * pointer to const only because C would then warn of an array that is none. Returns the length of the model's file, which it
- * wrote at the front of out; or TWOLSKEN_REFUSED plus 4, 5 or 14.
+ * Write model. Takes N, A and D in head, the masks and the rows as read model leaves them. rows is only read: it has no
+ * const because C before C23 warns where an array without const is passed for one with it. Returns the length of the model's
+ * file, which it wrote at the front of out; or TWOLSKEN_REFUSED plus 4, 5 or 14.
  */
 uint64_t twolsken_write_model(const uint32_t head[3], const uint16_t masks[TWOLSKEN_STATES],
                               uint16_t rows[TWOLSKEN_STATES][TWOLSKEN_STATES], uint8_t *out,
@@ -157,7 +157,7 @@ uint32_t twolsken_read_sentence(const uint8_t *text, size_t text_length, uint64_
 /*
  * Write sentence. In exists 0 is `A` and every other number `E`; places past the letters and past the count are no part of
  * the sentence. A code that is no node's (a tag above 11, a relation above 4, a label or a variable above 255) stands for a
- * node that no text spells: where it counts it is refused as 6. codes is not written, as rows at write model. Returns the
+ * node that no text spells: where it counts it is refused as 6. codes is only read, as rows at write model. Returns the
  * length of the text, which it wrote at the front of out; or TWOLSKEN_REFUSED plus 6, 7 or 14.
  */
 uint64_t twolsken_write_sentence(uint64_t letters, uint64_t count,

@@ -5,12 +5,14 @@
 //! * [`inputs`] makes seeded inputs: files, texts, records, groupings, right and wrong.
 //! * [`compare`] runs a [`compare::Library`] against `second` on those inputs.
 //! * [`proved`] is the proved library, with all that it is lent marked beforehand.
+//! * [`files`] finds the files of the repository.
 //! * [`plain`] has two plain programs to time the library against.
 //! * [`picture`] draws the chain of a table.
 
 #![warn(missing_docs)]
 
 pub mod compare;
+pub mod files;
 pub mod inputs;
 pub mod picture;
 pub mod plain;

@@ -1,9 +1,10 @@
 //! The header for C: it compiles as C11 and as C++17 with every warning an error, a program that calls each function gets
 //! the answers that the header tells, and the example prints the verdicts of the samples.
 
-use std::fs::{create_dir, read_to_string, remove_dir_all, write};
+use std::fs::{read_to_string, write};
 use std::path::{Path, PathBuf};
 use std::process::{Command, Output};
+use twolsken_host::files::{at, samples, Folder};
 
 /// Warnings, all of them errors.
 const WARNINGS: [&str; 6] = ["-Wall", "-Wextra", "-pedantic", "-Wshadow", "-Wundef", "-Werror"];
@@ -24,46 +25,24 @@ const C: Language = Language {
 /// C++.
 const CPP: Language = Language { variable: "CXX", compiler: "c++", words: &["-x", "c++", "-std=c++17"] };
 
-/// A file of the repository.
-fn at(name: &str) -> PathBuf {
-    Path::new(env!("CARGO_MANIFEST_DIR")).join("..").join(name)
-}
-
-/// A folder of its own for a test's programs.
-struct Folder(PathBuf);
-
-impl Folder {
-    fn new(name: &str) -> Folder {
-        let folder = std::env::temp_dir().join(format!("twolsken-{}-{name}", std::process::id()));
-        create_dir(&folder).expect("a folder");
-        Folder(folder)
-    }
-
-    /// Compiles a source and links the library; returns where the program is.
-    fn compile(&self, language: &Language, source: &Path) -> PathBuf {
-        let program = self.0.join("program");
-        let compiler = std::env::var(language.variable).unwrap_or_else(|_| language.compiler.to_string());
-        let output = Command::new(compiler)
-            .args(language.words)
-            .args(WARNINGS)
-            .arg("-I")
-            .arg(at("include"))
-            .arg(source)
-            .args(["-x", "none"])
-            .arg(at("target/staticlib/libexports.a"))
-            .arg("-o")
-            .arg(&program)
-            .output()
-            .expect("a compiler for C and one for C++ (CC, CXX)");
-        assert!(output.status.success(), "{}", String::from_utf8_lossy(&output.stderr));
-        program
-    }
-}
-
-impl Drop for Folder {
-    fn drop(&mut self) {
-        remove_dir_all(&self.0).expect("the folder goes");
-    }
+/// Compiles a source to a program in a folder and links the library; returns where the program is.
+fn compile(folder: &Folder, language: &Language, source: &Path) -> PathBuf {
+    let program = folder.0.join("program");
+    let compiler = std::env::var(language.variable).unwrap_or_else(|_| language.compiler.to_string());
+    let output = Command::new(compiler)
+        .args(language.words)
+        .args(WARNINGS)
+        .arg("-I")
+        .arg(at("include"))
+        .arg(source)
+        .args(["-x", "none"])
+        .arg(at("target/staticlib/libexports.a"))
+        .arg("-o")
+        .arg(&program)
+        .output()
+        .expect("a compiler for C and one for C++ (CC, CXX)");
+    assert!(output.status.success(), "{}", String::from_utf8_lossy(&output.stderr));
+    program
 }
 
 /// Runs a program with some files of the repository.
@@ -75,7 +54,7 @@ fn run(program: &Path, files: &[PathBuf]) -> Output {
 fn each_call_answers_as_the_header_says() {
     for (name, language) in [("calls-c", C), ("calls-cpp", CPP)] {
         let folder = Folder::new(name);
-        let output = run(&folder.compile(&language, &at("host/tests/c/calls.c")), &[]);
+        let output = run(&compile(&folder, &language, &at("host/tests/c/calls.c")), &[]);
         assert!(output.status.success(), "{}", String::from_utf8_lossy(&output.stderr));
         assert_eq!(output.stdout, b"every call answers as the header says\n");
     }
@@ -88,7 +67,7 @@ fn the_header_needs_no_other() {
         let folder = Folder::new(name);
         let source = folder.0.join("alone.c");
         write(&source, "#include \"twolsken.h\"\nint main(void) { return 0; }\n").expect("a source");
-        assert!(run(&folder.compile(&language, &source), &[]).status.success(), "{name}");
+        assert!(run(&compile(&folder, &language, &source), &[]).status.success(), "{name}");
     }
 }
 
@@ -96,9 +75,8 @@ fn the_header_needs_no_other() {
 fn the_example_prints_the_verdicts_of_the_samples() {
     for (name, language) in [("ask-c", C), ("ask-cpp", CPP)] {
         let folder = Folder::new(name);
-        let program = folder.compile(&language, &at("include/ask.c"));
-        for sample in at("samples").read_dir().expect("the samples") {
-            let sample = sample.expect("a sample").path();
+        let program = compile(&folder, &language, &at("include/ask.c"));
+        for sample in samples() {
             let output = run(&program, &["model.blk", "sentence.txt"].map(|file| sample.join(file)));
             let printed = String::from_utf8(output.stdout).expect("a text");
             let verdict = printed.lines().next().expect("a line");
@@ -113,7 +91,7 @@ fn the_example_prints_the_verdicts_of_the_samples() {
 #[test]
 fn the_example_tells_a_refusal() {
     let folder = Folder::new("ask-refused");
-    let program = folder.compile(&C, &at("include/ask.c"));
+    let program = compile(&folder, &C, &at("include/ask.c"));
     let sentence = at("samples/m1/sentence.txt");
     let output = run(&program, &[sentence.clone(), sentence.clone()]);
     assert_eq!((output.stdout.as_slice(), output.status.code()), (&b"refused 2\n"[..], Some(1)));

@@ -2,13 +2,9 @@
 //! table's is a test of the package `twolsken`; that the program prints the verdict is one of `program.rs`.
 
 use std::fs::{read, read_to_string};
-use std::path::{Path, PathBuf};
+use std::path::Path;
+use twolsken_host::files::{at, samples};
 use twolsken_host::second::meaning::{verdict, WORK};
-
-/// The root of the repository.
-fn root() -> PathBuf {
-    PathBuf::from(env!("CARGO_MANIFEST_DIR")).join("..")
-}
 
 /// The verdict that a sample's README ends with.
 fn told(sample: &Path) -> String {
@@ -21,8 +17,7 @@ fn told(sample: &Path) -> String {
 #[test]
 fn each_readme_tells_the_verdict() {
     let mut said = Vec::new();
-    for entry in root().join("samples").read_dir().expect("the samples") {
-        let sample = entry.expect("a sample").path();
+    for sample in samples() {
         let line = read_to_string(sample.join("sentence.txt")).expect("a sentence");
         let text = line.strip_suffix('\n').expect("a newline at the end");
         let file = read(sample.join("model.blk")).expect("a model file");
@@ -38,7 +33,7 @@ fn each_readme_tells_the_verdict() {
 #[test]
 fn the_stored_run_of_the_program_is_m1() {
     for name in ["model.blk", "sentence.txt"] {
-        let stored = read(root().join("crates/twolsken/data").join(name)).expect(name);
-        assert_eq!(stored, read(root().join("samples/m1").join(name)).expect(name), "{name}");
+        let stored = read(at("crates/twolsken/data").join(name)).expect(name);
+        assert_eq!(stored, read(at("samples/m1").join(name)).expect(name), "{name}");
     }
 }

@@ -1,13 +1,8 @@
 //! The numbers that docs/USING.md tells are those of the library.
 
 use std::fs::{read, read_to_string};
-use std::path::{Path, PathBuf};
 use twolsken::{numerator, verdict, Fraction, Model, Refusal, Verdict, WORK_AREA};
-
-/// A file of the repository.
-fn at(name: &str) -> PathBuf {
-    Path::new(env!("CARGO_MANIFEST_DIR")).join("..").join(name)
-}
+use twolsken_host::files::at;
 
 /// The page.
 fn page() -> String {

@@ -95,6 +95,36 @@ impl<'a> Line<'a> {
     fn done(&self) -> bool {
         self.words.as_slice().is_empty()
     }
+
+    /// The names of labels in brackets, if a bracket is next.
+    fn bracketed(&mut self) -> Result<Vec<Word<'a>>, TableError> {
+        let mut labels = Vec::new();
+        if self.passes("(") {
+            while !self.passes(")") {
+                let word = self.next();
+                word.name("a label's name or `)`")?;
+                labels.push(word);
+            }
+        }
+        Ok(labels)
+    }
+
+    /// The states that are gone to, each with its weight, to the end of the line.
+    fn goes(&mut self) -> Result<Vec<(Word<'a>, u16)>, TableError> {
+        let mut goes = Vec::new();
+        loop {
+            let target = self.next();
+            target.name("the name of a state that it goes to")?;
+            let weight = self.next().number("a weight", 0, GREATEST_D)?;
+            goes.push((target, weight as u16));
+            if self.done() {
+                return Ok(goes);
+            }
+            if !self.passes(",") {
+                return self.next().wrong("a comma is expected between two states that it goes to");
+            }
+        }
+    }
 }
 
 /// A state's line: its name, its labels, where it goes.
@@ -179,14 +209,7 @@ impl<'a> Lines<'a> {
         if self.states.len() == STATES {
             return name.wrong(format!("there are at most {STATES} states"));
         }
-        let mut labels = Vec::new();
-        if line.passes("(") {
-            while !line.passes(")") {
-                let word = line.next();
-                word.name("a label's name or `)`")?;
-                labels.push(word);
-            }
-        }
+        let labels = line.bracketed()?;
         if !line.passes(":") {
             let word = line.next();
             return word.wrong(format!(
@@ -194,19 +217,7 @@ impl<'a> Lines<'a> {
                 word.shown()
             ));
         }
-        let mut goes = Vec::new();
-        loop {
-            let target = line.next();
-            target.name("the name of a state that it goes to")?;
-            let weight = line.next().number("a weight", 0, GREATEST_D)?;
-            goes.push((target, weight as u16));
-            if line.done() {
-                break;
-            }
-            if !line.passes(",") {
-                return line.next().wrong("a comma is expected between two states that it goes to");
-            }
-        }
+        let goes = line.goes()?;
         self.states.push(State { name, labels, goes });
         Ok(())
     }
