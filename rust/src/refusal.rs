@@ -52,7 +52,7 @@ pub enum Refusal {
 
 impl Refusal {
     /// Every refusal, in the order of the numbers.
-    pub const ALL: [Refusal; 15] = [
+    pub const ALL: &'static [Refusal] = &[
         Refusal::WorkArea,
         Refusal::FileLength,
         Refusal::Check,
@@ -113,10 +113,8 @@ impl Refusal {
     /// # Panics
     /// If no refusal has the number: then the archive is not the one that this package is made for.
     pub(crate) fn of(answer: u32) -> Refusal {
-        let place = (answer as usize).wrapping_sub(1);
-        *Refusal::ALL
-            .get(place)
-            .unwrap_or_else(|| panic!("{answer} is no answer of the library: other archive"))
+        let refusal = Refusal::ALL.iter().find(|refusal| u32::from(refusal.number()) == answer);
+        *refusal.unwrap_or_else(|| other_archive(format_args!("the answer {answer}")))
     }
 
     /// A reader's answer: nothing, or the refusal.
@@ -134,6 +132,11 @@ impl Refusal {
             None => Ok(answer as usize),
         }
     }
+}
+
+/// Stops: the library gave something that this package does not know.
+pub(crate) fn other_archive(what: fmt::Arguments) -> ! {
+    panic!("the archive is not the one that this package is made for: it gave {what}")
 }
 
 impl Display for Refusal {
@@ -176,7 +179,7 @@ mod tests {
     }
 
     #[test]
-    #[should_panic(expected = "16 is no answer of the library")]
+    #[should_panic(expected = "it gave the answer 16")]
     fn an_answer_of_another_archive_stops() {
         Refusal::of(16);
     }

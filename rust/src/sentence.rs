@@ -1,6 +1,7 @@
 //! Sentences and their texts.
 
 use crate::raw::{self, Codes, Exists};
+use crate::refusal::other_archive;
 use crate::{Refusal, LETTERS, LONGEST_TEXT, NODES};
 
 /// A letter of a sentence's prefix.
@@ -109,7 +110,7 @@ impl Node {
             [9, ..] => Node::Product,
             [10, ..] => Node::Next,
             [11, from, to] => Node::Until { from, to },
-            _ => panic!("{code:?} is no node of the library: other archive"),
+            _ => other_archive(format_args!("the node {code:?}")),
         }
     }
 

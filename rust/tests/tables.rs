@@ -95,7 +95,8 @@ fn states_on_both_sides_of_the_most() {
 #[test]
 fn blanks_comments_and_the_order_of_lines_do_not_matter() {
     let plain: Table = with("state s (open lost): t 4\nstate t: s 1, t 3").parse().expect("a table");
-    let other = "# a comment\r\nstate\ts(lost open):t 4#x\n\n state t : s 1 ,t 3,s-x 0\nstate s-x: s-x 4\n\
+    let other =
+        "\u{feff}# a comment\r\nstate\ts(lost open):t 4#x\n\n state t : s 1 ,t 3,s-x 0\nstate s-x: s-x 4\n\
                  labels open lost\nD 4";
     let other: Table = other.parse().expect("the same with one state more");
     assert_eq!((plain.model.n, other.model.n), (2, 3));

@@ -4,6 +4,9 @@ use super::{Table, TableError};
 use crate::{Model, GREATEST_D, LABELS, STATES};
 use std::str::FromStr;
 
+/// The signs of a line: each is a word of its own, and ends the one before it.
+const SIGNS: [char; 4] = [':', ',', '(', ')'];
+
 /// A word or a sign of a line, and where it begins.
 #[derive(Clone, Copy)]
 struct Word<'a> {
@@ -57,20 +60,18 @@ struct Line<'a> {
 impl<'a> Line<'a> {
     /// The words and signs of a line, without its comment.
     fn of(text: &'a str, line: usize) -> Line<'a> {
-        let text = text.split('#').next().unwrap_or("").trim_end();
+        let mut rest = text.split('#').next().unwrap_or("").trim_end();
         let mut words = Vec::new();
-        let mut rest = text;
         let mut column = 1;
-        while let Some(first) = rest.chars().next() {
-            let length = match first {
-                ':' | ',' | '(' | ')' => 1,
-                _ => rest.find(|c: char| c.is_whitespace() || ":,()".contains(c)).unwrap_or(rest.len()),
+        while !rest.is_empty() {
+            let (blanks, from) = rest.split_at(rest.len() - rest.trim_start().len());
+            column += blanks.chars().count();
+            let length = match from.starts_with(SIGNS) {
+                true => 1,
+                false => from.find(|c: char| c.is_whitespace() || SIGNS.contains(&c)).unwrap_or(from.len()),
             };
-            // a blank is a word of no length, and is passed over
-            let (word, after) = rest.split_at(length.max(first.len_utf8()));
-            if length > 0 {
-                words.push(Word { text: word, line, column });
-            }
+            let (word, after) = from.split_at(length);
+            words.push(Word { text: word, line, column });
             column += word.chars().count();
             rest = after;
         }
@@ -283,6 +284,8 @@ impl FromStr for Table {
 
     /// Reads a table. An error names the line and the column.
     fn from_str(text: &str) -> Result<Table, TableError> {
+        // some editors put a mark of their own before the text
+        let text = text.strip_prefix('\u{feff}').unwrap_or(text);
         let mut lines = Lines::default();
         let mut last = 0;
         for (place, line) in text.lines().enumerate() {
