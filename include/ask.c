@@ -27,6 +27,14 @@ static long read_front(const char *name, uint8_t *bytes, size_t room) {
     return (long)length;
 }
 
+/* Prints a refusal, if there is one; returns whether there is. */
+static int refused(uint32_t refusal) {
+    if (refusal != 0) {
+        printf("refused %" PRIu32 "\n", refusal);
+    }
+    return refusal != 0;
+}
+
 int main(int count, char **words) {
     /* a byte more than the longest, so that what is too long is refused; and one for the sentence's newline */
     static uint8_t model[TWOLSKEN_LONGEST_FILE + 1];
@@ -47,29 +55,30 @@ int main(int count, char **words) {
 
     uint32_t answer = twolsken_verdict(model, (size_t)model_length, text, (size_t)text_length, work,
                                        TWOLSKEN_WORK_AREA);
-    uint32_t refusal = twolsken_verdict_refusal(answer);
-    if (refusal != 0) {
-        printf("refused %" PRIu32 "\n", refusal);
+    if (refused(twolsken_verdict_refusal(answer))) {
         return 1;
     }
     puts(answer == TWOLSKEN_HOLDS ? "holds" : "fails");
 
+    /* the tuple needs a state for each letter: read sentence tells how many there are */
     uint64_t head[2];
     uint8_t exists[TWOLSKEN_LETTERS];
     uint32_t codes[TWOLSKEN_NODES][3];
-    refusal = twolsken_read_sentence(text, (size_t)text_length, head, exists, codes);
-    if (refusal != 0) {
-        printf("refused %" PRIu32 "\n", refusal);
+    if (refused(twolsken_read_sentence(text, (size_t)text_length, head, exists, codes))) {
         return 1;
     }
     const uint8_t tuple[TWOLSKEN_LETTERS] = {0, 0, 0, 0};
     uint64_t value[2];
-    refusal = twolsken_numerator(model, (size_t)model_length, text, (size_t)text_length, tuple,
-                                 (size_t)head[0], 0, work, TWOLSKEN_WORK_AREA, value);
+    uint32_t refusal =
+        twolsken_numerator(model, (size_t)model_length, text, (size_t)text_length, tuple, (size_t)head[0],
+                           0, work, TWOLSKEN_WORK_AREA, value);
     if (refusal == TWOLSKEN_REFUSAL_TUPLE_OR_PATH) {
         puts("the sentence has no path formula");
-    } else if (refusal == 0) {
-        printf("%" PRIu64 "/%" PRIu64 "\n", value[0], value[1]);
+        return 0;
     }
+    if (refused(refusal)) {
+        return 1;
+    }
+    printf("%" PRIu64 "/%" PRIu64 "\n", value[0], value[1]);
     return 0;
 }
