@@ -37,7 +37,7 @@
 //! # Ok::<(), Box<dyn std::error::Error>>(())
 //! ```
 //!
-//! The calls allocate nothing that lasts, keep nothing, and may run on several threads at once. Each takes at
+//! The library allocates nothing and keeps nothing, and calls may run on several threads at once. Each takes at
 //! most 256 KiB of stack.
 
 #![warn(missing_docs)]
