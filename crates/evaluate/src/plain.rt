@@ -12,7 +12,7 @@ use layers::until::scaled;
 use layers::until::until;
 
 // The comparison of a node, as the fractions have it.
-pub fn relation_of(r: sentence::Relation) -> fractions::Relation
+pub(crate) fn relation_of(r: sentence::Relation) -> fractions::Relation
     ensures { λ x. ⌜ relationOf x ≡ unspelled r ⌝ }
 {
     match r {
@@ -25,7 +25,7 @@ pub fn relation_of(r: sentence::Relation) -> fractions::Relation
 }
 
 // The label of a variable's state, at all tuples.
-pub fn label(g: Setting, masks: &[u16; 32], l: u8, variable: u8, work: &mut [u64])
+pub(crate) fn label(g: Setting, masks: &[u16; 32], l: u8, variable: u8, work: &mut [u64])
     requires { ⌜ LabelReady g (now masks) l variable (now work) ⌝ }
     ensures { λ r. ⌜ LabelDone g (now (masks .entry)) l variable (now (work .exit)) ⌝ }
 {
@@ -34,7 +34,7 @@ pub fn label(g: Setting, masks: &[u16; 32], l: u8, variable: u8, work: &mut [u64
 }
 
 // The numerator of until with a window at all tuples, where the first two layers hold the truth of its formulas.
-pub fn until_within(g: Setting, rows: &[[u16; 32]; 32], from: u32, to: u32, work: &mut [u64])
+pub(crate) fn until_within(g: Setting, rows: &[[u16; 32]; 32], from: u32, to: u32, work: &mut [u64])
     requires { ⌜ UntilFits (now rows) (g .states) (g .variables) (g .tuples) (g .d) from to (now work) ⌝ }
     ensures { λ r. ⌜ UntilTaken (now (rows .entry)) (g .states) (g .variables) (g .tuples) (g .d) from to (now (work .entry)) (now (work .exit)) ⌝ }
 {
@@ -44,7 +44,7 @@ pub fn until_within(g: Setting, rows: &[[u16; 32]; 32], from: u32, to: u32, work
 }
 
 // The first two layers, exchanged.
-pub fn swap(tuples: usize, work: &mut [u64])
+pub(crate) fn swap(tuples: usize, work: &mut [u64])
     requires { ⌜ tuples + tuples ≤ length (now work) ⌝ }
     ensures { λ r. ⌜ Swapped tuples (now (work .entry)) (now (work .exit)) ⌝ }
 {

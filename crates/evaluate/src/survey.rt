@@ -10,7 +10,7 @@ use sentence::Wants;
 use sentence::wants_of;
 
 // Where a node's own nodes end, and the layers that its evaluation needs.
-pub struct Extent {
+pub(crate) struct Extent {
     pub next: usize,
     pub layers: usize,
 }
@@ -54,7 +54,7 @@ fn operands(nodes: [Slot; 64], at: usize) -> Extent
 }
 
 // The survey of the node at a place.
-pub fn survey(nodes: [Slot; 64], at: usize) -> Extent
+pub(crate) fn survey(nodes: [Slot; 64], at: usize) -> Extent
     requires { ⌜ at ≤ 64 ⌝ }
     ensures { λ r. ⌜ Surveyed nodes at r ⌝ }
 {

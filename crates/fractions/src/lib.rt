@@ -1,7 +1,7 @@
 // Fractions: expression numerators as i64, with their sign, over the denominators that the size rule bounds; and layers
 // of their codes.
 pub mod codes;
-pub mod signs;
+mod signs;
 
 ghost use mathlib.Core.Path.{_≡_};
 ghost use Rattle.meaning.specs.Meaning.{related, compared};
@@ -24,13 +24,13 @@ pub enum Relation {
 }
 
 // What is made of two numerators: that of an operation, or the truth of a comparison.
-pub enum Making {
+enum Making {
     Operated(Operation),
     Compared(Relation),
 }
 
 // The numerator of a sum, a difference or a product: of two numerators over their denominators.
-pub fn operate(op: Operation, a: i64, d1: u64, b: i64, d2: u64) -> i64
+pub(crate) fn operate(op: Operation, a: i64, d1: u64, b: i64, d2: u64) -> i64
     requires { ⌜ OperandsFit op a d1 b d2 ⌝ }
     ensures { λ r. ⌜ r ≡ operated op (over a d1) (over b d2) .top ⌝ }
 {
@@ -42,7 +42,7 @@ pub fn operate(op: Operation, a: i64, d1: u64, b: i64, d2: u64) -> i64
 }
 
 // Whether two whole numbers are so related.
-pub fn relate(relation: Relation, a: i64, b: i64) -> bool
+pub(crate) fn relate(relation: Relation, a: i64, b: i64) -> bool
     ensures { λ r. ⌜ r ≡ related (relationOf relation) a b ⌝ }
 {
     match relation {
@@ -55,7 +55,7 @@ pub fn relate(relation: Relation, a: i64, b: i64) -> bool
 }
 
 // Whether two fractions are so related, by their cross products.
-pub fn compare(relation: Relation, a: i64, d1: u64, b: i64, d2: u64) -> bool
+pub(crate) fn compare(relation: Relation, a: i64, d1: u64, b: i64, d2: u64) -> bool
     requires { ⌜ CrossesFit a d1 b d2 ⌝ }
     ensures { λ r. ⌜ r ≡ compared (relationOf relation) (over a d1) (over b d2) ⌝ }
 {

@@ -13,7 +13,7 @@ fn signed(x: u64) -> i64
 }
 
 // The sum of two numerators.
-pub fn plus(a: i64, b: i64) -> i64
+pub(crate) fn plus(a: i64, b: i64) -> i64
     requires { ⌜ natAbs a + natAbs b ≤ 2 ^ 62 ⌝ }
     ensures { λ r. ⌜ r ≡ a +ℤ b ⌝ }
 {
@@ -21,7 +21,7 @@ pub fn plus(a: i64, b: i64) -> i64
 }
 
 // Their difference.
-pub fn minus(a: i64, b: i64) -> i64
+pub(crate) fn minus(a: i64, b: i64) -> i64
     requires { ⌜ natAbs a + natAbs b ≤ 2 ^ 62 ⌝ }
     ensures { λ r. ⌜ r ≡ a -ℤ b ⌝ }
 {
@@ -29,7 +29,7 @@ pub fn minus(a: i64, b: i64) -> i64
 }
 
 // Their product.
-pub fn times(a: i64, b: i64) -> i64
+pub(crate) fn times(a: i64, b: i64) -> i64
     requires { ⌜ natAbs a * natAbs b ≤ 2 ^ 62 ⌝ }
     ensures { λ r. ⌜ r ≡ a *ℤ b ⌝ }
 {
@@ -37,7 +37,7 @@ pub fn times(a: i64, b: i64) -> i64
 }
 
 // A cross product: a numerator times the other's denominator.
-pub fn cross(a: i64, d: u64) -> i64
+pub(crate) fn cross(a: i64, d: u64) -> i64
     requires { ⌜ CrossFits a d ⌝ }
     ensures { λ r. ⌜ r ≡ a *ℤ pos d ⌝ }
 {
@@ -45,7 +45,7 @@ pub fn cross(a: i64, d: u64) -> i64
 }
 
 // The code of a numerator.
-pub fn code(x: i64) -> u64
+pub(crate) fn code(x: i64) -> u64
     requires { ⌜ Small x ⌝ }
     ensures { λ r. ⌜ r ≡ coded x ⌝ }
 {
@@ -57,7 +57,7 @@ pub fn code(x: i64) -> u64
 }
 
 // The numerator of a code.
-pub fn decode(x: u64) -> i64
+pub(crate) fn decode(x: u64) -> i64
     ensures { λ r. ⌜ r ≡ decoded x ⌝ }
 {
     if x < 9223372036854775808 {

@@ -64,7 +64,7 @@ fn dot_named(
 }
 
 // The sum over the states: by the places that name the weights, or where there are none (`most` is 0) by all states.
-pub fn row_sum(
+pub(crate) fn row_sum(
     row: &[u16; 32],
     places: &[u8; 8],
     column: &[u64; 32],
@@ -147,7 +147,7 @@ fn larger(a: usize, b: usize) -> usize
 }
 
 // Names the weights of all rows that are not 0, and says how many a row has at most; 0 where a row has too many.
-pub fn name_rows(rows: &[[u16; 32]; 32], states: usize, places: &mut [[u8; 8]; 32]) -> usize
+pub(crate) fn name_rows(rows: &[[u16; 32]; 32], states: usize, places: &mut [[u8; 8]; 32]) -> usize
     requires { ⌜ (states ≤ 32) × (length (now places) ≡ 32) ⌝ }
     ensures { λ r. ⌜ RowsNamed (now (rows .entry)) states r (now (places .exit)) ⌝ }
 {

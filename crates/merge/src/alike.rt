@@ -35,7 +35,7 @@ fn pair_alike(masks: &[u16; 32], totals: [[u16; 32]; 32], count: usize, s: usize
 }
 
 // Whether every state agrees with the first state of its group.
-pub fn states_alike(
+pub(crate) fn states_alike(
     masks: &[u16; 32],
     totals: [[u16; 32]; 32],
     grouping: &[u8],

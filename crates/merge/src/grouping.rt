@@ -8,7 +8,7 @@ ghost use Rattle.merge.specs.Working.{First};
 use block::byte_at;
 
 // The group of a state.
-pub fn group_of(grouping: &[u8], s: usize) -> usize
+pub(crate) fn group_of(grouping: &[u8], s: usize) -> usize
     ensures { λ r. ⌜ (r ≡ groupOf (now (grouping .entry)) s) × (r < 256) ⌝ }
 {
     byte_at(grouping, s) as usize
@@ -23,7 +23,7 @@ fn counting_in(count: usize, g: usize) -> usize
 }
 
 // M: one more than the largest number of the grouping.
-pub fn group_count(grouping: &[u8]) -> usize
+pub(crate) fn group_count(grouping: &[u8]) -> usize
     ensures { λ r. ⌜ (r ≡ groupCount (now (grouping .entry))) × (r ≤ 256) ⌝ }
 {
     let mut count: usize = 0;
@@ -36,7 +36,7 @@ pub fn group_count(grouping: &[u8]) -> usize
 }
 
 // The first state of a group, and the grouping's length where no state has it.
-pub fn first_of(grouping: &[u8], g: usize) -> usize
+pub(crate) fn first_of(grouping: &[u8], g: usize) -> usize
     ensures { λ r. ⌜ First (groupOf (now (grouping .entry))) g (length (now (grouping .entry))) r ⌝ }
 {
     let mut s: usize = 0;
@@ -71,7 +71,7 @@ fn all_used(grouping: &[u8], count: usize) -> bool
 }
 
 // Whether the grouping's length is N and its numbers are exactly 0..M−1, each used.
-pub fn grouping_right(grouping: &[u8], n: usize) -> bool
+pub(crate) fn grouping_right(grouping: &[u8], n: usize) -> bool
     ensures { λ r. ⌜ r ≡ groupingRight n (now (grouping .entry)) ⌝ }
 {
     let whole = grouping.len() == n;

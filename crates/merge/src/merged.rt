@@ -12,7 +12,7 @@ use model::Model;
 use model::matrix;
 
 // The model of the groups, from the masks and the totals of the states: from the count of groups on masks and rows are zero.
-pub fn model_of_groups(
+pub(crate) fn model_of_groups(
     a: u8,
     d: u32,
     masks: &[u16; 32],

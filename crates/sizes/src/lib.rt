@@ -15,25 +15,25 @@ use sentence::wants_of;
 
 // What is found of a tree: where its nodes end, an expression's d and m (a path's denominator as both), capped, and whether
 // some number of the size rule is above 2^62.
-pub struct Measure {
-    pub next: usize,
-    pub d: u64,
-    pub m: u64,
-    pub over: bool,
+struct Measure {
+    next: usize,
+    d: u64,
+    m: u64,
+    over: bool,
 }
 
 // What is found of two trees, one after another.
-pub struct MeasureTwo {
-    pub next: usize,
-    pub d1: u64,
-    pub m1: u64,
-    pub d2: u64,
-    pub m2: u64,
-    pub over: bool,
+struct MeasureTwo {
+    next: usize,
+    d1: u64,
+    m1: u64,
+    d2: u64,
+    m2: u64,
+    over: bool,
 }
 
 // A product, capped.
-pub fn times(a: u64, b: u64) -> u64
+fn times(a: u64, b: u64) -> u64
     ensures { λ r. ⌜ r ≡ capped (a * b) ⌝ }
 {
     if b == 0 {
@@ -58,7 +58,7 @@ fn plus(a: u64, b: u64) -> u64
 }
 
 // A power, capped.
-pub fn power(base: u64, exponent: u64) -> u64
+fn power(base: u64, exponent: u64) -> u64
     ensures { λ r. ⌜ r ≡ capped (base ^ exponent) ⌝ }
 {
     let mut r: u64 = 1;
@@ -227,7 +227,7 @@ fn of_two(node: Node, t: MeasureTwo, base: u64, n: u64) -> Measure
 }
 
 // What is found of the tree at a place, with D and the number of variables: by what its node wants.
-pub fn size_at(nodes: [Slot; 64], at: usize, base: u64, n: u64) -> Measure
+fn size_at(nodes: [Slot; 64], at: usize, base: u64, n: u64) -> Measure
     requires { ⌜ (at ≤ 64) × (n ≤ 4) ⌝ }
     ensures { λ r. ⌜ Sizes nodes at base n r ⌝ }
 {
