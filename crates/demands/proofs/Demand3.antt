@@ -36,8 +36,8 @@ use Rattle.numerator.specs.Calls.{NumeratorRow, question, long, member, missing
 use Rattle.numerator.proofs.Single.{reply-told as counted-told}
 use Rattle.paths.proofs.Members.{members-inside}
 use Rattle.merge.specs.Groups.{groupOf}
-use Rattle.merge.specs.Rows.{mergeRows, mergeNumber, mergedFile}
-use Rattle.merge.specs.Kept.{Kept}
+use Rattle.merge.specs.Contract.{mergeRows, mergeNumber, mergedFile}
+use Rattle.merge.specs.Keeping.{MergingKeeps}
 use Rattle.merge.proofs.Exact.{refused-13, stable-alike}
 use Rattle.merge.proofs.Grouped.{grouping-right, count-is}
 use Rattle.merge.proofs.Numbers.{merge-rows, file-accepted}
@@ -49,7 +49,7 @@ use Rattle.demands.proofs.Demand1.{demand-1}
 -- ---- what merging keeps
 
 module _ (file grouping merged : List ℕ) (accepted : fileNumber merged ≡ 0)
-    (kept : Kept (fieldsOf file) (groupOf grouping) (fieldsOf merged)) where
+    (kept : MergingKeeps (fieldsOf file) (groupOf grouping) (fieldsOf merged)) where
   -- a question to which no row applies on the full model is one on the merged model
   question-free : {text : List ℕ} {room room′ : ℕ} → 8192 ≤ room′ → ((n : ℕ) → QuestionRow file text room n → ⊥) →
       (n : ℕ) → QuestionRow merged text room′ n → ⊥

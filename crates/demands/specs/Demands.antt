@@ -28,7 +28,7 @@ use Rattle.verdict.specs.Calls.{VerdictAnswer, replyOf as replyJudged}
 use Rattle.numerator.specs.declared.Answer as Counted
 use Rattle.numerator.specs.Calls.{NumeratorRow, NumeratorAnswer, numbered, replyOf as replyCounted}
 use Rattle.merge.specs.Groups.{groupOf, mergedModel}
-use Rattle.merge.specs.Rows.{mergeRows, mergedFile}
+use Rattle.merge.specs.Contract.{mergeRows, mergedFile}
 
 -- ---- Demand 1
 

@@ -11,7 +11,7 @@ use Rattle.model.specs.declared.Model.{Model}
 use Rattle.model.specs.declared.ModelRead.{ModelRead}
 use Rattle.model.specs.Layout.{fileOf}
 use Rattle.model.specs.Rows.{Reads, recordRows}
-use Rattle.merge.specs.Rows.{mergeRows, mergedFile}
+use Rattle.merge.specs.Contract.{mergeRows, mergedFile}
 
 -- what an exported call ensures that returns the code of an answer: what the library's call ensures of that answer and what it leaves
 pub record Coded {A : Type 0} (code : A → ℕ) (Ensures : A → List ℕ → Type 0) (after : List ℕ) (r : ℕ) : Type 0 where

@@ -19,7 +19,7 @@ use Rattle.chain.specs.Of.{chainOf}
 use Rattle.chain.proofs.Bits.{bits-same}
 use Rattle.chain.proofs.Accepted.{fields-right}
 use Rattle.merge.specs.Groups.{groupOf, groupCount, groupingRight, groupsAlike}
-use Rattle.merge.specs.Rows.{mergeNumber}
+use Rattle.merge.specs.Contract.{mergeNumber}
 use Rattle.merge.proofs.Grouped.{as-long, grouping-is, grouping-right, count-is}
 use Rattle.merge.proofs.Numbers.{file-accepted, groups-12, groups-13}
 use Rattle.merge.proofs.Shape.{mask-two}

@@ -15,7 +15,7 @@ use Rattle.model.proofs.Roundtrip.{fields-written, file-written}
 use Rattle.meaning.specs.Lists.{below, thereIs, total, Each, nothing, further}
 use Rattle.meaning.specs.Merging.{weightInto, member}
 use Rattle.merge.specs.Groups.{overAll, groupingRight, groupsAlike, mergedModel}
-use Rattle.merge.specs.Rows.{groupRows, mergeNumber, mergedFile}
+use Rattle.merge.specs.Contract.{groupRows, mergeNumber, mergedFile}
 use Rattle.merge.specs.Examples.{M2, M2merged, merges, Met, claims}
 use Rattle.merge.proofs.Numbers.{file-accepted, groups-12, groups-13, enough-room}
 use Rattle.merge.proofs.Shape.{shaped}

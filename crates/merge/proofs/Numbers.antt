@@ -15,7 +15,7 @@ use Rattle.model.proofs.Answer.{file-rows, record-0}
 use Rattle.model.proofs.Rightness.{states-few}
 use Rattle.model.proofs.Written.{length-blocks}
 use Rattle.merge.specs.Groups.{groupingRight, groupsAlike, mergedModel}
-use Rattle.merge.specs.Rows.{groupRows, mergeRows, mergeNumber}
+use Rattle.merge.specs.Contract.{groupRows, mergeRows, mergeNumber}
 use Rattle.merge.proofs.Merging.{fields-merged, rows-merged}
 
 -- ---- the rows stand in the order of their numbers

@@ -25,7 +25,7 @@ use Rattle.meaning.proofs.Tests.{below-member}
 use Rattle.chain.specs.Of.{chainOf}
 use Rattle.chain.proofs.Accepted.{fields-right}
 use Rattle.merge.specs.Groups.{groupOf, groupCount, groupingRight, groupsAlike, memberOf, mergedModel}
-use Rattle.merge.specs.Rows.{mergeNumber, mergedFile}
+use Rattle.merge.specs.Contract.{mergeNumber, mergedFile}
 use Rattle.merge.proofs.Grouped.{count-is, grouping-right}
 use Rattle.merge.proofs.Members.{member-first}
 use Rattle.merge.proofs.Numbers.{file-accepted}

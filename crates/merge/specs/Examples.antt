@@ -7,7 +7,7 @@ use lib.ListN.{getD}
 use Rattle.counting.specs.Below.{table}
 use Rattle.model.specs.declared.Model.{Model}
 use Rattle.model.specs.Layout.{modelOf, fileOf}
-use Rattle.merge.specs.Rows.{mergeNumber, mergedFile}
+use Rattle.merge.specs.Contract.{mergeNumber, mergedFile}
 
 -- the model with these masks and rows
 unfoldable pub modelWith : (n a d : ℕ) → List ℕ → List (List ℕ) → Model

@@ -1,4 +1,6 @@
--- What the parts of merge's code work with: names for their contracts. Nothing here has to be believed.
+-- Working: what the functions of this crate promise one another. Nothing here has to be believed.
+--
+-- Names for the contracts of merge's parts.
 use Prim.Native.Nat.{ℕ, _<_, _≤_}
 use mathlib.Core.Bool.{Bool, cond, _&&_}
 use mathlib.Core.List.{List, []}
@@ -9,7 +11,7 @@ use Rattle.counting.specs.Below.{every, table}
 use Rattle.merge.specs.Groups.{memberOf}
 
 -- r is the first number below n at which f is g, and n where there is none
-pub record First (f : ℕ → ℕ) (g n r : ℕ) : Type 0 where
+pub record FirstMember (f : ℕ → ℕ) (g n r : ℕ) : Type 0 where
   pub within : r ≤ n
   pub before : (k : ℕ) → k < r → f k ≡ g → ⊥
   pub found : r < n → f r ≡ g

@@ -43,7 +43,8 @@ pub(crate) fn states_alike(
     n: usize,
 ) -> bool
     requires { ⌜ (count ≤ 32) × (n ≤ 32) × (length (now grouping) ≡ n) ⌝ }
-    ensures { λ r. ⌜ r ≡ every n (λ s. pairAlike (now (masks .entry)) totals count s (memberOf n (now (grouping .entry)) (groupOf (now (grouping .entry)) s))) ⌝ }
+    ensures { λ r. ⌜ r ≡ every n (λ s. pairAlike (now (masks .entry)) totals count s
+        (memberOf n (now (grouping .entry)) (groupOf (now (grouping .entry)) s))) ⌝ }
 {
     let mut s: usize = 0;
     while s < n {

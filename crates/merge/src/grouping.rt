@@ -4,7 +4,7 @@ ghost use Prim.Native.Nat.{suc, max, _<_, _≤_};
 ghost use lib.ListN.{length};
 ghost use Rattle.counting.specs.Below.{every};
 ghost use Rattle.merge.specs.Groups.{groupOf, groupCount, isUsed, groupingRight};
-ghost use Rattle.merge.specs.Working.{First};
+ghost use Rattle.merge.specs.Working.{FirstMember};
 use block::byte_at;
 
 // The group of a state.
@@ -37,7 +37,7 @@ pub(crate) fn group_count(grouping: &[u8]) -> usize
 
 // The first state of a group, and the grouping's length where no state has it.
 pub(crate) fn first_of(grouping: &[u8], g: usize) -> usize
-    ensures { λ r. ⌜ First (groupOf (now (grouping .entry))) g (length (now (grouping .entry))) r ⌝ }
+    ensures { λ r. ⌜ FirstMember (groupOf (now (grouping .entry))) g (length (now (grouping .entry))) r ⌝ }
 {
     let mut s: usize = 0;
     while s < grouping.len() {

@@ -21,7 +21,8 @@ pub(crate) fn model_of_groups(
     count: usize,
 ) -> Model
     requires { ⌜ (length (now grouping) ≤ 32) × (count ≤ 32) × (every count (isUsed (now grouping)) ≡ true) ⌝ }
-    ensures { λ r. ⌜ r ≡ modelOf count a d (masksOfGroups (now (masks .entry)) (now (grouping .entry)) count) (rowsOfGroups totals (now (grouping .entry)) count) ⌝ }
+    ensures { λ r. ⌜ r ≡ modelOf count a d (masksOfGroups (now (masks .entry)) (now (grouping .entry)) count)
+        (rowsOfGroups totals (now (grouping .entry)) count) ⌝ }
 {
     let mut merged = [0u16; 32];
     let mut rows = [[0u16; 32]; 32];

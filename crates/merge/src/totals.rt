@@ -47,7 +47,8 @@ fn totals_row(row: &[u16; 32], grouping: &[u8], n: usize) -> [u16; 32]
 // The total weight of each state into each group.
 pub(crate) fn totals_of(rows: [[u16; 32]; 32], grouping: &[u8], n: usize) -> [[u16; 32]; 32]
     requires { ⌜ (n ≤ 32) × ((s : ℕ) → s < 32 → sum n (λ t. getD (getD rows s []) t 0) ≤ 65535) ⌝ }
-    ensures { λ r. ⌜ r ≡ table 32 (λ s. table 32 (λ h. sum n (λ t. cond (eqb (groupOf (now (grouping .entry)) t) h) (getD (getD rows s []) t 0) 0))) ⌝ }
+    ensures { λ r. ⌜ r ≡ table 32 (λ s. table 32 (λ h. sum n (λ t. cond (eqb (groupOf (now (grouping .entry)) t) h)
+        (getD (getD rows s []) t 0) 0))) ⌝ }
 {
     let mut totals = [[0u16; 32]; 32];
     let mut s: usize = 0;

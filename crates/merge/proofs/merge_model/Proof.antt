@@ -32,7 +32,8 @@ grouped : (c : tie.Else1) →
 grouped c = sym (c .before .grouping-right .ensures) ∙ not-false _ (c .if1 .left)
 
 -- the count and the totals
-counted : (c : tie.After-group-count) → c .group-count .result ≡ groupCount (c .before .before .before .before .before .before .args .grouping .now)
+counted : (c : tie.After-group-count) →
+    c .group-count .result ≡ groupCount (c .before .before .before .before .before .before .args .grouping .now)
 counted c = c .group-count .ensures .0
 
 totalled : (c : tie.After-totals-of) →

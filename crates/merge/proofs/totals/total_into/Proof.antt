@@ -13,7 +13,8 @@ use Rattle.merge.proofs.totals.total_into.Statement.{statement}
 use Rattle.merge.proofs.totals.total_into.Tie as tie
 
 abbrev Inv-loop : tie.InvT-loop
-Inv-loop row grouping n h total₀ t₀ total t = (t ≤ n) × (total ≡ sum t (λ k. cond (eqb (groupOf grouping k) h) (getD row k 0) 0)) × (total ≤ 65535 * t)
+Inv-loop row grouping n h total₀ t₀ total t =
+    (t ≤ n) × (total ≡ sum t (λ k. cond (eqb (groupOf grouping k) h) (getD row k 0) 0)) × (total ≤ 65535 * t)
 
 abbrev μ-loop : tie.MeasureT-loop
 μ-loop row grouping n h total₀ t₀ total t = n - t

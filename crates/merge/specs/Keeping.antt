@@ -1,3 +1,5 @@
+-- Working: what the functions of this crate promise one another. Nothing here has to be believed.
+--
 -- What merging keeps, said of the two models and document 01's definitions of them: a step to demand 3 of document 00, which the
 -- crate `demands` says of the answers.
 use Prim.Native.Nat.{ℕ, _≤_}
@@ -12,7 +14,7 @@ use Rattle.meaning.specs.Size.{exceeds}
 use Rattle.chain.specs.Of.{chainOf}
 
 -- a model and the model that it is merged to, `group` being the group of each state
-pub record Kept (full : Model) (group : ℕ → ℕ) (merged : Model) : Type 0 where
+pub record MergingKeeps (full : Model) (group : ℕ → ℕ) (merged : Model) : Type 0 where
   -- Every sentence not refused on the full model is not refused on the merged model. Row 9 looks at A only:
   pub labels : merged .a ≡ full .a
   -- row 10 at D, n and the body:
