@@ -8,7 +8,7 @@ use lib.ListN.{length, take, drop}
 use lib.ListN.{length-drop}
 use Rattle.sentence.specs.declared.Slot.{Slot}
 use Rattle.meaning.specs.Chain.{Tuple}
-use Rattle.layers.specs.Layers.{Layer}
+use Rattle.layers.specs.Layers.{Layer, Swapped}
 use Rattle.layers.proofs.Tails.{Back, lent-tail}
 use Rattle.trees.specs.Need.{paired, need, needIn}
 use Rattle.trees.specs.Standing.{FormulaAt, ExpressionAt}
@@ -17,13 +17,13 @@ use Rattle.evaluate.specs.declared.Setting.{Setting}
 use Rattle.evaluate.specs.declared.Valued.{Valued}
 use Rattle.evaluate.specs.declared.survey.Extent.{Extent}
 use Rattle.evaluate.specs.Surveys.{Surveyed}
-use Rattle.evaluate.specs.Evaluation.{Swapped, FormulaReady, FormulasReady, ExpressionReady}
+use Rattle.evaluate.specs.Evaluation.{FormulaReady, FormulasReady, ExpressionReady}
 use Rattle.evaluate.specs.Evaluation.{ExpressionsReady}
 use Rattle.evaluate.specs.Evaluation.{FormulaDone, FormulasDone, ExpressionDone, ExpressionsDone}
 use Rattle.evaluate.proofs.Needing.{need-some, needIn-some, paired-first, paired-second, paired-smaller}
 use Rattle.evaluate.proofs.Needing.{paired-smaller-first, paired-two, room-of, room-past}
 use Rattle.evaluate.proofs.Fixing.{tuple-count}
-use Rattle.evaluate.proofs.Swapping.{front-swapped, next-swapped}
+use Rattle.layers.proofs.Swapping.{front-swapped, next-swapped}
 
 -- ---- the layers
 

@@ -1,10 +1,13 @@
+-- Working: what the functions of this crate promise one another. Nothing here has to be believed.
+--
 -- What surveying the nodes of a tree finds: its end, and how many layers its evaluation needs.
 use Prim.Native.Nat.{ℕ, _+_, _≤_, max}
 use mathlib.Core.List.{List}
 use mathlib.Core.Path.{_≡_}
 use Rattle.sentence.specs.declared.Slot.{Slot}
 use Rattle.sentence.specs.declared.Node.{Node}
-use Rattle.sentence.specs.declared.Node.the-variants.{True, Label, Not, And, Compare, Probability, Constant, Sum, Difference, Product, Next, Until}
+use Rattle.sentence.specs.declared.Node.the-variants.{True, Label, Not, And, Compare, Probability, Constant}
+use Rattle.sentence.specs.declared.Node.the-variants.{Sum, Difference, Product, Next, Until}
 use Rattle.meaning.specs.Tree.{Formula, Expression, PathFormula}
 use Rattle.trees.specs.Need.{paired, need, needIn, needFrom}
 use Rattle.trees.specs.Standing.{FormulaAt, ExpressionAt, PathAt}

@@ -6,9 +6,7 @@ ghost use Rattle.evaluate.specs.Evaluation.{FormulaDone, ExpressionDone,
 use crate::Setting;
 use crate::Valued;
 use crate::ValuedTwo;
-use crate::plain::label;
 use crate::plain::relation_of;
-use crate::plain::swap;
 use crate::plain::until_within;
 use crate::survey::survey;
 use fractions::Operation;
@@ -17,11 +15,13 @@ use fractions::codes::compare;
 use fractions::codes::constant;
 use layers::plain::always;
 use layers::plain::both;
+use layers::plain::label;
 use layers::plain::negated;
-use layers::step::joint_step;
-use layers::until::scaled;
+use layers::plain::swap;
+use layers::power::scaled;
 use sentence::Node;
 use sentence::Slot;
+use steps::joint_step;
 
 // A state formula: its truth at all tuples. Of another node nothing is said.
 pub fn state_formula(
@@ -43,7 +43,7 @@ pub fn state_formula(
             at + 1
         }
         Node::Label { label: l, variable } => {
-            label(g, masks, l, variable, work);
+            label(masks, l, variable, g.states, g.variables, g.tuples, work);
             at + 1
         }
         Node::Not => {

@@ -1,3 +1,5 @@
+-- Working: what the functions of this crate promise one another. Nothing here has to be believed.
+--
 -- The layers of expressions: at each tuple the code of the value's numerator.
 use Prim.Native.Nat.{ℕ}
 use Rattle.meaning.specs.Chain.{Chain, Tuple}

@@ -1,12 +1,16 @@
 // Signed numerators: their coding in the work area, and the operations within the ends at 2^62.
 ghost use mathlib.Core.Path.{_≡_};
-ghost use Prim.Native.Nat.{_+_, _*_, _^_, _≤_, _<_};
+ghost use Prim.Native.Nat.{_+_, _*_, _≤_, _<_};
 ghost use lib.IntN.{pos, natAbs, _+ℤ_, _-ℤ_, _*ℤ_};
-ghost use Rattle.fractions.specs.Codes.{coded, decoded, Small, CrossFits};
+ghost use Rattle.meaning.specs.Size.{limit};
+ghost use Rattle.fractions.specs.Codes.{upperHalf, coded, decoded, Small, CrossFits};
+
+// Codes from 2^63 on stand for negative numerators.
+const UPPER: u64 = 9223372036854775808;
 
 // A denominator as a signed number.
 fn signed(x: u64) -> i64
-    requires { ⌜ x < 2 ^ 63 ⌝ }
+    requires { ⌜ x < upperHalf ⌝ }
     ensures { λ r. ⌜ r ≡ pos x ⌝ }
 {
     x as i64
@@ -14,23 +18,23 @@ fn signed(x: u64) -> i64
 
 // The sum of two numerators.
 pub(crate) fn plus(a: i64, b: i64) -> i64
-    requires { ⌜ natAbs a + natAbs b ≤ 2 ^ 62 ⌝ }
+    requires { ⌜ natAbs a + natAbs b ≤ limit ⌝ }
     ensures { λ r. ⌜ r ≡ a +ℤ b ⌝ }
 {
     a + b
 }
 
-// Their difference.
+// The difference of two numerators.
 pub(crate) fn minus(a: i64, b: i64) -> i64
-    requires { ⌜ natAbs a + natAbs b ≤ 2 ^ 62 ⌝ }
+    requires { ⌜ natAbs a + natAbs b ≤ limit ⌝ }
     ensures { λ r. ⌜ r ≡ a -ℤ b ⌝ }
 {
     a - b
 }
 
-// Their product.
+// The product of two numerators.
 pub(crate) fn times(a: i64, b: i64) -> i64
-    requires { ⌜ natAbs a * natAbs b ≤ 2 ^ 62 ⌝ }
+    requires { ⌜ natAbs a * natAbs b ≤ limit ⌝ }
     ensures { λ r. ⌜ r ≡ a *ℤ b ⌝ }
 {
     a * b
@@ -50,7 +54,7 @@ pub(crate) fn code(x: i64) -> u64
     ensures { λ r. ⌜ r ≡ coded x ⌝ }
 {
     if x < 0 {
-        9223372036854775808 + ((0 - x) as u64)
+        UPPER + ((0 - x) as u64)
     } else {
         x as u64
     }
@@ -60,9 +64,9 @@ pub(crate) fn code(x: i64) -> u64
 pub(crate) fn decode(x: u64) -> i64
     ensures { λ r. ⌜ r ≡ decoded x ⌝ }
 {
-    if x < 9223372036854775808 {
+    if x < UPPER {
         x as i64
     } else {
-        0 - ((x - 9223372036854775808) as i64)
+        0 - ((x - UPPER) as i64)
     }
 }

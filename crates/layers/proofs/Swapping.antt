@@ -1,5 +1,5 @@
 -- Two layers change places, number by number.
-use Prim.Native.Nat.{ℕ, _+_, _^_, _≤_, _<_}
+use Prim.Native.Nat.{ℕ, _+_, _-_, _^_, _≤_, _<_}
 use mathlib.Core.List.{List}
 use mathlib.Core.Path.{_≡_, refl, sym, subst, _∙_}
 use native.Mathlib.Omega.{arith}
@@ -7,8 +7,7 @@ use native.Mathlib.Decide.{decLt}
 use lib.ListN.{length, getD, set, drop, length-set}
 use lib.Seq.{getD-set-same, getD-set-other, getD-drop}
 use Rattle.meaning.specs.Chain.{Tuple}
-use Rattle.layers.specs.Layers.{Layer}
-use Rattle.evaluate.specs.Evaluation.{Swapped}
+use Rattle.layers.specs.Layers.{Layer, Swapped}
 
 -- of T numbers of each layer the first i have changed places
 pub record Swapping (T : ℕ) (before : List ℕ) (i : ℕ) (after : List ℕ) : Type 0 where
@@ -77,12 +76,14 @@ module _ {T : ℕ} {before after : List ℕ} {i : ℕ} (h : Swapping T before i 
           subst (λ (j : ℕ). getD now (T + j) 0 ≡ getD before j 0) e there
 
 -- after the last turn the layers have changed places
-pub swapping-all : {T i : ℕ} {before after : List ℕ} → Swapping T before i after → T ≤ i → Swapped T before after
-swapping-all h done = record {
+pub swapping-all : {T i : ℕ} {before after : List ℕ} → Swapping T before i after → i ≤ T → T ≤ i → Swapped T before after
+swapping-all {T} {before = before} {after} h few done = record {
   long = h .long;
   first = λ k l. h .first k (omega arith);
-  second = λ k l. h .second k
-      (omega arith);
+  second = λ k l. h .second k (omega arith);
+  past = λ k l.
+      let e : T + (k - T) ≡ k = omega arith in
+      rw e at (h .beyond (k - T) (omega arith));
 }
 
 -- what the layers hold has changed places with them

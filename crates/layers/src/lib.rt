@@ -1,6 +1,4 @@
 // Layers: the numbers of all T tuples at once, in the work area that a caller lends. The front T numbers are the first
 // layer, the next T the second, and so on.
 pub mod plain;
-mod sparse;
-pub mod step;
-pub mod until;
+pub mod power;

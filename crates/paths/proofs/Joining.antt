@@ -37,7 +37,8 @@ module _
     paths-held : PathsAt nodes 0 (pathsOf f) count
     paths-held =
         subst (λ (l : List Slot). PathsAt l 0 (pathsOf f) count) (sym held)
-        (subst (λ (q : ℕ). PathsAt (recordOf ps (formulaNodes f) .nodes) 0 (pathsOf f) q) (sym counted) (record-paths ps (formulaNodes f) f few refl))
+        (subst (λ (q : ℕ). PathsAt (recordOf ps (formulaNodes f) .nodes) 0 (pathsOf f) q) (sym counted)
+        (record-paths ps (formulaNodes f) f few refl))
 
     -- a place below the count: the path formula with the number stands there
     pub path-stands : {path r : ℕ} → PathPlace nodes count path r → r < count → (d : PathFormula) →

@@ -14,6 +14,7 @@ use lib.Dec.{ltb, eqb}
 use lib.ListN.{length, getD, drop, drop-of-length-le}
 use lib.Seq.{drop-cons}
 use Rattle.layers.specs.Layers.{Layer}
+use Rattle.layers.specs.Held.{mostStates, mostVariables}
 use Rattle.layers.proofs.Places.{pow-some}
 use Rattle.meaning.specs.Lists.{every, nothing, further}
 use Rattle.meaning.specs.Chain.{Tuple, Inside}
@@ -37,7 +38,8 @@ module _ {N : ℕ} {s : List ℕ} where
   pub tested-none : Tested N s 0
   tested-none = record { rest = refl }
 
-  turn : {i : ℕ} → Tested N s i → i < length s → (t : Bool) → ltb (getD s i 0) N ≡ t → (t && membersBelow N (drop (i + 1) s)) ≡ membersBelow N s
+  turn : {i : ℕ} → Tested N s i → i < length s → (t : Bool) → ltb (getD s i 0) N ≡ t →
+      (t && membersBelow N (drop (i + 1) s)) ≡ membersBelow N s
   unfolding every
   turn {i} h l t e =
       ap (λ (b : Bool). b && membersBelow N (drop (i + 1) s)) (sym e) ∙ ap (membersBelow N) (sym (left-more s i l)) ∙ h .rest
@@ -98,14 +100,14 @@ module _ {N : ℕ} {s : List ℕ} where
       omega arith
 
   -- there are at most 32^4 tuples
-  pub counted-small : {i place : ℕ} → Counted N s i place → TupleReady N s → 0 < length s → place < 1048576
+  pub counted-small : {i place : ℕ} → Counted N s i place → TupleReady N s → 0 < length s → place < mostStates ^ mostVariables
   counted-small {i} {place} h ready l =
       let inside = members-inside N s (ready .below) in
       let some = some-state inside l in
       let whole : numberOf N s < N ^ length s = number-below N inside in
       let scaled = mul-le-mul-left place (pow-some N (length (drop i s)) some) in
-      let states : N ^ length s ≤ 32 ^ length s = pow-le-pow-left (ready .states) (length s) in
-      let few : 32 ^ length s ≤ 32 ^ 4 = pow-le-pow-right {n = 32} (omega arith) (ready .few) in
+      let states : N ^ length s ≤ mostStates ^ length s = pow-le-pow-left (ready .states) (length s) in
+      let few : mostStates ^ length s ≤ mostStates ^ mostVariables = pow-le-pow-right {n = mostStates} (omega arith) (ready .few) in
       omega arith
 
   -- which is the tuple's place
@@ -119,13 +121,13 @@ module _ {N : ℕ} {s : List ℕ} where
       }
 
 -- one turn's product fits
-pub product-fits : {x N : ℕ} → x < 1048576 → N ≤ 32 → Fits w64 (x * N)
+pub product-fits : {x N : ℕ} → x < mostStates ^ mostVariables → N ≤ mostStates → Fits w64 (x * N)
 product-fits {x} h few =
     let scaled = mul-le-mul-left x few in
     record { fits = omega arith }
 
 -- with the member
-pub sum-fits : {x N y : ℕ} → x < 1048576 → N ≤ 32 → y < 1048576 → Fits w64 (x * N + y)
+pub sum-fits : {x N y : ℕ} → x < mostStates ^ mostVariables → N ≤ mostStates → y < mostStates ^ mostVariables → Fits w64 (x * N + y)
 sum-fits {x} h few less =
     let scaled = mul-le-mul-left x few in
     record { fits = omega arith }
@@ -137,7 +139,7 @@ pub right-long : (n N : ℕ) (s : List ℕ) → tupleRight n N s ≡ true → le
 right-long n N s e = eqb-true (length s) n (and-left (eqb (length s) n) (membersBelow N s) e)
 
 -- and its number can be computed
-pub right-ready : (n N : ℕ) (s : List ℕ) → tupleRight n N s ≡ true → n ≤ 4 → N ≤ 32 → TupleReady N s
+pub right-ready : (n N : ℕ) (s : List ℕ) → tupleRight n N s ≡ true → n ≤ mostVariables → N ≤ mostStates → TupleReady N s
 right-ready n N s e letters states =
     let long = right-long n N s e in
     record { few = omega arith; states = states; below = and-right (eqb (length s) n) (membersBelow N s) e }

@@ -19,8 +19,7 @@ use Rattle.sentence.specs.Grammar.{someOutOfRange}
 use Rattle.sentence.specs.Calls.{ReadAnswer, range, recordOf}
 use Rattle.meaning.specs.Chain.{Sound}
 use Rattle.meaning.specs.Size.{exceeds}
-use Rattle.layers.specs.Columns.{weightIn}
-use Rattle.layers.specs.Steps.{Sizes}
+use Rattle.layers.specs.Held.{weightIn, LayerSizes}
 use Rattle.evaluate.specs.declared.Setting.{Setting}
 use Rattle.evaluate.specs.Evaluation.{Fixed}
 use Rattle.trees.specs.Listed.{formulaNodes}
@@ -97,7 +96,7 @@ body-ranged {s = s} b =
 
 -- the model's masks and rows hold its chain, in the setting of the pair
 module _ {m : Model} {s : Sentence} {g : Setting} (r : Ready m s) (so : SettingOf m s g) where
-  pub sizes : Sizes (g .states) (g .variables) (g .tuples)
+  pub sizes : LayerSizes (g .states) (g .variables) (g .tuples)
   sizes =
       let a = r .read .model in
       let some = subst (λ (x : Model). 1 ≤ x .n) (sym (a .fields)) (accepted.states-some (r .read .file) (a .accepted)) in

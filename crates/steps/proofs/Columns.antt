@@ -9,9 +9,10 @@ use lib.Arith.{digits-div, digits-mod, digits-lt}
 use lib.ListN.{length, getD, set, length-set}
 use lib.Seq.{getD-set-same, getD-set-other}
 use Rattle.counting.proofs.Laws.{sum-same}
-use Rattle.layers.specs.Columns.{weightIn, stepped, ColumnIn, ColumnFits, ColumnStepped, start, LayerFits, LayerStepped}
-use Rattle.layers.proofs.Sums.{sum-bounded}
+use Rattle.layers.specs.Held.{weightIn}
+use Rattle.steps.specs.Columns.{stepped, ColumnIn, ColumnFits, ColumnStepped, start, LayerFits, LayerStepped}
+use Rattle.steps.proofs.Sums.{sum-bounded}
 use Rattle.layers.proofs.Written.{kept-from}
 
 -- ---- the places of one column
 

@@ -12,12 +12,14 @@ use Rattle.meaning.specs.Lists.{below, total}
 use Rattle.meaning.specs.Chain.{Chain, Sound, Tuple, Inside}
 use Rattle.meaning.proofs.Single.{stepOne, stepFrom, stepOne-at, stepFrom-joint}
 use Rattle.meaning.proofs.Numbers.{tupleOf, tuple-inside, each-length}
-use Rattle.layers.specs.Layers.{Layer, Kept}
-use Rattle.layers.specs.Columns.{weightIn, start, LayerFits, LayerStepped}
-use Rattle.layers.specs.Steps.{Holds, Sizes, StepFits, Stepped}
-use Rattle.layers.proofs.Columns.{columnOf, start-split, start-column, place-below, column-below}
+use Rattle.layers.specs.Layers.{Layer, RestKept}
+use Rattle.layers.specs.Held.{weightIn}
+use Rattle.steps.specs.Columns.{start, LayerFits, LayerStepped}
+use Rattle.layers.specs.Held.{Holds, LayerSizes}
+use Rattle.steps.specs.Steps.{StepFits, Stepped}
+use Rattle.steps.proofs.Columns.{columnOf, start-split, start-column, place-below, column-below}
 use Rattle.layers.proofs.Places.{pow-some, pow-place, state-at, tuple-moved}
-use Rattle.layers.proofs.Sums.{sum-bounded, sum-total}
+use Rattle.steps.proofs.Sums.{sum-bounded, sum-total}
 
 -- the row of a state adds up to D
 pub row-sum : {c : Chain} {rows : List (List ℕ)} {N : ℕ} → Holds c rows N → (s : ℕ) → s < N →
@@ -95,7 +97,7 @@ pub record Stepping (rows : List (List ℕ)) (N n T : ℕ) (before : List ℕ) (
       Layer N n (λ s. stepFrom c (n - m) m f s) after
   pub small : (D bound : ℕ) → ((s : ℕ) → s < N → sum N (weightIn rows s) ≡ D) →
       ((k : ℕ) → k < T → getD before k 0 ≤ bound) → (k : ℕ) → k < T → getD after k 0 ≤ D ^ m * bound
-  pub kept : Kept T before after
+  pub kept : RestKept T before after
 
 module _ {rows : List (List ℕ)} {N n T : ℕ} {before : List ℕ} where
   -- before the first turn
@@ -176,7 +178,7 @@ module _ {rows : List (List ℕ)} {N n T : ℕ} {before : List ℕ} where
         placed = subst (λ (x : ℕ). LayerStepped rows N x T after now) at-stride one
 
   -- after the last turn the joint step has been made
-  pub stepping-all : {m stride : ℕ} {after : List ℕ} → Sizes N n T → Stepping rows N n T before m stride after → n ≤ m →
+  pub stepping-all : {m stride : ℕ} {after : List ℕ} → LayerSizes N n T → Stepping rows N n T before m stride after → n ≤ m →
       Stepped rows N n T before after
   stepping-all {m} sizes h done = record {
     each = λ c held f layer. record {

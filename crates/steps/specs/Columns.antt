@@ -1,15 +1,15 @@
+-- Working: what the functions of this crate promise one another. Nothing here has to be believed.
+--
 -- One variable's step at list level: the numbers of the tuples that differ in that variable alone are a column, N
 -- places `stride` apart.
-use Prim.Native.Nat.{ℕ, _+_, _*_, _/_, _%_, _^_, _≤_, _<_}
-use mathlib.Core.List.{List, []}
+use Prim.Native.Nat.{ℕ, _+_, _*_, _/_, _%_, _≤_, _<_}
+use mathlib.Core.List.{List}
 use mathlib.Core.Path.{_≡_}
 use lib.ListN.{length, getD}
 use Rattle.counting.specs.Below.{sum}
-use Rattle.layers.specs.Layers.{Kept}
-
--- the weight from state s to state t
-abbrev pub weightIn : List (List ℕ) → (s t : ℕ) → ℕ
-weightIn rows s t = getD (getD rows s []) t 0
+use Rattle.meaning.specs.Size.{limit}
+use Rattle.layers.specs.Layers.{RestKept}
+use Rattle.layers.specs.Held.{mostStates, mostTuples, weightIn}
 
 -- over all states t, the weight from s to t times the column's number at t; the column starts at `at`
 abbrev pub stepped : List (List ℕ) → (N stride : ℕ) → List ℕ → (at s : ℕ) → ℕ
@@ -17,7 +17,7 @@ stepped rows N stride w at s = sum N (λ t. weightIn rows s t * getD w (at + t *
 
 -- a column lies in the list
 pub record ColumnIn (N stride at : ℕ) (w : List ℕ) : Type 0 where
-  pub states : N ≤ 32
+  pub states : N ≤ mostStates
   pub near : at + N * stride ≤ 4096
   pub inside : (s : ℕ) → s < N → at + s * stride < length w
 
@@ -30,7 +30,7 @@ pub record ColumnRead (N stride at : ℕ) (w column : List ℕ) : Type 0 where
 pub record ColumnFits (rows : List (List ℕ)) (N stride at : ℕ) (w : List ℕ) : Type 0 where
   pub lies : ColumnIn N stride at w
   pub apart : 1 ≤ stride
-  pub fits : (s : ℕ) → s < N → stepped rows N stride w at s ≤ 2 ^ 62
+  pub fits : (s : ℕ) → s < N → stepped rows N stride w at s ≤ limit
 
 -- the column has been stepped, and no other number has changed
 pub record ColumnStepped (rows : List (List ℕ)) (N stride at : ℕ) (before after : List ℕ) : Type 0 where
@@ -46,17 +46,17 @@ start N stride k = k / stride / N * (stride * N) + k % stride
 -- of any row
 pub record LayerFits (rows : List (List ℕ)) (N stride T : ℕ) (w : List ℕ) : Type 0 where
   pub some : 1 ≤ N
-  pub states : N ≤ 32
+  pub states : N ≤ mostStates
   pub apart : 1 ≤ stride
   pub above : ℕ
   pub whole : T ≡ above * N * stride
-  pub few : T ≤ 1024
+  pub few : T ≤ mostTuples
   pub room : T ≤ length w
   pub bound : ℕ
   pub small : (k : ℕ) → k < T → getD w k 0 ≤ bound
-  pub fits : (s : ℕ) → s < N → sum N (weightIn rows s) * bound ≤ 2 ^ 62
+  pub fits : (s : ℕ) → s < N → sum N (weightIn rows s) * bound ≤ limit
 
 -- every column has been stepped
 pub record LayerStepped (rows : List (List ℕ)) (N stride T : ℕ) (before after : List ℕ) : Type 0 where
   pub each : (k : ℕ) → k < T → getD after k 0 ≡ stepped rows N stride before (start N stride k) (k / stride % N)
-  pub kept : Kept T before after
+  pub kept : RestKept T before after

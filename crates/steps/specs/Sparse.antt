@@ -1,3 +1,5 @@
+-- Working: what the functions of this crate promise one another. Nothing here has to be believed.
+--
 -- The weights of a row that are not 0, by the states to which they lead.
 use Prim.Native.Nat.{ℕ, _+_, _*_, _≤_, _<_}
 use mathlib.Core.List.{List, []}
@@ -10,8 +12,8 @@ abbrev pub namedAt : (row places : List ℕ) → (ℕ → ℕ) → ℕ → ℕ
 namedAt row places g i = getD row (getD places i 0) 0 * g (getD places i 0)
 
 -- the products of places i and i + 1 with a column
-abbrev pub twoAt : (row places column : List ℕ) → ℕ → ℕ
-twoAt row places column i =
+abbrev pub productsAt : (row places column : List ℕ) → ℕ → ℕ
+productsAt row places column i =
     namedAt row places (λ t. getD column t 0) i + namedAt row places (λ t. getD column t 0) (i + 1)
 
 -- the weights to the states below t that are not 0 are named by the first `count` of 8 places, once each; the other

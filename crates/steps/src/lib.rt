@@ -1,12 +1,13 @@
 // A joint step of a layer in place, one variable after another: n × N products a tuple, or n times as many as a row has
 // weights that are not 0, where each has few.
+pub mod sparse;
+
 ghost use mathlib.Core.Path.{_≡_};
 ghost use Prim.Native.Nat.{_*_, _<_};
 ghost use lib.ListN.{length};
-ghost use Rattle.layers.specs.Sparse.{RowsNamed};
-ghost use Rattle.layers.specs.Columns.{ColumnIn, ColumnRead, ColumnFits, ColumnStepped, LayerFits, LayerStepped};
-ghost use Rattle.layers.specs.Steps.{StepFits, Stepped};
-use crate::sparse;
+ghost use Rattle.steps.specs.Sparse.{RowsNamed};
+ghost use Rattle.steps.specs.Columns.{ColumnIn, ColumnRead, ColumnFits, ColumnStepped, LayerFits, LayerStepped};
+ghost use Rattle.steps.specs.Steps.{StepFits, Stepped};
 
 // Reads the numbers of a column.
 fn read_column(states: usize, stride: usize, at: usize, layer: &[u64], column: &mut [u64; 32])
@@ -33,8 +34,10 @@ fn step_column(
     layer: &mut [u64],
     column: &mut [u64; 32],
 )
-    requires { ⌜ ColumnFits (now rows) states stride at (now layer) × RowsNamed (now rows) states most (now places) × (length (now column) ≡ 32) ⌝ }
-    ensures { λ r. ⌜ ColumnStepped (now (rows .entry)) states stride at (now (layer .entry)) (now (layer .exit)) × (length (now (column .exit)) ≡ 32) ⌝ }
+    requires { ⌜ ColumnFits (now rows) states stride at (now layer) × RowsNamed (now rows) states most (now places) ×
+        (length (now column) ≡ 32) ⌝ }
+    ensures { λ r. ⌜ ColumnStepped (now (rows .entry)) states stride at (now (layer .entry)) (now (layer .exit)) ×
+        (length (now (column .exit)) ≡ 32) ⌝ }
 {
     read_column(states, stride, at, layer, column);
     let mut place = at;
@@ -78,7 +81,7 @@ fn step_variable(
 }
 
 // A joint step by the places that name the rows' weights: all n variables step, the last first.
-pub(crate) fn joint_named(
+pub fn joint_named(
     rows: &[[u16; 32]; 32],
     places: &[[u8; 8]; 32],
     most: usize,

@@ -3,7 +3,9 @@ ghost use mathlib.Core.Path.{_≡_};
 ghost use Prim.Native.Nat.{ℕ, _+_, _*_, _^_, _≤_, _<_};
 ghost use lib.ListN.{length, getD};
 ghost use Rattle.counting.specs.Below.{sum};
-ghost use Rattle.layers.specs.Sparse.{twoAt, Naming, Named, RowsNamed};
+ghost use Rattle.meaning.specs.Size.{limit};
+ghost use Rattle.layers.specs.Held.{mostStates};
+ghost use Rattle.steps.specs.Sparse.{productsAt, Naming, Named, RowsNamed};
 
 // A weight as a wider number.
 fn wide(x: u16) -> u64
@@ -14,7 +16,7 @@ fn wide(x: u16) -> u64
 
 // The sum over the states of a row's weight times a column's number.
 fn dot(row: &[u16; 32], column: &[u64; 32], states: usize) -> u64
-    requires { ⌜ (states ≤ 32) × (sum states (λ t. getD (now row) t 0 * getD (now column) t 0) ≤ 2 ^ 62) ⌝ }
+    requires { ⌜ (states ≤ mostStates) × (sum states (λ t. getD (now row) t 0 * getD (now column) t 0) ≤ limit) ⌝ }
     ensures { λ r. ⌜ r ≡ sum states (λ t. getD (now (row .entry)) t 0 * getD (now (column .entry)) t 0) ⌝ }
 {
     let mut total: u64 = 0;
@@ -28,7 +30,7 @@ fn dot(row: &[u16; 32], column: &[u64; 32], states: usize) -> u64
 
 // A row's weight times a column's number, at a place.
 fn product(row: &[u16; 32], column: &[u64; 32], place: u8) -> u64
-    requires { ⌜ (place < 32) × (getD (now row) place 0 * getD (now column) place 0 ≤ 2 ^ 62) ⌝ }
+    requires { ⌜ (place < 32) × (getD (now row) place 0 * getD (now column) place 0 ≤ limit) ⌝ }
     ensures { λ r. ⌜ r ≡ getD (now (row .entry)) place 0 * getD (now (column .entry)) place 0 ⌝ }
 {
     let t = place as usize;
@@ -37,8 +39,8 @@ fn product(row: &[u16; 32], column: &[u64; 32], place: u8) -> u64
 
 // The products at two places of a row that are neighbours.
 fn pair(row: &[u16; 32], places: &[u8; 8], column: &[u64; 32], i: usize) -> u64
-    requires { ⌜ (i ≤ 6) × ((k : ℕ) → k < 8 → getD (now places) k 0 < 32) × (twoAt (now row) (now places) (now column) i ≤ 2 ^ 62) ⌝ }
-    ensures { λ r. ⌜ r ≡ twoAt (now (row .entry)) (now (places .entry)) (now (column .entry)) i ⌝ }
+    requires { ⌜ (i ≤ 6) × ((k : ℕ) → k < 8 → getD (now places) k 0 < 32) × (productsAt (now row) (now places) (now column) i ≤ limit) ⌝ }
+    ensures { λ r. ⌜ r ≡ productsAt (now (row .entry)) (now (places .entry)) (now (column .entry)) i ⌝ }
 {
     product(row, column, places[i]) + product(row, column, places[i + 1])
 }
@@ -51,7 +53,8 @@ fn dot_named(
     states: usize,
     most: usize,
 ) -> u64
-    requires { ⌜ (most ≤ 7) × Named (now row) states most (now places) × (sum states (λ t. getD (now row) t 0 * getD (now column) t 0) ≤ 2 ^ 62) ⌝ }
+    requires { ⌜ (most ≤ 7) × Named (now row) states most (now places) ×
+        (sum states (λ t. getD (now row) t 0 * getD (now column) t 0) ≤ limit) ⌝ }
     ensures { λ r. ⌜ r ≡ sum states (λ t. getD (now (row .entry)) t 0 * getD (now (column .entry)) t 0) ⌝ }
 {
     let mut total = pair(row, places, column, 0);
@@ -71,7 +74,8 @@ pub(crate) fn row_sum(
     states: usize,
     most: usize,
 ) -> u64
-    requires { ⌜ (states ≤ 32) × (most ≤ 7) × (1 ≤ most → Named (now row) states most (now places)) × (sum states (λ t. getD (now row) t 0 * getD (now column) t 0) ≤ 2 ^ 62) ⌝ }
+    requires { ⌜ (states ≤ mostStates) × (most ≤ 7) × (1 ≤ most → Named (now row) states most (now places)) ×
+        (sum states (λ t. getD (now row) t 0 * getD (now column) t 0) ≤ limit) ⌝ }
     ensures { λ r. ⌜ r ≡ sum states (λ t. getD (now (row .entry)) t 0 * getD (now (column .entry)) t 0) ⌝ }
 {
     if most == 0 {
@@ -82,7 +86,7 @@ pub(crate) fn row_sum(
 
 // A state to which a row has weight 0, or `states`.
 fn zero_in(row: &[u16; 32], states: usize) -> usize
-    requires { ⌜ states ≤ 32 ⌝ }
+    requires { ⌜ states ≤ mostStates ⌝ }
     ensures { λ r. ⌜ (r ≤ states) × (r < states → getD (now (row .entry)) r 0 ≡ 0) ⌝ }
 {
     let mut t: usize = 0;
@@ -113,7 +117,7 @@ fn name(row: &[u16; 32], t: usize, count: usize, places: &mut [u8; 8]) -> usize
 // Names the states of a row to which its weight is not 0, and says how many they are: 8 where they are too many. All
 // places name a weight that is 0 before.
 fn name_row(row: &[u16; 32], states: usize, places: &mut [u8; 8]) -> usize
-    requires { ⌜ (states ≤ 32) × Naming (now row) 0 0 (now places) ⌝ }
+    requires { ⌜ (states ≤ mostStates) × Naming (now row) 0 0 (now places) ⌝ }
     ensures { λ r. ⌜ Naming (now (row .entry)) states r (now (places .exit)) ⌝ }
 {
     let mut count: usize = 0;
@@ -127,7 +131,7 @@ fn name_row(row: &[u16; 32], states: usize, places: &mut [u8; 8]) -> usize
 
 // The same for any places; 8 too where no weight is 0.
 fn name_anew(row: &[u16; 32], states: usize, places: &mut [u8; 8]) -> usize
-    requires { ⌜ states ≤ 32 ⌝ }
+    requires { ⌜ states ≤ mostStates ⌝ }
     ensures { λ r. ⌜ (r ≤ 7 → Named (now (row .entry)) states r (now (places .exit))) ⌝ }
 {
     let spare = zero_in(row, states);
@@ -147,8 +151,8 @@ fn larger(a: usize, b: usize) -> usize
 }
 
 // Names the weights of all rows that are not 0, and says how many a row has at most; 0 where a row has too many.
-pub(crate) fn name_rows(rows: &[[u16; 32]; 32], states: usize, places: &mut [[u8; 8]; 32]) -> usize
-    requires { ⌜ (states ≤ 32) × (length (now places) ≡ 32) ⌝ }
+pub fn name_rows(rows: &[[u16; 32]; 32], states: usize, places: &mut [[u8; 8]; 32]) -> usize
+    requires { ⌜ (states ≤ mostStates) × (length (now places) ≡ 32) ⌝ }
     ensures { λ r. ⌜ RowsNamed (now (rows .entry)) states r (now (places .exit)) ⌝ }
 {
     let mut most: usize = 1;

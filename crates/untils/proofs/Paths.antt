@@ -11,9 +11,10 @@ use Rattle.meaning.specs.Tree.{Formula, next, until}
 use Rattle.meaning.specs.Meaning.{holds, numerator}
 use Rattle.meaning.proofs.Numbers.{tupleOf}
 use Rattle.meaning.proofs.Until.{numerator-next}
 use Rattle.layers.specs.Layers.{Layer, truth}
-use Rattle.layers.specs.Steps.{Holds, Stepped}
-use Rattle.layers.specs.Untils.{UntilTaken}
+use Rattle.layers.specs.Held.{Holds}
+use Rattle.steps.specs.Steps.{Stepped}
+use Rattle.untils.specs.Untils.{UntilTaken}
 
 -- a truth is at most 1
 pub truth-small : {N n : ℕ} (p : Tuple → Bool) {w : List ℕ} → Layer N n (truth p) w →

@@ -11,17 +11,20 @@ use lib.Dec.{eqb, leb}
 use lib.ListN.{length, getD, drop, length-drop}
 use lib.Pow.{pow-add}
 use lib.Seq.{getD-drop}
+use Rattle.meaning.specs.Size.{limit}
 use Rattle.meaning.specs.Chain.{Chain, Sound, Tuple, Inside, tuples, joint}
 use Rattle.meaning.proofs.Numbers.{numberOf, tupleOf, tuple-inside, number-tuple, number-below}
 use Rattle.meaning.proofs.Runs.{tuples-inside}
 use Rattle.meaning.proofs.Steps.{step, step-constant}
 use Rattle.meaning.proofs.Sums.{total-le}
 use Rattle.meaning.proofs.Until.{layer, until-layer}
 use Rattle.layers.specs.Layers.{Layer, truth}
-use Rattle.layers.specs.Steps.{Holds, Stepped}
-use Rattle.layers.specs.Untils.{WrittenAt, choice, choiceAt, TurnFits, Turned, UntilFits, UntilTaken}
+use Rattle.layers.specs.Held.{Holds}
+use Rattle.steps.specs.Steps.{Stepped}
+use Rattle.layers.specs.Layers.{WrittenAt}
+use Rattle.untils.specs.Untils.{choice, choiceAt, TurnFits, Turned, UntilFits, UntilTaken}
 use Rattle.layers.proofs.Tails.{Back, back-at}
 use Rattle.layers.proofs.Written.{kept-at, kept-from}
 
 -- choices from equal numbers are equal
 pub choice-same : (opened : Bool) (all : ℕ) {a a′ b b′ x x′ : ℕ} → a ≡ a′ → b ≡ b′ → x ≡ x′ →
@@ -141,7 +144,7 @@ module _ {rows : List (List ℕ)} {N n T d k1 k2 : ℕ} {before : List ℕ} (fit
     next-power = ap (λ (x : ℕ). x * d ^ n) (h .power) ∙ power-more d n left
 
     -- and it is at most 2^62
-    pub power-fits : d ^ (n * suc left) ≤ 2 ^ 62
+    pub power-fits : d ^ (n * suc left) ≤ limit
     power-fits =
         le-trans (pow-le-pow-right (fits .weighed) {i = n * suc left} {j = n * k2} (mul-le-mul-left n less))
         (fits .fits)

@@ -1,3 +1,5 @@
+-- Working: what the functions of this crate promise one another. Nothing here has to be believed.
+--
 -- An until over three layers: the truth of the first formula, the truth of the second, and one layer to compute in.
 use Prim.Native.Nat.{ℕ, _+_, _*_, _^_, _≤_, _<_}
 use mathlib.Core.Bool.{Bool, cond, not, _&&_}
@@ -9,15 +11,10 @@ use Rattle.meaning.specs.Chain.{Chain, Tuple}
 use Rattle.meaning.specs.Meaning.{untilTakes, takenWeight}
 use Rattle.meaning.proofs.Numbers.{tupleOf}
 use Rattle.meaning.proofs.Steps.{step}
-use Rattle.layers.specs.Layers.{Layer, truth, Kept}
-use Rattle.layers.specs.Steps.{Holds, Sizes, StepFits}
-
--- number k of the `count` from `base` on is now f k, and no other has changed
-pub record WrittenAt (base count : ℕ) (f : ℕ → ℕ) (before after : List ℕ) : Type 0 where
-  pub long : length after ≡ length before
-  pub each : (k : ℕ) → k < count → getD after (base + k) 0 ≡ f k
-  pub low : (k : ℕ) → k < base → getD after k 0 ≡ getD before k 0
-  pub high : (k : ℕ) → base + count ≤ k → getD after k 0 ≡ getD before k 0
+use Rattle.meaning.specs.Size.{limit}
+use Rattle.layers.specs.Layers.{Layer, truth, RestKept}
+use Rattle.layers.specs.Held.{Holds, LayerSizes}
+use Rattle.steps.specs.Steps.{StepFits}
 
 -- all runs where the window is open and the second formula is met; else the number that stands, where the first is met
 abbrev pub choice : (opened : Bool) → (all first second number : ℕ) → ℕ
@@ -49,11 +46,11 @@ pub record UntilFits (rows : List (List ℕ)) (N n T d k1 k2 : ℕ) (w : List �
   pub holds : Holds chain rows N
   pub weighed : 1 ≤ d
   pub sum : chain .D ≡ d
-  pub sizes : Sizes N n T
+  pub sizes : LayerSizes N n T
   pub room : T + T + T ≤ length w
   pub ones : (k : ℕ) → k < T → getD w (T + k) 0 ≤ 1
   pub window : k1 ≤ k2
-  pub fits : d ^ (n * k2) ≤ 2 ^ 62
+  pub fits : d ^ (n * k2) ≤ limit
 
 -- where the two layers held the truth of two formulas, the front layer holds the total weight of the runs that their
 -- until takes; the second and the third may have changed, and what lies past them has stayed
@@ -61,4 +58,4 @@ pub record UntilTaken (rows : List (List ℕ)) (N n T d k1 k2 : ℕ) (before aft
   pub each : (c : Chain) → Holds c rows N → c .D ≡ d → (first second : Tuple → Bool) →
       Layer N n (truth first) before → Layer N n (truth second) (drop T before) →
       Layer N n (takenWeight c n k2 (untilTakes first second k1 k2)) after
-  pub kept : Kept (T + T + T) before after
+  pub kept : RestKept (T + T + T) before after

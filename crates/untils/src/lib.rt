@@ -1,26 +1,14 @@
 // The numerator of an until at all tuples: by steps left, one joint step and one choice a layer.
 ghost use mathlib.Core.Path.{_≡_};
 ghost use mathlib.Core.Logic.{_⊎_};
-ghost use Prim.Native.Nat.{_+_, _*_, _^_, _≤_, _<_};
+ghost use Prim.Native.Nat.{_+_, _≤_, _<_};
 ghost use lib.ListN.{length, getD};
-ghost use Rattle.layers.specs.Sparse.{RowsNamed};
-ghost use Rattle.layers.specs.Untils.{WrittenAt, choice, choiceAt, TurnFits, Turned, UntilFits, UntilTaken};
-use crate::sparse;
-use crate::step;
-
-// x times d, as often as is said.
-pub fn scaled(x: u64, d: u64, times: usize) -> u64
-    requires { ⌜ (1 ≤ d) × (x * d ^ times ≤ 2 ^ 62) ⌝ }
-    ensures { λ r. ⌜ r ≡ x * d ^ times ⌝ }
-{
-    let mut product = x;
-    let mut i: usize = 0;
-    while i < times {
-        product = product * d;
-        i += 1;
-    }
-    product
-}
+ghost use Rattle.layers.specs.Layers.{WrittenAt};
+ghost use Rattle.steps.specs.Sparse.{RowsNamed};
+ghost use Rattle.untils.specs.Untils.{choice, choiceAt, TurnFits, Turned, UntilFits, UntilTaken};
+use layers::power::scaled;
+use steps::joint_named;
+use steps::sparse::name_rows;
 
 // What an until has at one tuple: all runs where the window is open and the second formula is met; else the number
 // that the step gave, where the first is met.
@@ -39,7 +27,8 @@ fn chosen(opened: bool, all: u64, first: u64, second: u64, number: u64) -> u64
 // The choice at all tuples, in the third layer.
 fn choose(opened: bool, all: u64, tuples: usize, work: &mut [u64])
     requires { ⌜ tuples + tuples + tuples ≤ length (now work) ⌝ }
-    ensures { λ r. ⌜ WrittenAt (tuples + tuples) tuples (choiceAt opened all tuples (now (work .entry))) (now (work .entry)) (now (work .exit)) ⌝ }
+    ensures { λ r. ⌜ WrittenAt (tuples + tuples) tuples (choiceAt opened all tuples (now (work .entry)))
+        (now (work .entry)) (now (work .exit)) ⌝ }
 {
     let mut k: usize = 0;
     while k < tuples {
@@ -82,7 +71,7 @@ fn turn(
     ensures { λ r. ⌜ Turned (now (rows .entry)) states variables tuples opened all (now (work .entry)) (now (work .exit)) ⌝ }
 {
     let from = tuples + tuples;
-    step::joint_named(
+    joint_named(
         rows,
         places,
         most,
@@ -111,7 +100,7 @@ pub fn until(
     ensures { λ r. ⌜ UntilTaken (now (rows .entry)) states variables tuples d k1 k2 (now (work .entry)) (now (work .exit)) ⌝ }
 {
     let mut places = [[0u8; 8]; 32];
-    let most = sparse::name_rows(rows, states, &mut places);
+    let most = name_rows(rows, states, &mut places);
     copy(tuples, tuples, tuples + tuples, work);
     let mut all: u64 = 1;
     let mut left: usize = 0;

@@ -1,10 +1,10 @@
--- `layers::step::joint_named` meets its contract: one variable after another, the last first.
+-- `steps::joint_named` meets its contract: one variable after another, the last first.
 use borrow.Author.Needs.{needs}
 use Prim.Native.Nat.{_-_}
 use native.Mathlib.Omega.{arith}
-use Rattle.layers.proofs.Joint.{Stepping, stepping-none, stepping-next, stepping-all, layer-fits, stride-small}
-use Rattle.layers.proofs.step.joint_named.Statement.{statement}
-use Rattle.layers.proofs.step.joint_named.Tie as tie
+use Rattle.steps.proofs.Joint.{Stepping, stepping-none, stepping-next, stepping-all, layer-fits, stride-small}
+use Rattle.steps.proofs.joint_named.Statement.{statement}
+use Rattle.steps.proofs.joint_named.Tie as tie
 
 abbrev Inv-loop : tie.InvT-loop
 Inv-loop rows places most states variables tuples work₀ stride₀ m₀ work stride m =

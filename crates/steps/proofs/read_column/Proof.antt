@@ -1,13 +1,13 @@
--- `layers::step::read_column` meets its contract: the column is filled from the front.
+-- `steps::read_column` meets its contract: the column is filled from the front.
 use borrow.Author.Needs.{needs}
 use Prim.Native.Nat.{ℕ, _+_, _*_, _-_, _≤_}
 use mathlib.Core.Path.{_≡_, ap}
 use native.Mathlib.Omega.{arith}
 use lib.ListN.{getD}
 use Rattle.counting.proofs.Laws.{Filled, filled-none, filled-next}
-use Rattle.layers.proofs.Columns.{next-near}
-use Rattle.layers.proofs.step.read_column.Statement.{statement}
-use Rattle.layers.proofs.step.read_column.Tie as tie
+use Rattle.steps.proofs.Columns.{next-near}
+use Rattle.steps.proofs.read_column.Statement.{statement}
+use Rattle.steps.proofs.read_column.Tie as tie
 
 abbrev Inv-loop : tie.InvT-loop
 Inv-loop states stride at layer column₀ place₀ s₀ column place s =

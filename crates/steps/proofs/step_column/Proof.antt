@@ -1,13 +1,14 @@
--- `layers::step::step_column` meets its contract: the sums are of the copied column, whatever has been written since.
+-- `steps::step_column` meets its contract: the sums are of the copied column, whatever has been written since.
 use borrow.Author.Needs.{needs}
 use Prim.Native.Nat.{ℕ, _+_, _*_, _-_, _^_, _≤_}
 use mathlib.Core.Path.{_≡_, ap, sym, subst, _∙_}
 use native.Mathlib.Omega.{arith}
+use Rattle.meaning.specs.Size.{limit}
 use Rattle.counting.proofs.Laws.{sum-same}
-use Rattle.layers.specs.Columns.{weightIn}
-use Rattle.layers.proofs.Columns.{ColumnStepping, column-none, column-next, column-all, next-near}
-use Rattle.layers.proofs.step.step_column.Statement.{statement}
-use Rattle.layers.proofs.step.step_column.Tie as tie
+use Rattle.layers.specs.Held.{weightIn}
+use Rattle.steps.proofs.Columns.{ColumnStepping, column-none, column-next, column-all, next-near}
+use Rattle.steps.proofs.step_column.Statement.{statement}
+use Rattle.steps.proofs.step_column.Tie as tie
 
 abbrev Inv-loop : tie.InvT-loop
 Inv-loop rows places most states stride at layer₀ column place₀ s₀ layer place s =
@@ -57,7 +58,7 @@ row-sum-requires c κs =
       start .pre .0 .lies .states,
       named .few,
       λ some. named .each some s (omega arith),
-      subst (λ (x : ℕ). x ≤ 2 ^ 62) (sym copied) (start .pre .0 .fits s (omega arith)),
+      subst (λ (x : ℕ). x ≤ limit) (sym copied) (start .pre .0 .fits s (omega arith)),
     )
 
 mul-layer : tie.Need-mul-layer Inv-loop μ-loop

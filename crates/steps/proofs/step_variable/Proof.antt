@@ -1,4 +1,4 @@
--- `layers::step::step_variable` meets its contract: one column after another.
+-- `steps::step_variable` meets its contract: one column after another.
 use borrow.Author.Needs.{needs}
 use Prim.Native.Nat.{_-_}
 use mathlib.Core.Logic.{⊎-elim}
@@ -6,11 +6,11 @@ use mathlib.Core.Path.{_≡_, refl}
 use native.Mathlib.Nat.{div-le-self, mod-lt, mul-le-mul-left}
 use native.Mathlib.Omega.{arith}
 use lib.ListN.{length}
-use Rattle.layers.proofs.Columns.{LayerStepping, layer-none, layer-next, layer-all}
-use Rattle.layers.proofs.Columns.{Counted, counted-as, counted-none, counted-more, counted-row}
-use Rattle.layers.proofs.Columns.{column-fits, columns-are, column-small}
-use Rattle.layers.proofs.step.step_variable.Statement.{statement}
-use Rattle.layers.proofs.step.step_variable.Tie as tie
+use Rattle.steps.proofs.Columns.{LayerStepping, layer-none, layer-next, layer-all}
+use Rattle.steps.proofs.Columns.{Counted, counted-as, counted-none, counted-more, counted-row}
+use Rattle.steps.proofs.Columns.{column-fits, columns-are, column-small}
+use Rattle.steps.proofs.step_variable.Statement.{statement}
+use Rattle.steps.proofs.step_variable.Tie as tie
 
 abbrev Inv-loop : tie.InvT-loop
 Inv-loop rows places most states stride tuples layer₀ columns column₀ at₀ within₀ j₀ layer column at within j =

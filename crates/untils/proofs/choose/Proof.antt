@@ -1,13 +1,13 @@
--- `layers::until::choose` meets its contract: what is read has not been written yet.
+-- `untils::choose` meets its contract: what is read has not been written yet.
 use borrow.Author.Needs.{needs}
 use Prim.Native.Nat.{_+_, _-_}
 use mathlib.Core.Path.{_∙_}
 use native.Mathlib.Omega.{arith}
-use Rattle.layers.specs.Untils.{choiceAt}
-use Rattle.layers.proofs.Untils.{choice-same}
+use Rattle.untils.specs.Untils.{choiceAt}
+use Rattle.untils.proofs.Untils.{choice-same}
 use Rattle.layers.proofs.Written.{Writing, writing-none, writing-next, writing-at-all}
-use Rattle.layers.proofs.until.choose.Statement.{statement}
-use Rattle.layers.proofs.until.choose.Tie as tie
+use Rattle.untils.proofs.choose.Statement.{statement}
+use Rattle.untils.proofs.choose.Tie as tie
 
 abbrev Inv-loop : tie.InvT-loop
 Inv-loop opened all tuples work₀ k₀ work k =

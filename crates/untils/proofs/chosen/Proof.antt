@@ -1,12 +1,12 @@
--- `layers::until::chosen` meets its contract, by the tests.
+-- `untils::chosen` meets its contract, by the tests.
 use Prim.Native.Nat.{ℕ}
 use mathlib.Core.Bool.{Bool, true, false, cond, not, _&&_}
 use mathlib.Core.Path.{_≡_, sym, ap, ap₂}
 use borrow.Author.Tests.{eq-eqb, ne-eqb}
 use lib.Dec.{eqb}
-use Rattle.layers.specs.Untils.{choice}
-use Rattle.layers.proofs.until.chosen.Statement.{statement}
-use Rattle.layers.proofs.until.chosen.Tie as tie
+use Rattle.untils.specs.Untils.{choice}
+use Rattle.untils.proofs.chosen.Statement.{statement}
+use Rattle.untils.proofs.chosen.Tie as tie
 
 -- what the choice is, by its two tests
 taken : (opened : Bool) (all first second number : ℕ) → (opened && not (eqb second 0)) ≡ true → all ≡ choice opened all first second number

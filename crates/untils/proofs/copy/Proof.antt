@@ -1,12 +1,12 @@
--- `layers::until::copy` meets its contract: what is read has not been written.
+-- `untils::copy` meets its contract: what is read has not been written.
 use borrow.Author.Needs.{needs}
 use Prim.Native.Nat.{_+_, _-_}
 use mathlib.Core.Logic.{⊎-elim}
 use native.Mathlib.Omega.{arith}
 use lib.ListN.{getD}
 use Rattle.layers.proofs.Written.{Writing, writing-none, writing-next, writing-at-all}
-use Rattle.layers.proofs.until.copy.Statement.{statement}
-use Rattle.layers.proofs.until.copy.Tie as tie
+use Rattle.untils.proofs.copy.Statement.{statement}
+use Rattle.untils.proofs.copy.Tie as tie
 
 abbrev Inv-loop : tie.InvT-loop
 Inv-loop count from to work₀ k₀ work k = Writing to count (λ k. getD work₀ (from + k) 0) work₀ k work

@@ -1,14 +1,14 @@
--- `layers::until::turn` meets its contract: the third layer is lent to the step as a tail.
+-- `untils::turn` meets its contract: the third layer is lent to the step as a tail.
 use borrow.Author.Needs.{needs}
 use Prim.Native.Nat.{ℕ, _+_}
 use mathlib.Core.List.{List}
 use mathlib.Core.Path.{sym, subst}
 use native.Mathlib.Omega.{arith}
-use Rattle.layers.specs.Steps.{StepFits, Stepped}
+use Rattle.steps.specs.Steps.{StepFits, Stepped}
 use Rattle.layers.proofs.Tails.{lent-tail, put-back}
-use Rattle.layers.proofs.Untils.{turned-from}
-use Rattle.layers.proofs.until.turn.Statement.{statement}
-use Rattle.layers.proofs.until.turn.Tie as tie
+use Rattle.untils.proofs.Untils.{turned-from}
+use Rattle.untils.proofs.turn.Statement.{statement}
+use Rattle.untils.proofs.turn.Tie as tie
 
 joint-named-requires : tie.Need-joint-named-requires
 joint-named-requires c κs =

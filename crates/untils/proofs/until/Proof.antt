@@ -1,14 +1,14 @@
--- `layers::until::until` meets its contract: the invariant is the layer with so many steps left.
+-- `untils::until` meets its contract: the invariant is the layer with so many steps left.
 use borrow.Author.Needs.{needs}
 use Prim.Native.Nat.{_-_}
 use mathlib.Core.Logic.{inl, inr}
 use mathlib.Core.Path.{refl, _∙_}
 use native.Mathlib.Omega.{arith}
-use Rattle.layers.proofs.Untils.{Untiling, untiling-none, untiling-next, untiling-all}
-use Rattle.layers.proofs.Untils.{next-power, power-fits, turn-fits}
-use Rattle.layers.proofs.Untils.{copied-fits, copied-same, copied-taken}
-use Rattle.layers.proofs.until.until.Statement.{statement}
-use Rattle.layers.proofs.until.until.Tie as tie
+use Rattle.untils.proofs.Untils.{Untiling, untiling-none, untiling-next, untiling-all}
+use Rattle.untils.proofs.Untils.{next-power, power-fits, turn-fits}
+use Rattle.untils.proofs.Untils.{copied-fits, copied-same, copied-taken}
+use Rattle.untils.proofs.until.Statement.{statement}
+use Rattle.untils.proofs.until.Tie as tie
 
 abbrev Inv-loop : tie.InvT-loop
 Inv-loop rows states variables d k1 k2 tuples work₀ places most all₀ left₀ work all left =

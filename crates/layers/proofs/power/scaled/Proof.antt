@@ -1,12 +1,12 @@
--- `layers::until::scaled` meets its contract: the powers on the way are no larger than the last.
+-- `layers::power::scaled` meets its contract: the powers on the way are no larger than the last.
 use borrow.Author.Needs.{needs}
 use Prim.Native.Nat.{ℕ, suc, _*_, _-_, _^_, _≤_}
 use mathlib.Core.Path.{_≡_, ap, _∙_}
 use native.Mathlib.Nat.{pow-zero, pow-suc, pow-le-pow-right, mul-le-mul-left}
 use native.Mathlib.Numerals.{add-one}
 use native.Mathlib.Omega.{arith}
-use Rattle.layers.proofs.until.scaled.Statement.{statement}
-use Rattle.layers.proofs.until.scaled.Tie as tie
+use Rattle.layers.proofs.power.scaled.Statement.{statement}
+use Rattle.layers.proofs.power.scaled.Tie as tie
 
 abbrev Inv-loop : tie.InvT-loop
 Inv-loop x d times product₀ i₀ product i = (i ≤ times) × (product ≡ x * d ^ i)

@@ -1,9 +1,9 @@
--- `layers::sparse::name` meets its contract.
+-- `steps::sparse::name` meets its contract.
 use mathlib.Core.Path.{refl}
-use Rattle.layers.proofs.Namings.{naming-skip, naming-full, naming-next}
+use Rattle.steps.proofs.Namings.{naming-skip, naming-full, naming-next}
 use borrow.Author.Needs.{needs}
-use Rattle.layers.proofs.sparse.name.Statement.{statement}
-use Rattle.layers.proofs.sparse.name.Tie as tie
+use Rattle.steps.proofs.sparse.name.Statement.{statement}
+use Rattle.steps.proofs.sparse.name.Tie as tie
 
 returns : tie.Need-returns
 returns c = naming-skip (c .before .before .pre .1) (c .if1 .taken)

@@ -1,14 +1,14 @@
--- `layers::sparse::name_rows` meets its contract: row after row.
+-- `steps::sparse::name_rows` meets its contract: row after row.
 use borrow.Author.Needs.{needs}
 use Prim.Native.Nat.{ℕ, _-_, _≤_, _<_}
 use mathlib.Core.List.{[]}
 use mathlib.Core.Path.{_≡_, _∙_}
 use native.Mathlib.Omega.{arith}
 use lib.ListN.{length, getD, length-set}
-use Rattle.layers.proofs.Namings.{rows-next}
-use Rattle.layers.specs.Sparse.{Named}
-use Rattle.layers.proofs.sparse.name_rows.Statement.{statement}
-use Rattle.layers.proofs.sparse.name_rows.Tie as tie
+use Rattle.steps.proofs.Namings.{rows-next}
+use Rattle.steps.specs.Sparse.{Named}
+use Rattle.steps.proofs.sparse.name_rows.Statement.{statement}
+use Rattle.steps.proofs.sparse.name_rows.Tie as tie
 
 abbrev Inv-loop : tie.InvT-loop
 Inv-loop rows states places₀ most₀ s₀ places most s =
@@ -34,7 +34,8 @@ loop-again c =
       omega arith,
       omega arith,
       length-set (at-loop .loop .places) (at-loop .loop .s) _ ∙ inv .3,
-      rows-next (start .args .rows .now) (at-loop .loop .places) (inv .3) (omega (arith, start .pre .0)) (inv .4) (c .before .before .name-anew .ensures (omega arith)) (most .0) (most .1),
+      rows-next (start .args .rows .now) (at-loop .loop .places) (inv .3) (omega (arith, start .pre .0)) (inv .4)
+          (c .before .before .name-anew .ensures (omega arith)) (most .0) (most .1),
     )
 
 returns-2 : tie.Need-returns-2 Inv-loop μ-loop

@@ -1,8 +1,8 @@
--- `layers::sparse::zero_in` meets its contract.
+-- `steps::sparse::zero_in` meets its contract.
 use borrow.Author.Needs.{needs}
 use Prim.Native.Nat.{_-_, _≤_}
-use Rattle.layers.proofs.sparse.zero_in.Statement.{statement}
-use Rattle.layers.proofs.sparse.zero_in.Tie as tie
+use Rattle.steps.proofs.sparse.zero_in.Statement.{statement}
+use Rattle.steps.proofs.sparse.zero_in.Tie as tie
 
 abbrev Inv-loop : tie.InvT-loop
 Inv-loop row states t₀ t = t ≤ states

@@ -1,0 +1,2 @@
+-- An until over three layers.
+pub mod Untils
