@@ -22,7 +22,8 @@ use Rattle.meaning.proofs.Tests.{and-left, and-right}
 use Rattle.meaning.proofs.Examples.{examples as meant}
 use Rattle.trees.specs.Listed.{formulaNodes, expressionNodes}
 use Rattle.chain.specs.Of.{chainOf}
-use Rattle.merge.specs.Examples.{modelWith, M2, M2merged, Claim as Merging, Met as MetMerging, claims as onMerging}
+use Rattle.merge.specs.Examples.{modelWith, modelM2 as M2, modelM2merged as M2merged}
+use Rattle.merge.specs.Examples.{MergeClaim as Merging, MergeMet as MetMerging, mergeClaims as onMerging}
 use Rattle.merge.proofs.Examples.{examples as merged}
 use Rattle.demands.specs.Examples.{ascii, TextOf, SentenceText, Texted, modelM1, sameChain, Claim, means, merging, Met, claims}
 

@@ -20,7 +20,8 @@ use Rattle.meaning.specs.Examples.{M1, M2 as chainM2, M2merged as chainM2merged
 use Rattle.trees.specs.Listed.{expressionNodes}
 use Rattle.question.specs.Rows.{SentenceOf}
 use Rattle.chain.specs.Of.{chainOf}
-use Rattle.merge.specs.Examples.{modelWith, M2, M2merged, Claim as Merging, Met as MetMerging, claims as onMerging}
+use Rattle.merge.specs.Examples.{modelWith, modelM2 as M2, modelM2merged as M2merged}
+use Rattle.merge.specs.Examples.{MergeClaim as Merging, MergeMet as MetMerging, mergeClaims as onMerging}
 
 -- the bytes of a text, in ASCII
 unfoldable pub ascii : String → List ℕ

@@ -54,7 +54,7 @@ letters-none flags count i h room =
     let past : length (take count flags) ≤ i = omega arith in
     ap (map letterOf) (drop-of-length-le (take count flags) past)
 
--- what the descent answers where no letter is left: the truth at the place
+-- where no letter is left the descent returns the truth at the place
 pub descended-none : (N base : ℕ) (letters : List Letter) (w : List ℕ) → letters ≡ [] → descended N letters base w ≡ metAt w base
 unfolding descended
 descended-none N base letters w e = ap (λ (l : List Letter). descended N l base w) e

@@ -20,7 +20,7 @@ use Rattle.layers.specs.Layers.{Layer, WrittenFront}
 use Rattle.fractions.specs.declared.Operation.{Operation}
 use Rattle.fractions.specs.declared.Operation.the-variants.{Sum, Difference, Product}
 use Rattle.fractions.specs.Operations.{combinedAt, CombineFits}
-use Rattle.fractions.specs.Values.{numerators, expressionOf}
+use Rattle.fractions.specs.Values.{numeratorCodes, expressionOf}
 use Rattle.fractions.proofs.Values.{operands-small, combine-fits, combine-layer, constant-layer, probability-layer}
 use Rattle.trees.specs.Need.{paired, needIn}
 use Rattle.trees.specs.Ranged.{RangedIn}
@@ -192,7 +192,7 @@ module _ {nodes : List Slot} {g : Setting} {masks : List ℕ} {rows : List (List
       ((c : Chain) (a : Expression) (q : ℕ) → Fixed c masks rows g → ExpressionCase nodes at n a q →
       exceedsIn a (c .D) (g .variables) ≡ false →
       (r .next ≡ q) × (r .bottom ≡ size a (c .D) (g .variables) .d) × Layer (c .N) (g .variables)
-      (numerators a c (g .variables)) after) →
+      (numeratorCodes a c (g .variables)) after) →
       ExpressionDone nodes g masks rows at after r
   expression-done n e h = record {
     each = λ c a q fixed stands fits. h c a q fixed (expression-case nodes at n e stands)
@@ -211,7 +211,7 @@ module _ {nodes : List Slot} {g : Setting} {masks : List ℕ} {rows : List (List
       (or-left (exceedsFrom (it .0) (c .D) n) (largeSize (size (probability (it .0)) (c .D) n)) small) in (
         h .0,
         h .1 ∙ ap (λ (a : Expression). size a (c .D) n .d) (sym (it .1)),
-        subst (λ (a : Expression). Layer (c .N) n (numerators a c n) after) (sym (it .1))
+        subst (λ (a : Expression). Layer (c .N) n (numeratorCodes a c n) after) (sym (it .1))
             (probability-layer (it .0) c (h .2)),
       ))
 
@@ -225,7 +225,7 @@ module _ {nodes : List Slot} {g : Setting} {masks : List ℕ} {rows : List (List
       let n = g .variables in (
         sym (it .1),
         ap (λ (a : Expression). size a (c .D) n .d) (sym (it .0)),
-        subst (λ (a : Expression). Layer (c .N) n (numerators a c n) after) (sym (it .0))
+        subst (λ (a : Expression). Layer (c .N) n (numeratorCodes a c n) after) (sym (it .0))
             (constant-layer (tuple-count fixed) x y c written),
       ))
 
@@ -240,7 +240,7 @@ module _ {nodes : List Slot} {g : Setting} {masks : List ℕ} {rows : List (List
       (subst (λ (a : Expression). exceedsIn a (c .D) n ≡ false) (it .3) fits) in (
         h .0,
         h .1 ∙ ap (λ (a : Expression). size a (c .D) n .d) (sym (it .3)),
-        subst (λ (a : Expression). Layer (c .N) n (numerators a c n) after) (sym (it .3)) (h .2),
+        subst (λ (a : Expression). Layer (c .N) n (numeratorCodes a c n) after) (sym (it .3)) (h .2),
       ))
 
   module _ {after : List ℕ} {r : Valued} where

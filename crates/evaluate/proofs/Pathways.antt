@@ -177,7 +177,7 @@ module _ {nodes : List Slot} {g : Setting} {masks : List ℕ} {rows : List (List
           chain = c;
           holds = ready .fixed .held;
           weighed = ready .fixed .weighed;
-          sum = ready .fixed .sums;
+          sums = ready .fixed .sums;
           sizes = ready .fixed .sizes;
           room = omega arith;
           ones = λ k l. le-trans (le-of-eq (sym (getD-drop (g .tuples) mid k 0)))

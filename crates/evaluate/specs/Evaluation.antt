@@ -15,7 +15,7 @@ use Rattle.meaning.specs.Meaning.{holds, numerator, denominator}
 use Rattle.meaning.specs.Size.{limit, size, exceeds, exceedsIn, exceedsFrom}
 use Rattle.layers.specs.Layers.{Layer, truth, bitAt}
 use Rattle.layers.specs.Held.{mostVariables, Holds, LayerSizes}
-use Rattle.fractions.specs.Values.{numerators, expressionOf}
+use Rattle.fractions.specs.Values.{numeratorCodes, expressionOf}
 use Rattle.fractions.specs.declared.Operation.{Operation}
 use Rattle.trees.specs.Need.{paired, need, needIn, needFrom}
 use Rattle.trees.specs.Ranged.{Ranged, RangedIn, RangedFrom}
@@ -117,7 +117,7 @@ module _ (nodes : List Slot) (g : Setting) (masks : List ℕ) (rows : List (List
     pub each : (c : Chain) (a : Expression) (q : ℕ) → Fixed c masks rows g → ExpressionAt nodes at a q →
         exceedsIn a (c .D) (g .variables) ≡ false →
         (r .next ≡ q) × (r .bottom ≡ size a (c .D) (g .variables) .d) ×
-        Layer (c .N) (g .variables) (numerators a c (g .variables)) after
+        Layer (c .N) (g .variables) (numeratorCodes a c (g .variables)) after
 
   -- a path, likewise
   pub record PathDone (at : ℕ) (after : List ℕ) (r : Valued) : Type 0 where
@@ -140,8 +140,8 @@ module _ (nodes : List Slot) (g : Setting) (masks : List ℕ) (rows : List (List
         ExpressionAt nodes m b q →
         exceedsIn a (c .D) (g .variables) ≡ false → exceedsIn b (c .D) (g .variables) ≡ false →
         (r .next ≡ q) × (r .first ≡ size a (c .D) (g .variables) .d) × (r .second ≡ size b (c .D) (g .variables) .d) ×
-        Layer (c .N) (g .variables) (numerators a c (g .variables)) after ×
-        Layer (c .N) (g .variables) (numerators b c (g .variables)) (drop (g .tuples) after)
+        Layer (c .N) (g .variables) (numeratorCodes a c (g .variables)) after ×
+        Layer (c .N) (g .variables) (numeratorCodes b c (g .variables)) (drop (g .tuples) after)
 
 -- ---- two expressions and what an operation makes of them
 
@@ -157,4 +157,4 @@ module _ (op : Operation) (nodes : List Slot) (g : Setting) (masks : List ℕ) (
         ExpressionAt nodes m b q →
         exceedsIn (expressionOf op a b) (c .D) (g .variables) ≡ false →
         (r .next ≡ q) × (r .bottom ≡ size (expressionOf op a b) (c .D) (g .variables) .d) ×
-        Layer (c .N) (g .variables) (numerators (expressionOf op a b) c (g .variables)) after
+        Layer (c .N) (g .variables) (numeratorCodes (expressionOf op a b) c (g .variables)) after

@@ -14,7 +14,7 @@ use Rattle.trees.specs.Standing.{FormulaAt, ExpressionAt, PathAt}
 use Rattle.evaluate.specs.declared.survey.Extent.{Extent}
 
 -- of whatever tree stands at the place; and bounds that hold of any nodes
-pub record Surveyed (slots : List Slot) (at : ℕ) (r : Extent) : Type 0 where
+pub record TreeSurveyed (slots : List Slot) (at : ℕ) (r : Extent) : Type 0 where
   pub forward : at ≤ r .next
   pub within : r .next ≤ 64
   pub few : r .layers + at ≤ r .next + 3
@@ -23,7 +23,7 @@ pub record Surveyed (slots : List Slot) (at : ℕ) (r : Extent) : Type 0 where
   pub path : (w : PathFormula) (q : ℕ) → PathAt slots at w q → (r .next ≡ q) × (r .layers ≡ needFrom w)
 
 -- of two trees, one after another
-pub record SurveyedTwo (slots : List Slot) (at : ℕ) (r : Extent) : Type 0 where
+pub record TreesSurveyed (slots : List Slot) (at : ℕ) (r : Extent) : Type 0 where
   pub forward : at ≤ r .next
   pub within : r .next ≤ 64
   pub few : r .layers + at ≤ r .next + 4

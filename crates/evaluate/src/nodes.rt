@@ -1,6 +1,7 @@
 // The nodes of a sentence, evaluated: three functions for the three kinds, which call each other with the node count
-// falling. Each evaluates the node at a place, with its own nodes, into the front layer of the work area, and answers the
+// falling. Each evaluates the node at a place, with its own nodes, into the front layer of the work area, and returns the
 // place after them.
+ghost use mathlib.Core.Path.{_≡_};
 ghost use Rattle.evaluate.specs.Evaluation.{FormulaReady, ExpressionReady, PathReady, FormulasReady, ExpressionsReady, CombinedReady};
 ghost use Rattle.evaluate.specs.Evaluation.{FormulaDone, ExpressionDone, PathDone, FormulasDone, ExpressionsDone, CombinedDone};
 use crate::Setting;
@@ -23,7 +24,7 @@ use sentence::Node;
 use sentence::Slot;
 use steps::joint_step;
 
-// A state formula: its truth at all tuples. Of another node nothing is said.
+// A state formula: its truth at all tuples. Unspecified for other nodes.
 pub fn state_formula(
     nodes: [Slot; 64],
     g: Setting,
@@ -91,7 +92,7 @@ fn two_formulas(
     next
 }
 
-// An expression: the code of its numerator at all tuples, and its denominator. Of another node nothing is said.
+// An expression: the code of its numerator at all tuples, and its denominator. Unspecified for other nodes.
 fn expression(
     nodes: [Slot; 64],
     g: Setting,
@@ -121,8 +122,10 @@ fn expression(
     }
 }
 
-// No expression stands here.
-fn nothing(at: usize) -> Valued {
+// What is returned for a node of another kind: the place itself, and 1.
+fn nothing(at: usize) -> Valued
+    ensures { λ r. ⌜ (r .next ≡ at) × (r .bottom ≡ 1) ⌝ }
+{
     Valued {
         next: at,
         bottom: 1,
@@ -184,7 +187,7 @@ fn two_expressions(
     }
 }
 
-// A path: its numerator at all tuples, and its denominator. Of another node nothing is said.
+// A path: its numerator at all tuples, and its denominator. Unspecified for other nodes.
 pub fn path(
     nodes: [Slot; 64],
     g: Setting,

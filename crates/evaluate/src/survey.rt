@@ -3,7 +3,7 @@
 ghost use mathlib.Core.Path.{_≡_};
 ghost use Prim.Native.Nat.{_+_, _≤_, _<_, max};
 ghost use Rattle.trees.specs.Need.{paired};
-ghost use Rattle.evaluate.specs.Surveys.{Surveyed, SurveyedTwo, layersOfTwo};
+ghost use Rattle.evaluate.specs.Surveys.{TreeSurveyed, TreesSurveyed, layersOfTwo};
 use sentence::Node;
 use sentence::Slot;
 use sentence::Wants;
@@ -43,7 +43,7 @@ fn leaf(at: usize) -> Extent
 // Two operands, one after another.
 fn operands(nodes: [Slot; 64], at: usize) -> Extent
     requires { ⌜ at ≤ 64 ⌝ }
-    ensures { λ r. ⌜ SurveyedTwo nodes at r ⌝ }
+    ensures { λ r. ⌜ TreesSurveyed nodes at r ⌝ }
 {
     let first = survey(nodes, at);
     let second = survey(nodes, first.next);
@@ -56,7 +56,7 @@ fn operands(nodes: [Slot; 64], at: usize) -> Extent
 // The survey of the node at a place.
 pub(crate) fn survey(nodes: [Slot; 64], at: usize) -> Extent
     requires { ⌜ at ≤ 64 ⌝ }
-    ensures { λ r. ⌜ Surveyed nodes at r ⌝ }
+    ensures { λ r. ⌜ TreeSurveyed nodes at r ⌝ }
 {
     if 64 <= at {
         return Extent {

@@ -14,7 +14,7 @@ use Rattle.fractions.specs.declared.Operation.{Operation}
 use Rattle.fractions.specs.declared.Operation.the-variants.{Sum, Difference, Product}
 use Rattle.fractions.specs.declared.Making.{Making}
 use Rattle.fractions.specs.Codes.{Small, CrossFits}
-use Rattle.fractions.specs.Operations.{over, operated, sized, OperandsFit, CrossesFit, Fits, madeCode}
+use Rattle.fractions.specs.Operations.{over, operated, sized, OperandsFit, CrossesFit, MakingFits, madeCode}
 use Rattle.fractions.proofs.Magnitude.{small-fits}
 
 -- a result is read back as what its contract says
@@ -95,8 +95,8 @@ operated-back {op} {a = a} {b = b} {d1 = d1} {d2 = d2} fits e p =
 
 -- at the making that is known, and of two numbers as they are read back, the same fits and the same is made
 module _ (d1 d2 : ℕ) {making known : Making} {a b a′ b′ : ℤ} (e : making ≡ known) (p : a′ ≡ a) (q : b′ ≡ b) where
-  pub fits-as : Fits making d1 d2 a b → Fits known d1 d2 a′ b′
-  fits-as h = subst₂ (Fits known d1 d2) (sym p) (sym q) (subst (λ m. Fits m d1 d2 a b) e h)
+  pub fits-as : MakingFits making d1 d2 a b → MakingFits known d1 d2 a′ b′
+  fits-as h = subst₂ (MakingFits known d1 d2) (sym p) (sym q) (subst (λ m. MakingFits m d1 d2 a b) e h)
 
   pub made-as : madeCode known d1 d2 a′ b′ ≡ madeCode making d1 d2 a b
   made-as = ap₂ (madeCode known d1 d2) p q ∙ sym (ap (λ m. madeCode m d1 d2 a b) e)

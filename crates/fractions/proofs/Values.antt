@@ -25,7 +25,7 @@ use Rattle.fractions.specs.declared.Relation.{Relation}
 use Rattle.fractions.specs.Codes.{coded, decoded}
 use Rattle.fractions.specs.Operations.{over, operated, sized, meantRelation, combinedAt, comparedAt}
 use Rattle.fractions.specs.Operations.{CombineFits, CompareFits}
-use Rattle.fractions.specs.Values.{numerators, expressionOf}
+use Rattle.fractions.specs.Values.{numeratorCodes, expressionOf}
 use Rattle.fractions.proofs.Magnitude.{decoded-coded}
 
 -- ---- the size rule, for an operation
@@ -82,13 +82,13 @@ sides-small r a b D n e = both-small (exceedsIn a D n) (exceedsIn b D n) (largeC
 
 -- the numerator of a path is the code of its probability's numerator
 pub probability-layer : {N n : ℕ} (p : PathFormula) (c : Chain) {w : List ℕ} → Layer N n (numerator p c n) w →
-    Layer N n (numerators (probability p) c n) w
+    Layer N n (numeratorCodes (probability p) c n) w
 unfolding value
 probability-layer p c h = h
 
 pub constant-layer : {N n T : ℕ} → T ≡ N ^ n → (a b : ℕ) (c : Chain) {before after : List ℕ} →
     WrittenFront T (λ k. a) before after →
-    Layer N n (numerators (constant a b) c n) after
+    Layer N n (numeratorCodes (constant a b) c n) after
 unfolding value
 constant-layer whole a b c h = written-layer whole h (λ k l. refl)
 
@@ -100,7 +100,7 @@ record Stands (c : Chain) (n : ℕ) (a : Expression) (k x : ℕ) : Type 0 where
   pub small : natAbs (decoded x) ≤ size a (c .D) n .m
 
 stands : (c : Chain) → Sound c → {n k x : ℕ} (a : Expression) → exceedsIn a (c .D) n ≡ false → k < c .N ^ n →
-    x ≡ numerators a c n (tupleOf (c .N) n k) → Stands c n a k x
+    x ≡ numeratorCodes a c n (tupleOf (c .N) n k) → Stands c n a k x
 stands c sound {n} {k} a fits l at =
     let within = value-within a c sound n (tuple-inside (c .N) n k l) in
     let top = ap decoded at ∙
@@ -114,7 +114,7 @@ stands c sound {n} {k} a fits l at =
 -- ---- two layers, of two such expressions
 module _ (c : Chain) (sound : Sound c) {n T : ℕ} (whole : T ≡ c .N ^ n) (a b : Expression)
     (small-a : exceedsIn a (c .D) n ≡ false) (small-b : exceedsIn b (c .D) n ≡ false) {w : List ℕ}
-    (one : Layer (c .N) n (numerators a c n) w) (two : Layer (c .N) n (numerators b c n) (drop T w)) where
+    (one : Layer (c .N) n (numeratorCodes a c n) w) (two : Layer (c .N) n (numeratorCodes b c n) (drop T w)) where
   first : (k : ℕ) → k < T → Stands c n a k (getD w k 0)
   first k l = stands c sound a small-a (omega arith) (one .at k (omega arith))
 
@@ -138,7 +138,7 @@ module _ (c : Chain) (sound : Sound c) {n T : ℕ} (whole : T ≡ c .N ^ n) (a b
 
   pub combine-layer : (op : Operation) {after : List ℕ} →
       WrittenFront T (combinedAt op (size a (c .D) n .d) (size b (c .D) n .d) T w) w after →
-      Layer (c .N) n (numerators (expressionOf op a b) c n) after
+      Layer (c .N) n (numeratorCodes (expressionOf op a b) c n) after
   combine-layer op h = written-layer whole h
       (λ k l.
       ap₂ (λ x y. coded (operated op x y .top)) (first k (omega arith) .is) (second k (omega arith) .is) ∙

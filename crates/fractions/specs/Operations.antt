@@ -54,9 +54,9 @@ pub record CrossesFit (a : ℤ) (d1 : ℕ) (b : ℤ) (d2 : ℕ) : Type 0 where
   pub second : CrossFits b d1
 
 -- what is made of two numerators fits: the operation does, or both cross products do
-abbrev pub Fits : Making → (d1 d2 : ℕ) → ℤ → ℤ → Type 0
-Fits (Operated op) d1 d2 a b = OperandsFit op a d1 b d2
-Fits (Compared r) d1 d2 a b = CrossesFit a d1 b d2
+abbrev pub MakingFits : Making → (d1 d2 : ℕ) → ℤ → ℤ → Type 0
+MakingFits (Operated op) d1 d2 a b = OperandsFit op a d1 b d2
+MakingFits (Compared r) d1 d2 a b = CrossesFit a d1 b d2
 
 -- what is made of two numerators: the code of what an operation makes, or 1 where the fractions stand in the relation,
 -- and 0 elsewhere

@@ -4,7 +4,7 @@ ghost use Prim.Native.Nat.{_≤_};
 ghost use lib.ListN.{length};
 ghost use Rattle.layers.specs.Layers.{WrittenFront};
 ghost use Rattle.fractions.specs.Codes.{decoded};
-ghost use Rattle.fractions.specs.Operations.{Fits, LayersFit, madeCode, madeAt};
+ghost use Rattle.fractions.specs.Operations.{MakingFits, LayersFit, madeCode, madeAt};
 ghost use Rattle.fractions.specs.Operations.{combinedAt, comparedAt, CombineFits, CompareFits};
 use crate::Making;
 use crate::Operation;
@@ -13,7 +13,7 @@ use crate::signs;
 
 // What is made of the numerators of two codes: the code of a numerator, or 1 where the comparison holds and 0 elsewhere.
 fn made(making: Making, d1: u64, d2: u64, x: u64, y: u64) -> u64
-    requires { ⌜ Fits making d1 d2 (decoded x) (decoded y) ⌝ }
+    requires { ⌜ MakingFits making d1 d2 (decoded x) (decoded y) ⌝ }
     ensures { λ r. ⌜ r ≡ madeCode making d1 d2 (decoded x) (decoded y) ⌝ }
 {
     let a = signs::decode(x);
@@ -34,7 +34,7 @@ pub fn constant(top: u64, tuples: usize, work: &mut [u64])
 
 // What is made of the front layer and the second, into the front layer.
 fn make(making: Making, d1: u64, d2: u64, tuples: usize, work: &mut [u64])
-    requires { ⌜ LayersFit (Fits making d1 d2) tuples (now work) ⌝ }
+    requires { ⌜ LayersFit (MakingFits making d1 d2) tuples (now work) ⌝ }
     ensures { λ r. ⌜ WrittenFront tuples (madeAt making d1 d2 tuples (now (work .entry))) (now (work .entry)) (now (work .exit)) ⌝ }
 {
     let mut k: usize = 0;

@@ -16,7 +16,7 @@ use Rattle.meaning.specs.Lists.{below, thereIs, total, Each, nothing, further}
 use Rattle.meaning.specs.Merging.{weightInto, member}
 use Rattle.merge.specs.Groups.{overAll, groupingRight, groupsAlike, mergedModel}
 use Rattle.merge.specs.Contract.{groupRows, mergeNumber, mergedFile}
-use Rattle.merge.specs.Examples.{M2, M2merged, merges, Met, claims}
+use Rattle.merge.specs.Examples.{modelM2, modelM2merged, merges, MergeMet, mergeClaims}
 use Rattle.merge.proofs.Numbers.{file-accepted, groups-12, groups-13, enough-room}
 use Rattle.merge.proofs.Shape.{shaped}
 
@@ -33,75 +33,75 @@ module _ (m : Model) (fields : fieldsRight m ≡ true) (adds : rowsRight m ≡ t
 
 -- ---- M2
 
-fields-M2 : fieldsRight M2 ≡ true
-unfolding M2 fieldsRight everyBelow table
-fields-M2 = refl
+fields-modelM2 : fieldsRight modelM2 ≡ true
+unfolding modelM2 fieldsRight everyBelow table
+fields-modelM2 = refl
 
-adds-M2 : rowsRight M2 ≡ true
-unfolding M2 rowsRight everyBelow table sum
-adds-M2 = refl
+adds-modelM2 : rowsRight modelM2 ≡ true
+unfolding modelM2 rowsRight everyBelow table sum
+adds-modelM2 = refl
 
-long-M2 : Shaped M2
-unfolding M2
-long-M2 =
-    shaped M2 fields-M2 adds-M2 (length-table 32 _) (length-table 32 _)
+long-modelM2 : Shaped modelM2
+unfolding modelM2
+long-modelM2 =
+    shaped modelM2 fields-modelM2 adds-modelM2 (length-table 32 _) (length-table 32 _)
     (λ s l. ap length (table-at 32 _ [] s l) ∙ length-table 32 _)
 
 -- 0 1 1 and 0 1 2 pass rows 12 and 13, 0 0 1 passes 12 only, 0 2 2 does not pass 12
-grouped-0-1-1 : groupingRight (M2 .n) (0 ∷ 1 ∷ 1 ∷ []) ≡ true
-unfolding M2 groupingRight everyBelow overAll thereIs below
+grouped-0-1-1 : groupingRight (modelM2 .n) (0 ∷ 1 ∷ 1 ∷ []) ≡ true
+unfolding modelM2 groupingRight everyBelow overAll thereIs below
 grouped-0-1-1 = refl
 
-alike-0-1-1 : groupsAlike M2 (0 ∷ 1 ∷ 1 ∷ []) ≡ true
-unfolding M2 groupsAlike everyBelow overAll table weightInto total below
+alike-0-1-1 : groupsAlike modelM2 (0 ∷ 1 ∷ 1 ∷ []) ≡ true
+unfolding modelM2 groupsAlike everyBelow overAll table weightInto total below
 alike-0-1-1 = refl
 
-grouped-0-0-1 : groupingRight (M2 .n) (0 ∷ 0 ∷ 1 ∷ []) ≡ true
-unfolding M2 groupingRight everyBelow overAll thereIs below
+grouped-0-0-1 : groupingRight (modelM2 .n) (0 ∷ 0 ∷ 1 ∷ []) ≡ true
+unfolding modelM2 groupingRight everyBelow overAll thereIs below
 grouped-0-0-1 = refl
 
-unlike-0-0-1 : groupsAlike M2 (0 ∷ 0 ∷ 1 ∷ []) ≡ false
-unfolding M2 groupsAlike everyBelow overAll table weightInto total below
+unlike-0-0-1 : groupsAlike modelM2 (0 ∷ 0 ∷ 1 ∷ []) ≡ false
+unfolding modelM2 groupsAlike everyBelow overAll table weightInto total below
 unlike-0-0-1 = refl
 
-unused-0-2-2 : groupingRight (M2 .n) (0 ∷ 2 ∷ 2 ∷ []) ≡ false
-unfolding M2 groupingRight everyBelow overAll thereIs below
+unused-0-2-2 : groupingRight (modelM2 .n) (0 ∷ 2 ∷ 2 ∷ []) ≡ false
+unfolding modelM2 groupingRight everyBelow overAll thereIs below
 unused-0-2-2 = refl
 
-grouped-0-1-2 : groupingRight (M2 .n) (0 ∷ 1 ∷ 2 ∷ []) ≡ true
-unfolding M2 groupingRight everyBelow overAll thereIs below
+grouped-0-1-2 : groupingRight (modelM2 .n) (0 ∷ 1 ∷ 2 ∷ []) ≡ true
+unfolding modelM2 groupingRight everyBelow overAll thereIs below
 grouped-0-1-2 = refl
 
-alike-0-1-2 : groupsAlike M2 (0 ∷ 1 ∷ 2 ∷ []) ≡ true
-unfolding M2 groupsAlike everyBelow overAll table weightInto total below
+alike-0-1-2 : groupsAlike modelM2 (0 ∷ 1 ∷ 2 ∷ []) ≡ true
+unfolding modelM2 groupsAlike everyBelow overAll table weightInto total below
 alike-0-1-2 = refl
 
 -- what the two merge to
-merged-0-1-1 : mergedModel M2 (0 ∷ 1 ∷ 1 ∷ []) ≡ M2merged
-unfolding mergedModel M2 M2merged table weightInto member below total overAll
+merged-0-1-1 : mergedModel modelM2 (0 ∷ 1 ∷ 1 ∷ []) ≡ modelM2merged
+unfolding mergedModel modelM2 modelM2merged table weightInto member below total overAll
 merged-0-1-1 = refl
 
-merged-0-1-2 : mergedModel M2 (0 ∷ 1 ∷ 2 ∷ []) ≡ M2
-unfolding mergedModel M2 table weightInto member below total overAll
+merged-0-1-2 : mergedModel modelM2 (0 ∷ 1 ∷ 2 ∷ []) ≡ modelM2
+unfolding mergedModel modelM2 table weightInto member below total overAll
 merged-0-1-2 = refl
 
 -- a claim from the facts of the record
-number-M2 : (grouping : List ℕ) → mergeNumber (fileOf M2) grouping 3072 ≡ first (groupRows M2 grouping 3072)
-number-M2 grouping = number-of M2 fields-M2 adds-M2 long-M2 grouping 3072
+number-modelM2 : (grouping : List ℕ) → mergeNumber (fileOf modelM2) grouping 3072 ≡ first (groupRows modelM2 grouping 3072)
+number-modelM2 grouping = number-of modelM2 fields-modelM2 adds-modelM2 long-modelM2 grouping 3072
 
-merging-M2 : (grouping : List ℕ) (merged : Model) → groupingRight (M2 .n) grouping ≡ true → groupsAlike M2 grouping ≡ true →
-    mergedModel M2 grouping ≡ merged → Met (merges M2 grouping merged)
-unfolding Met
-merging-M2 grouping merged grouped alike e = (
-  number-M2 grouping ∙ enough-room M2 grouping 3072 fields-M2 adds-M2 grouped alike (omega arith),
-  file-of M2 fields-M2 adds-M2 long-M2 grouping ∙ ap fileOf e,
+merging-modelM2 : (grouping : List ℕ) (merged : Model) → groupingRight (modelM2 .n) grouping ≡ true → groupsAlike modelM2 grouping ≡ true →
+    mergedModel modelM2 grouping ≡ merged → MergeMet (merges modelM2 grouping merged)
+unfolding MergeMet
+merging-modelM2 grouping merged grouped alike e = (
+  number-modelM2 grouping ∙ enough-room modelM2 grouping 3072 fields-modelM2 adds-modelM2 grouped alike (omega arith),
+  file-of modelM2 fields-modelM2 adds-modelM2 long-modelM2 grouping ∙ ap fileOf e,
 )
 
 -- the line on merging agrees with the definitions
-pub examples : Each Met (length claims) claims
-unfolding Met claims
+pub examples : Each MergeMet (length mergeClaims) mergeClaims
+unfolding MergeMet mergeClaims
 examples =
-    further (merging-M2 (0 ∷ 1 ∷ 1 ∷ []) M2merged grouped-0-1-1 alike-0-1-1 merged-0-1-1)
-    (further (number-M2 (0 ∷ 0 ∷ 1 ∷ []) ∙ groups-13 M2 (0 ∷ 0 ∷ 1 ∷ []) 3072 grouped-0-0-1 unlike-0-0-1)
-    (further (number-M2 (0 ∷ 2 ∷ 2 ∷ []) ∙ groups-12 M2 (0 ∷ 2 ∷ 2 ∷ []) 3072 unused-0-2-2)
-    (further (merging-M2 (0 ∷ 1 ∷ 2 ∷ []) M2 grouped-0-1-2 alike-0-1-2 merged-0-1-2) nothing)))
+    further (merging-modelM2 (0 ∷ 1 ∷ 1 ∷ []) modelM2merged grouped-0-1-1 alike-0-1-1 merged-0-1-1)
+    (further (number-modelM2 (0 ∷ 0 ∷ 1 ∷ []) ∙ groups-13 modelM2 (0 ∷ 0 ∷ 1 ∷ []) 3072 grouped-0-0-1 unlike-0-0-1)
+    (further (number-modelM2 (0 ∷ 2 ∷ 2 ∷ []) ∙ groups-12 modelM2 (0 ∷ 2 ∷ 2 ∷ []) 3072 unused-0-2-2)
+    (further (merging-modelM2 (0 ∷ 1 ∷ 2 ∷ []) modelM2 grouped-0-1-2 alike-0-1-2 merged-0-1-2) nothing)))

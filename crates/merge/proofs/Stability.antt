@@ -26,7 +26,7 @@ given false b h = refl
 
 module _ (m : Model) (grouping : List ℕ) where
   -- no two states of a group differ in mask or in weight into some group
-  pub record Alike : Type 0 where
+  pub record StatesAlike : Type 0 where
     pub masks : (s t : ℕ) → s < m .n → t < m .n → groupOf grouping s ≡ groupOf grouping t → maskOf m s ≡ maskOf m t
     pub weights : (s t : ℕ) → s < m .n → t < m .n → groupOf grouping s ≡ groupOf grouping t →
         (h : ℕ) → h < groupCount grouping →
@@ -58,7 +58,7 @@ module _ (m : Model) (grouping : List ℕ) where
       (right-of (eqb (maskOf m s) (maskOf m t)) (every (groupCount grouping) (sameWeight s t)) e) h w)
 
   -- row 13 does not apply
-  pub alike-is : groupsAlike m grouping ≡ true → Alike
+  pub alike-is : groupsAlike m grouping ≡ true → StatesAlike
   alike-is e =
       record {
         masks = λ s t l k same. alike-mask s t (pair e s t l k same);
@@ -66,7 +66,7 @@ module _ (m : Model) (grouping : List ℕ) where
       }
 
   -- and only then
-  pub is-alike : Alike → groupsAlike m grouping ≡ true
+  pub is-alike : StatesAlike → groupsAlike m grouping ≡ true
   unfolding groupsAlike
   is-alike a =
       every-all (m .n) _

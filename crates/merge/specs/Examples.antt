@@ -15,34 +15,34 @@ modelWith n a d masks rows =
     modelOf n a d (table 32 (λ s. getD masks s 0)) (table 32 (λ s. table 32 (λ t. getD (getD rows s []) t 0)))
 
 -- M2: N = 3, A = 1, D = 4; masks 0, 1, 1; rows 2 1 1, 0 3 1, 0 0 4
-unfoldable pub M2 : Model
+unfoldable pub modelM2 : Model
 unfolding modelWith
-M2 = modelWith 3 1 4 (0 ∷ 1 ∷ 1 ∷ []) ((2 ∷ 1 ∷ 1 ∷ []) ∷ (0 ∷ 3 ∷ 1 ∷ []) ∷ (0 ∷ 0 ∷ 4 ∷ []) ∷ [])
+modelM2 = modelWith 3 1 4 (0 ∷ 1 ∷ 1 ∷ []) ((2 ∷ 1 ∷ 1 ∷ []) ∷ (0 ∷ 3 ∷ 1 ∷ []) ∷ (0 ∷ 0 ∷ 4 ∷ []) ∷ [])
 
 -- N = 2, A = 1, D = 4; masks 0 and 1; rows 2 2 and 0 4
-unfoldable pub M2merged : Model
+unfoldable pub modelM2merged : Model
 unfolding modelWith
-M2merged = modelWith 2 1 4 (0 ∷ 1 ∷ []) ((2 ∷ 2 ∷ []) ∷ (0 ∷ 4 ∷ []) ∷ [])
+modelM2merged = modelWith 2 1 4 (0 ∷ 1 ∷ []) ((2 ∷ 2 ∷ []) ∷ (0 ∷ 4 ∷ []) ∷ [])
 
 -- what the line says of a model's file and a grouping: they merge to another model's file, or are refused with a number
-pub data Claim : Type 0 where
-  merges : Model → List ℕ → Model → Claim
-  refuses : Model → List ℕ → ℕ → Claim
+pub data MergeClaim : Type 0 where
+  merges : Model → List ℕ → Model → MergeClaim
+  refuses : Model → List ℕ → ℕ → MergeClaim
 
 -- the definitions agree with the line, for an output of 3,072 bytes
-unfoldable pub Met : Claim → Type 0
-Met (merges m grouping merged) = (mergeNumber (fileOf m) grouping 3072 ≡ 0) × (mergedFile (fileOf m) grouping ≡ fileOf merged)
-Met (refuses m grouping number) = mergeNumber (fileOf m) grouping 3072 ≡ number
+unfoldable pub MergeMet : MergeClaim → Type 0
+MergeMet (merges m grouping merged) = (mergeNumber (fileOf m) grouping 3072 ≡ 0) × (mergedFile (fileOf m) grouping ≡ fileOf merged)
+MergeMet (refuses m grouping number) = mergeNumber (fileOf m) grouping 3072 ≡ number
 
 -- the line on merging
-unfoldable pub claims : List Claim
-claims =
+unfoldable pub mergeClaims : List MergeClaim
+mergeClaims =
     -- M2 with grouping 0 1 1 merges to rows 2 2 and 0 4
-    merges M2 (0 ∷ 1 ∷ 1 ∷ []) M2merged ∷
+    merges modelM2 (0 ∷ 1 ∷ 1 ∷ []) modelM2merged ∷
     -- 0 0 1: 13
-    refuses M2 (0 ∷ 0 ∷ 1 ∷ []) 13 ∷
+    refuses modelM2 (0 ∷ 0 ∷ 1 ∷ []) 13 ∷
     -- 0 2 2: 12
-    refuses M2 (0 ∷ 2 ∷ 2 ∷ []) 12 ∷
+    refuses modelM2 (0 ∷ 2 ∷ 2 ∷ []) 12 ∷
     -- 0 1 2 gives the same file back
-    merges M2 (0 ∷ 1 ∷ 2 ∷ []) M2 ∷
+    merges modelM2 (0 ∷ 1 ∷ 2 ∷ []) modelM2 ∷
     []

@@ -1,7 +1,7 @@
 -- Working: what the functions of this crate promise one another. Nothing here has to be believed.
 --
 -- What merging keeps, said of the two models and document 01's definitions of them: a step to demand 3 of document 00, which the
--- crate `demands` says of the answers.
+-- crate `demands` says of the results.
 use Prim.Native.Nat.{ℕ, _≤_}
 use mathlib.Core.Bool.{false}
 use mathlib.Core.List.{List, map}

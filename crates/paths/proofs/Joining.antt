@@ -1,5 +1,5 @@
--- The place that the search answers and the path formulas of the tree that the record holds: the node there is that of the
--- path formula with the number, and where there is none the tree has too few. Assumes nothing.
+-- The place that the search returns and the path formulas of the tree that the record holds: the node there is that of the
+-- path formula with the number, and where there is none the tree has too few.
 use Prim.Native.Nat.{ℕ, _^_, _≤_, _<_}
 use mathlib.Core.Bool.{Bool, false}
 use mathlib.Core.List.{List}

@@ -1,5 +1,5 @@
 -- A tuple read from the front, member by member: whether each is a state, and the tuple's number. Both go by what is left of
--- the tuple. Assumes nothing.
+-- the tuple.
 use Prim.Native.Nat.{ℕ, zero, suc, _+_, _*_, _^_, _≤_, _<_}
 use mathlib.Core.Bool.{Bool, true, false, _&&_}
 use mathlib.Core.List.{List, [], _∷_}
@@ -30,30 +30,30 @@ left-more s i l = drop-cons s i 0 l ∙ ap (λ (k : ℕ). getD s i 0 ∷ drop k 
 -- ---- whether each member is a state
 
 -- the first i members are states, so that those left decide
-pub record Tested (N : ℕ) (s : List ℕ) (i : ℕ) : Type 0 where
+pub record MembersTested (N : ℕ) (s : List ℕ) (i : ℕ) : Type 0 where
   pub rest : membersBelow N (drop i s) ≡ membersBelow N s
 
 module _ {N : ℕ} {s : List ℕ} where
   -- before the first turn
-  pub tested-none : Tested N s 0
+  pub tested-none : MembersTested N s 0
   tested-none = record { rest = refl }
 
-  turn : {i : ℕ} → Tested N s i → i < length s → (t : Bool) → ltb (getD s i 0) N ≡ t →
+  turn : {i : ℕ} → MembersTested N s i → i < length s → (t : Bool) → ltb (getD s i 0) N ≡ t →
       (t && membersBelow N (drop (i + 1) s)) ≡ membersBelow N s
   unfolding every
   turn {i} h l t e =
       ap (λ (b : Bool). b && membersBelow N (drop (i + 1) s)) (sym e) ∙ ap (membersBelow N) (sym (left-more s i l)) ∙ h .rest
 
   -- one member more is a state
-  pub tested-next : {i : ℕ} → Tested N s i → i < length s → ltb (getD s i 0) N ≡ true → Tested N s (i + 1)
+  pub tested-next : {i : ℕ} → MembersTested N s i → i < length s → ltb (getD s i 0) N ≡ true → MembersTested N s (i + 1)
   tested-next {i} h l e = record { rest = turn h l true e }
 
-  -- where one is none, the answer is no
-  pub tested-not : {i : ℕ} → Tested N s i → i < length s → ltb (getD s i 0) N ≡ false → false ≡ membersBelow N s
+  -- a member that is no state decides the test
+  pub tested-not : {i : ℕ} → MembersTested N s i → i < length s → ltb (getD s i 0) N ≡ false → false ≡ membersBelow N s
   tested-not h l e = turn h l false e
 
-  -- after the last turn the answer is yes
-  pub tested-all : {i : ℕ} → Tested N s i → length s ≤ i → true ≡ membersBelow N s
+  -- after the last turn every member is a state
+  pub tested-all : {i : ℕ} → MembersTested N s i → length s ≤ i → true ≡ membersBelow N s
   unfolding every
   tested-all {i} h done = ap (membersBelow N) (sym (drop-of-length-le s done)) ∙ h .rest
 

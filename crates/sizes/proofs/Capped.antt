@@ -1,4 +1,4 @@
--- Capping commutes with products, sums and the test for too large. Assumes nothing.
+-- Capping commutes with products, sums and the test for too large.
 use Prim.Native.Nat.{ℕ, zero, suc, _+_, _*_, _/_, _^_, _≤_, _<_}
 use mathlib.Core.Path.{_≡_, sym, ap, _∙_}
 use native.Mathlib.Decide.{decLe}

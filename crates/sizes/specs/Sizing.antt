@@ -55,8 +55,8 @@ ofProbability t = measured (t .next) (t .d) (t .m) (t .over)
 
 -- ---- what the walk finds
 
--- What is found of the tree at a place, whatever kind it is. The bounds hold of any nodes. Nothing else is said where no
--- tree stands.
+-- What is found of the tree at a place, whatever kind it is. The bounds hold of any nodes. Unspecified where no tree
+-- stands.
 pub record Sizes (slots : List Slot) (at D n : ℕ) (r : Measure) : Type 0 where
   pub forward : at ≤ r .next
   pub within : r .next ≤ 64

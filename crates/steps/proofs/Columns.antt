@@ -155,43 +155,43 @@ module _ (N stride : ℕ) (some : 1 ≤ N) (apart : 1 ≤ stride) where
   )
 
 -- column j starts at `at`, and is number `within` of its row of `stride` columns
-pub record Counted (N stride j at within : ℕ) : Type 0 where
+pub record ColumnAt (N stride j at within : ℕ) : Type 0 where
   pub begins : at ≡ startOf N stride j
   pub passed : within ≡ j % stride
 
 module _ {N stride : ℕ} (some : 1 ≤ N) (apart : 1 ≤ stride) where
   -- a column's start, by its row and its number in it
-  counted-at : {j at : ℕ} (a b : ℕ) → b < stride → j ≡ a * stride + b → at ≡ a * (stride * N) + b →
-      Counted N stride j at b
-  counted-at a b l e f =
+  column-at-by : {j at : ℕ} (a b : ℕ) → b < stride → j ≡ a * stride + b → at ≡ a * (stride * N) + b →
+      ColumnAt N stride j at b
+  column-at-by a b l e f =
       let p = start-at N stride some apart a b l in record {
         begins = f ∙ sym (p .0) ∙ ap (startOf N stride) (sym e);
         passed = sym (p .1) ∙ ap (λ (x : ℕ). x % stride) (sym e);
       }
 
   -- the same from equal numbers
-  pub counted-as : {j at within at′ within′ : ℕ} → Counted N stride j at within → at′ ≡ at → within′ ≡ within →
-      Counted N stride j at′ within′
-  counted-as h e f = record { begins = e ∙ h .begins; passed = f ∙ h .passed }
+  pub column-at-as : {j at within at′ within′ : ℕ} → ColumnAt N stride j at within → at′ ≡ at → within′ ≡ within →
+      ColumnAt N stride j at′ within′
+  column-at-as h e f = record { begins = e ∙ h .begins; passed = f ∙ h .passed }
 
   -- column 0 starts at place 0
-  pub counted-none : Counted N stride 0 0 0
-  counted-none = counted-at 0 0 apart (omega arith) (omega arith)
+  pub column-at-none : ColumnAt N stride 0 0 0
+  column-at-none = column-at-by 0 0 apart (omega arith) (omega arith)
 
-  module _ {j at within : ℕ} (h : Counted N stride j at within) where
+  module _ {j at within : ℕ} (h : ColumnAt N stride j at within) where
     -- the next column of the same row of columns starts one place on
-    pub counted-more : (within + 1 ≡ stride → ⊥) → Counted N stride (j + 1) (at + 1) (within + 1)
-    counted-more more =
+    pub column-at-more : (within + 1 ≡ stride → ⊥) → ColumnAt N stride (j + 1) (at + 1) (within + 1)
+    column-at-more more =
         let p = div-add-mod' j stride in
         let less = mod-lt j apart in
-        counted-at (j / stride) (within + 1) (omega arith) (omega arith) (omega arith)
+        column-at-by (j / stride) (within + 1) (omega arith) (omega arith) (omega arith)
 
     -- past the last column of a row the next starts where the next row does
-    pub counted-row : within + 1 ≡ stride → Counted N stride (j + 1) (at + 1 + (stride * N - stride)) 0
-    counted-row last =
+    pub column-at-row : within + 1 ≡ stride → ColumnAt N stride (j + 1) (at + 1 + (stride * N - stride)) 0
+    column-at-row last =
         let p = div-add-mod' j stride in
         let long = mul-le-mul-left stride some in
-        counted-at (j / stride + 1) 0 apart (omega arith) (omega arith)
+        column-at-by (j / stride + 1) 0 apart (omega arith) (omega arith)
 
 -- the columns before j are stepped, the others and what lies past the layer are as before
 pub record LayerStepping (rows : List (List ℕ)) (N stride T : ℕ) (before : List ℕ) (j : ℕ)

@@ -30,7 +30,7 @@ sum-bounded (suc n) f g bound h =
     let q = mul-le-mul-left (f n) (h n (omega arith)) in
     omega arith
 
--- a sum over the numbers below n is the total over their list
+-- a sum over the numbers below n, as the contracts of loops say it, is the total over their list, as the meaning says it
 pub sum-total : (n : ℕ) (f : ℕ → ℕ) → sum n f ≡ total f (below n)
 unfolding sum below total
 sum-total zero f = refl

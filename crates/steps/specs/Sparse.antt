@@ -17,7 +17,7 @@ productsAt row places column i =
     namedAt row places (λ t. getD column t 0) i + namedAt row places (λ t. getD column t 0) (i + 1)
 
 -- the weights to the states below t that are not 0 are named by the first `count` of 8 places, once each; the other
--- places name a weight that is 0. A count above 7 says nothing
+-- places name a weight that is 0. Unspecified for a count above 7
 pub record Naming (row : List ℕ) (t count : ℕ) (places : List ℕ) : Type 0 where
   pub long : length places ≡ 8
   pub inside : (i : ℕ) → i < 8 → getD places i 0 < 32
@@ -30,7 +30,7 @@ pub record Named (row : List ℕ) (N most : ℕ) (places : List ℕ) : Type 0 wh
   pub each : (g : ℕ → ℕ) (m : ℕ) → most ≤ m → m ≤ 8 →
       sum m (namedAt row places g) ≡ sum N (λ t. getD row t 0 * g t)
 
--- so it is in each row, unless `most` is 0
+-- the same for each row, unless `most` is 0
 pub record RowsNamed (rows : List (List ℕ)) (N most : ℕ) (places : List (List ℕ)) : Type 0 where
   pub few : most ≤ 7
   pub each : 1 ≤ most → (s : ℕ) → s < N → Named (getD rows s []) N most (getD places s [])

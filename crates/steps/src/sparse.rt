@@ -84,7 +84,7 @@ pub(crate) fn row_sum(
     dot_named(row, places, column, states, most)
 }
 
-// A state to which a row has weight 0, or `states`.
+// A state to which the row has weight 0, or `states` if there is none.
 fn zero_in(row: &[u16; 32], states: usize) -> usize
     requires { ⌜ states ≤ mostStates ⌝ }
     ensures { λ r. ⌜ (r ≤ states) × (r < states → getD (now (row .entry)) r 0 ≡ 0) ⌝ }
@@ -99,7 +99,7 @@ fn zero_in(row: &[u16; 32], states: usize) -> usize
     states
 }
 
-// Names one more state where its weight is not 0. The count of the named ones is 8 where there are too many.
+// Names state t if its weight is not 0, and returns how many are named now: 8 if they are too many.
 fn name(row: &[u16; 32], t: usize, count: usize, places: &mut [u8; 8]) -> usize
     requires { ⌜ (t < 32) × Naming (now row) t count (now places) ⌝ }
     ensures { λ r. ⌜ Naming (now (row .entry)) (t + 1) r (now (places .exit)) ⌝ }
@@ -114,8 +114,8 @@ fn name(row: &[u16; 32], t: usize, count: usize, places: &mut [u8; 8]) -> usize
     count + 1
 }
 
-// Names the states of a row to which its weight is not 0, and says how many they are: 8 where they are too many. All
-// places name a weight that is 0 before.
+// Names the states to which the row's weight is not 0, and returns how many they are: 8 if they are too many. At the
+// start all places name a weight that is 0.
 fn name_row(row: &[u16; 32], states: usize, places: &mut [u8; 8]) -> usize
     requires { ⌜ (states ≤ mostStates) × Naming (now row) 0 0 (now places) ⌝ }
     ensures { λ r. ⌜ Naming (now (row .entry)) states r (now (places .exit)) ⌝ }
@@ -129,7 +129,7 @@ fn name_row(row: &[u16; 32], states: usize, places: &mut [u8; 8]) -> usize
     count
 }
 
-// The same for any places; 8 too where no weight is 0.
+// The same, whatever the places hold at the start. Returns 8 too if no weight is 0.
 fn name_anew(row: &[u16; 32], states: usize, places: &mut [u8; 8]) -> usize
     requires { ⌜ states ≤ mostStates ⌝ }
     ensures { λ r. ⌜ (r ≤ 7 → Named (now (row .entry)) states r (now (places .exit))) ⌝ }
@@ -150,7 +150,8 @@ fn larger(a: usize, b: usize) -> usize
     if a < b { b } else { a }
 }
 
-// Names the weights of all rows that are not 0, and says how many a row has at most; 0 where a row has too many.
+// Names the weights of all rows that are not 0, and returns how many a row has at most: 0 if some row has too many. No
+// contract says how many exactly; any number that is enough does.
 pub fn name_rows(rows: &[[u16; 32]; 32], states: usize, places: &mut [[u8; 8]; 32]) -> usize
     requires { ⌜ (states ≤ mostStates) × (length (now places) ≡ 32) ⌝ }
     ensures { λ r. ⌜ RowsNamed (now (rows .entry)) states r (now (places .exit)) ⌝ }

@@ -156,14 +156,14 @@ module _ {rows : List (List ℕ)} {N n T d k1 k2 : ℕ} {before : List ℕ} (fit
       step = record {
         chain = fits .chain;
         holds = fits .holds;
-        weighed = omega (arith, fits .sum, fits .weighed);
+        weighed = omega (arith, fits .sums, fits .weighed);
         sizes = fits .sizes;
         room = omega (arith, length-drop (T + T) after, h .long, fits .room);
         bound = d ^ (n * left);
         small = λ k l. omega (arith, getD-drop (T + T) after k 0, h .small k l);
         fits =
             let e : fits .chain .D ^ n * d ^ (n * left) ≡ d ^ n * d ^ (n * left) =
-            ap (λ (x : ℕ). x ^ n * d ^ (n * left)) (fits .sum) in
+            ap (λ (x : ℕ). x ^ n * d ^ (n * left)) (fits .sums) in
             omega (arith, power-more d n left, power-fits);
       };
     }
@@ -221,7 +221,7 @@ module _ {rows : List (List ℕ)} {N n T d k1 k2 : ℕ} {before : List ℕ} (fit
             ))
             inside in
             let same : c .D ^ n * d ^ (n * left) ≡ d ^ n * d ^ (n * left) =
-            ap (λ (x : ℕ). x ^ n * d ^ (n * left)) (fits .sum) in
+            ap (λ (x : ℕ). x ^ n * d ^ (n * left)) (fits .sums) in
             let one-more = power-more d n left in
             let next : d ^ (n * (left + 1)) ≡ d ^ (n * suc left) = ap (λ (x : ℕ). d ^ (n * x)) (add-one left) in
             le-trans (le-of-eq (turned .each c (fits .holds) f (numbers-layer N n third) k in-layer))
@@ -257,7 +257,7 @@ module _ {rows : List (List ℕ)} {N n T d k1 k2 : ℕ} {entry before : List ℕ
     chain = fits .chain;
     holds = fits .holds;
     weighed = fits .weighed;
-    sum = fits .sum;
+    sums = fits .sums;
     sizes = fits .sizes;
     room = omega (arith, fits .room, copied .long);
     ones = λ k l. omega (arith, fits .ones k l, copied .low (T + k) (omega arith));

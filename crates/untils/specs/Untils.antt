@@ -45,7 +45,7 @@ pub record UntilFits (rows : List (List ℕ)) (N n T d k1 k2 : ℕ) (w : List �
   pub chain : Chain
   pub holds : Holds chain rows N
   pub weighed : 1 ≤ d
-  pub sum : chain .D ≡ d
+  pub sums : chain .D ≡ d
   pub sizes : LayerSizes N n T
   pub room : T + T + T ≤ length w
   pub ones : (k : ℕ) → k < T → getD w (T + k) 0 ≤ 1

@@ -1,4 +1,4 @@
--- `path_place` meets its contract. The invariant: the path formula sought is not at the places passed. Assumes nothing.
+-- `path_place` meets its contract. The invariant: the path formula sought is not at the places passed.
 use borrow.Author.Needs.{needs}
 use Prim.Native.Nat.{_-_}
 use mathlib.Core.Logic.{⊎-elim}

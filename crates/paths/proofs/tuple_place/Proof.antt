@@ -1,4 +1,4 @@
--- `tuple_place` meets its contract. The invariant: the number of the members passed. Assumes nothing.
+-- `tuple_place` meets its contract. The invariant: the number of the members passed.
 use Prim.Native.Nat.{_-_, _^_, _<_}
 use native.Mathlib.Omega.{arith}
 use lib.ListN.{length, getD}

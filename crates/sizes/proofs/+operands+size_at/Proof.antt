@@ -1,5 +1,4 @@
 -- `operands` and `size_at` meet their contracts, by what the node wants. The measure is the number of places left, counted twice.
--- Assumes nothing.
 use borrow.Author.Needs.{needs}
 use mathlib.Core.Path.{refl, sym, ap, _∙_}
 use Rattle.trees.specs.Wanted.{operandCount}

@@ -1,4 +1,4 @@
--- `times` meets its contract: the quotient of 2^62 says whether the product is too large. Assumes nothing.
+-- `times` meets its contract: the quotient of 2^62 says whether the product is too large.
 use borrow.Author.Needs.{needs}
 use Prim.Native.Nat.{ℕ, _*_, _≤_}
 use mathlib.Core.Path.{_≡_, sym, ap, _∙_}

@@ -7,20 +7,20 @@ use native.Mathlib.Nat.{div-le-self, mod-lt, mul-le-mul-left}
 use native.Mathlib.Omega.{arith}
 use lib.ListN.{length}
 use Rattle.steps.proofs.Columns.{LayerStepping, layer-none, layer-next, layer-all}
-use Rattle.steps.proofs.Columns.{Counted, counted-as, counted-none, counted-more, counted-row}
+use Rattle.steps.proofs.Columns.{ColumnAt, column-at-as, column-at-none, column-at-more, column-at-row}
 use Rattle.steps.proofs.Columns.{column-fits, columns-are, column-small}
 use Rattle.steps.proofs.step_variable.Statement.{statement}
 use Rattle.steps.proofs.step_variable.Tie as tie
 
 abbrev Inv-loop : tie.InvT-loop
 Inv-loop rows places most states stride tuples layer₀ columns column₀ at₀ within₀ j₀ layer column at within j =
-    LayerStepping rows states stride tuples layer₀ j layer × Counted states stride j at within × (length column ≡ 32)
+    LayerStepping rows states stride tuples layer₀ j layer × ColumnAt states stride j at within × (length column ≡ 32)
 
 abbrev μ-loop : tie.MeasureT-loop
 μ-loop rows places most states stride tuples layer₀ columns column₀ at₀ within₀ j₀ layer column at within j = columns - j
 
 loop-holds : tie.Need-loop-holds Inv-loop μ-loop
-loop-holds c = (layer-none, counted-none (c .before .pre .0 .some) (c .before .pre .0 .apart), refl)
+loop-holds c = (layer-none, column-at-none (c .before .pre .0 .some) (c .before .pre .0 .apart), refl)
 
 step-column-requires : tie.Need-step-column-requires Inv-loop μ-loop
 step-column-requires c κs =
@@ -80,8 +80,8 @@ loop-again c =
     let done = c .before .before .before .step-column .ensures in (
       layer-next pre (omega arith) (inv .0) (rw (inv .1 .begins) at (done .0)),
       ⊎-elim
-          (λ w. counted-as (pre .some) (pre .apart) (counted-row (pre .some) (pre .apart) (inv .1) (w .0 .taken)) (w .1) (w .2))
-          (λ w. counted-as (pre .some) (pre .apart) (counted-more (pre .some) (pre .apart) (inv .1) (w .0 .left)) (w .1) (w .2))
+          (λ w. column-at-as (pre .some) (pre .apart) (column-at-row (pre .some) (pre .apart) (inv .1) (w .0 .taken)) (w .1) (w .2))
+          (λ w. column-at-as (pre .some) (pre .apart) (column-at-more (pre .some) (pre .apart) (inv .1) (w .0 .left)) (w .1) (w .2))
           (c .if1 .came),
       done .1,
     )
