@@ -17,6 +17,10 @@ Inv-loop rows places most states stride at layer₀ column place₀ s₀ layer p
 abbrev μ-loop : tie.MeasureT-loop
 μ-loop rows places most states stride at layer₀ column place₀ s₀ layer place s = states - s
 
+-- where the function starts, seen from the loop
+abbrev start-of : tie.At-loop Inv-loop μ-loop → tie.Start Inv-loop μ-loop
+start-of c = c .before .before .before .before .before
+
 read-column-requires : tie.Need-read-column-requires Inv-loop μ-loop
 read-column-requires c κs = (c .before .before .before .pre .0 .lies, c .before .before .before .pre .2)
 
@@ -26,31 +30,31 @@ loop-holds c = (omega arith, column-none)
 mul-row-sum : tie.Need-mul-row-sum Inv-loop μ-loop
 mul-row-sum c =
     let at-loop = c .before in
-    let start = at-loop .before .before .before .before .before in
+    let start = start-of at-loop in
     omega (arith, start .pre .0 .lies .states)
 
 index-1-row-sum : tie.Need-index-1-row-sum Inv-loop μ-loop
 index-1-row-sum c =
     let at-loop = c .before in
-    let start = at-loop .before .before .before .before .before in
+    let start = start-of at-loop in
     omega (arith, start .pre .0 .lies .states)
 
 mul-row-sum-2 : tie.Need-mul-row-sum-2 Inv-loop μ-loop
 mul-row-sum-2 c =
     let at-loop = c .before .before in
-    let start = at-loop .before .before .before .before .before in
+    let start = start-of at-loop in
     omega (arith, start .pre .0 .lies .states)
 
 index-1-row-sum-2 : tie.Need-index-1-row-sum-2 Inv-loop μ-loop
 index-1-row-sum-2 c =
     let at-loop = c .before .before in
-    let start = at-loop .before .before .before .before .before in
+    let start = start-of at-loop in
     omega (arith, start .pre .0 .lies .states)
 
 row-sum-requires : tie.Need-row-sum-requires Inv-loop μ-loop
 row-sum-requires c κs =
     let at-loop = c .before .before .before .before in
-    let start = at-loop .before .before .before .before .before in
+    let start = start-of at-loop in
     let s = at-loop .loop .s in
     let copied = sum-same (start .args .states)
     (λ t l. ap (λ (x : ℕ). weightIn (start .args .rows .now) s t * x) (at-loop .before .read-column .ensures .each t l)) in
@@ -64,25 +68,25 @@ row-sum-requires c κs =
 mul-layer : tie.Need-mul-layer Inv-loop μ-loop
 mul-layer c =
     let at-loop = c .before .before .before .before .before in
-    let start = at-loop .before .before .before .before .before in
+    let start = start-of at-loop in
     omega (arith, start .pre .0 .lies .inside (at-loop .loop .s) (omega arith), at-loop .loop .inv .1 .long)
 
 slice-write-layer : tie.Need-slice-write-layer Inv-loop μ-loop
 slice-write-layer c =
     let at-loop = c .before .before .before .before .before in
-    let start = at-loop .before .before .before .before .before in
+    let start = start-of at-loop in
     omega (arith, start .pre .0 .lies .inside (at-loop .loop .s) (omega arith), at-loop .loop .inv .1 .long)
 
 add-place : tie.Need-add-place Inv-loop μ-loop
 add-place c =
     let at-loop = c .before .before .before .before .before in
-    let start = at-loop .before .before .before .before .before in
+    let start = start-of at-loop in
     omega (arith, next-near (start .pre .0 .lies) (at-loop .loop .s) (omega arith))
 
 loop-again : tie.Need-loop-again Inv-loop μ-loop
 loop-again c =
     let at-loop = c .before .before .before .before .before in
-    let start = at-loop .before .before .before .before .before in
+    let start = start-of at-loop in
     let s = at-loop .loop .s in
     let copied = sum-same (start .args .states)
     (λ t l. ap (λ (x : ℕ). weightIn (start .args .rows .now) s t * x) (at-loop .before .read-column .ensures .each t l)) in

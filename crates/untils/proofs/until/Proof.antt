@@ -17,6 +17,13 @@ Inv-loop rows states variables d k1 k2 tuples work₀ places most all₀ left₀
 abbrev μ-loop : tie.MeasureT-loop
 μ-loop rows states variables d k1 k2 tuples work₀ places most all₀ left₀ work all left = k2 - left
 
+-- where the second layer has been copied to the third, and where the function starts, seen from the loop
+abbrev copy-of : tie.At-loop Inv-loop μ-loop → tie.After-copy Inv-loop μ-loop
+copy-of c = c .before .before .before
+
+abbrev start-of : tie.At-loop Inv-loop μ-loop → tie.Start Inv-loop μ-loop
+start-of c = copy-of c .before .before .before .before .before
+
 name-rows-requires : tie.Need-name-rows-requires Inv-loop μ-loop
 name-rows-requires c κs = (c .before .before .pre .sizes .states, refl)
 
@@ -36,8 +43,8 @@ loop-holds c =
 scaled-requires : tie.Need-scaled-requires Inv-loop μ-loop
 scaled-requires c κs =
     let at-loop = c .before in
-    let start = at-loop .before .before .before .before .before .before .before .before in
-    let copied = at-loop .before .before .before .copy .ensures in
+    let start = start-of at-loop in
+    let copied = copy-of at-loop .copy .ensures in
     let fits = copied-fits (start .pre) copied in
     let h = at-loop .loop .inv in
     (start .pre .weighed, omega (arith, next-power fits h (omega arith), power-fits fits h (omega arith)))
@@ -45,16 +52,16 @@ scaled-requires c κs =
 turn-requires : tie.Need-turn-requires Inv-loop μ-loop
 turn-requires c κs =
     let at-loop = c .before .before .before .before in
-    let start = at-loop .before .before .before .before .before .before .before .before in
-    let copied = at-loop .before .before .before .copy .ensures in
+    let start = start-of at-loop in
+    let copied = copy-of at-loop .copy .ensures in
     let fits = copied-fits (start .pre) copied in
     (turn-fits fits (at-loop .loop .inv) (omega arith), at-loop .before .before .before .before .before .name-rows .ensures)
 
 loop-again : tie.Need-loop-again Inv-loop μ-loop
 loop-again c =
     let at-loop = c .before .before .before .before .before .before .before in
-    let start = at-loop .before .before .before .before .before .before .before .before in
-    let copied = at-loop .before .before .before .copy .ensures in
+    let start = start-of at-loop in
+    let copied = copy-of at-loop .copy .ensures in
     let fits = copied-fits (start .pre) copied in
     untiling-next fits (at-loop .loop .inv) (omega arith) (c .before .before .before .before .before .scaled .ensures)
     (c .before .before .turn .ensures)
@@ -71,14 +78,14 @@ copy-requires-2 c κs =
 same-length : tie.Need-same-length Inv-loop μ-loop
 same-length c =
     let at-loop = c .before .before .before .before .before in
-    let copied = at-loop .before .before .before .copy .ensures in
+    let copied = copy-of at-loop .copy .ensures in
     c .before .before .copy2 .ensures .long ∙ at-loop .loop .inv .long ∙ copied .long
 
 returns : tie.Need-returns Inv-loop μ-loop
 returns c =
     let at-loop = c .before .before .before .before .before in
-    let start = at-loop .before .before .before .before .before .before .before .before in
-    let copied = at-loop .before .before .before .copy .ensures in
+    let start = start-of at-loop in
+    let copied = copy-of at-loop .copy .ensures in
     let fits = copied-fits (start .pre) copied in
     copied-taken (start .pre) copied
     (untiling-all fits (at-loop .loop .inv) (omega arith) (c .before .before .copy2 .ensures))
