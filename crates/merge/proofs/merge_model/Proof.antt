@@ -25,9 +25,13 @@ use Rattle.refusal.proofs.Listed.{writes-refused, rows-changed}
 use Rattle.merge.proofs.merge_model.Statement.{statement}
 use Rattle.merge.proofs.merge_model.Tie as tie
 
+-- where the function starts, seen from the branch in which the grouping is right
+abbrev start-of : tie.Else1 → tie.Start
+start-of c = c .before .before .before .before .before
+
 -- what the tests say
 grouped : (c : tie.Else1) →
-    let a = c .before .before .before .before .before .args in
+    let a = start-of c .args in
     groupingRight (a .m .n) (a .grouping .now) ≡ true
 grouped c = sym (c .before .grouping-right .ensures) ∙ not-false _ (c .if1 .left)
 
@@ -49,7 +53,7 @@ tested : (c : tie.After-states-alike) →
 tested c =
     let t = c .before .before in
     let e = t .before .before .before .before in
-    let start = e .before .before .before .before .before in
+    let start = start-of e in
     let a = start .args in
     c .states-alike .ensures ∙
     ap₂
@@ -79,7 +83,7 @@ totals-of-requires c κs =
 states-alike-requires : tie.Need-states-alike-requires
 states-alike-requires c κs =
     let e = c .before .before .before .before .before in
-    let start = e .before .before .before .before .before in
+    let start = start-of e in
     let a = start .args in
     let states = right.states-few (a .m) (start .pre .0) in
     let groups = few (a .m) (a .grouping .now) (start .pre .0) (grouped e) in
@@ -89,7 +93,7 @@ states-alike-requires c κs =
 returns-2 : tie.Need-returns-2
 returns-2 c =
     let e = c .before .before .before .before .before .before .before in
-    let a = e .before .before .before .before .before .args in
+    let a = start-of e .args in
     writes-refused (group-rows (a .m) (a .grouping .now) (length (a .out .now))) (fileOf (mergedModel (a .m) (a .grouping .now))) 12
     (groups-13 (a .m) (a .grouping .now) (length (a .out .now)) (grouped e) (sym (tested (c .before)) ∙ not-true _ (c .if2 .taken)))
     refl refl
@@ -97,7 +101,7 @@ returns-2 c =
 model-of-groups-requires : tie.Need-model-of-groups-requires
 model-of-groups-requires c κs =
     let e = c .before .before .before .before .before .before .before .before in
-    let start = e .before .before .before .before .before in
+    let start = start-of e in
     let a = start .args in
     let states = right.states-few (a .m) (start .pre .0) in
     let long = as-long (a .m .n) (a .grouping .now) (grouped e) in
@@ -115,7 +119,7 @@ built : (c : tie.After-model-of-groups) →
 built c =
     let t = c .before .before .before .before .before in
     let e = t .before .before .before .before in
-    let start = e .before .before .before .before .before in
+    let start = start-of e in
     let a = start .args in
     c .model-of-groups .ensures ∙
     ap₂
@@ -131,7 +135,7 @@ returns-3 c =
     let w = c .before .before in
     let g = w .before .before in
     let e = g .before .before .before .before .before .before .before .before .before in
-    let start = e .before .before .before .before .before in
+    let start = start-of e in
     let a = start .args in
     let room = length (a .out .now) in
     let merged = mergedModel (a .m) (a .grouping .now) in
