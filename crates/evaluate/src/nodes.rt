@@ -14,6 +14,7 @@ use fractions::Operation;
 use fractions::codes::combine;
 use fractions::codes::compare;
 use fractions::codes::constant;
+use layers::STATES;
 use layers::plain::always;
 use layers::plain::both;
 use layers::plain::label;
@@ -28,8 +29,8 @@ use steps::joint_step;
 pub fn state_formula(
     nodes: [Slot; 64],
     g: Setting,
-    masks: &[u16; 32],
-    rows: &[[u16; 32]; 32],
+    masks: &[u16; STATES],
+    rows: &[[u16; STATES]; STATES],
     at: usize,
     work: &mut [u64],
 ) -> usize
@@ -71,8 +72,8 @@ pub fn state_formula(
 fn two_formulas(
     nodes: [Slot; 64],
     g: Setting,
-    masks: &[u16; 32],
-    rows: &[[u16; 32]; 32],
+    masks: &[u16; STATES],
+    rows: &[[u16; STATES]; STATES],
     at: usize,
     work: &mut [u64],
 ) -> usize
@@ -96,8 +97,8 @@ fn two_formulas(
 fn expression(
     nodes: [Slot; 64],
     g: Setting,
-    masks: &[u16; 32],
-    rows: &[[u16; 32]; 32],
+    masks: &[u16; STATES],
+    rows: &[[u16; STATES]; STATES],
     at: usize,
     work: &mut [u64],
 ) -> Valued
@@ -137,8 +138,8 @@ fn combined(
     op: Operation,
     nodes: [Slot; 64],
     g: Setting,
-    masks: &[u16; 32],
-    rows: &[[u16; 32]; 32],
+    masks: &[u16; STATES],
+    rows: &[[u16; STATES]; STATES],
     at: usize,
     work: &mut [u64],
 ) -> Valued
@@ -157,8 +158,8 @@ fn combined(
 fn two_expressions(
     nodes: [Slot; 64],
     g: Setting,
-    masks: &[u16; 32],
-    rows: &[[u16; 32]; 32],
+    masks: &[u16; STATES],
+    rows: &[[u16; STATES]; STATES],
     at: usize,
     work: &mut [u64],
 ) -> ValuedTwo
@@ -191,8 +192,8 @@ fn two_expressions(
 pub fn path(
     nodes: [Slot; 64],
     g: Setting,
-    masks: &[u16; 32],
-    rows: &[[u16; 32]; 32],
+    masks: &[u16; STATES],
+    rows: &[[u16; STATES]; STATES],
     at: usize,
     work: &mut [u64],
 ) -> Valued

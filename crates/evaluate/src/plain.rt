@@ -4,6 +4,7 @@ ghost use Rattle.fractions.specs.Operations.{meantRelation};
 ghost use Rattle.untils.specs.Untils.{UntilFits, UntilTaken};
 ghost use Rattle.trees.specs.Listed.{unspelled};
 use crate::Setting;
+use layers::STATES;
 use untils::until;
 
 // The comparison of a node, as the fractions have it.
@@ -20,7 +21,13 @@ pub(crate) fn relation_of(r: sentence::Relation) -> fractions::Relation
 }
 
 // The numerator of until with a window at all tuples, where the first two layers hold the truth of its formulas.
-pub(crate) fn until_within(g: Setting, rows: &[[u16; 32]; 32], from: u32, to: u32, work: &mut [u64])
+pub(crate) fn until_within(
+    g: Setting,
+    rows: &[[u16; STATES]; STATES],
+    from: u32,
+    to: u32,
+    work: &mut [u64],
+)
     requires { ⌜ UntilFits (now rows) (g .states) (g .variables) (g .tuples) (g .d) from to (now work) ⌝ }
     ensures { λ r. ⌜ UntilTaken (now (rows .entry)) (g .states) (g .variables) (g .tuples) (g .d) from to
         (now (work .entry)) (now (work .exit)) ⌝ }

@@ -2,3 +2,6 @@
 // layer, the next T the second, and so on.
 pub mod plain;
 pub mod power;
+
+// The most states of a model, and the room of its masks, rows and columns.
+pub const STATES: usize = 32;

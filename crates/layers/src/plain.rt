@@ -6,6 +6,7 @@ ghost use lib.Dec.{eqb};
 ghost use lib.ListN.{length};
 ghost use Rattle.layers.specs.Layers.{WrittenFront, Swapped, negatedAt, bothAt, bitAt};
 ghost use Rattle.layers.specs.Held.{mostStates, LabelReady, LabelDone};
+use crate::STATES;
 use crate::power::scaled;
 
 // Sets the first numbers to one value.
@@ -46,7 +47,14 @@ fn bit_of(mask: u16, l: u8) -> u64
 
 // The truth of a label: 1 at the tuples where the state of the variable has bit l in its mask. The variable's state
 // changes every `stride` tuples.
-fn labelled(masks: &[u16; 32], l: u8, states: usize, stride: usize, tuples: usize, work: &mut [u64])
+fn labelled(
+    masks: &[u16; STATES],
+    l: u8,
+    states: usize,
+    stride: usize,
+    tuples: usize,
+    work: &mut [u64],
+)
     requires { ⌜ (l < 16) × (1 ≤ states) × (states ≤ mostStates) × (1 ≤ stride) × (tuples ≤ length (now work)) ⌝ }
     ensures { λ r. ⌜ WrittenFront tuples (λ k. bitAt (now (masks .entry)) l (k / stride % states)) (now (work .entry))
         (now (work .exit)) ⌝ }
@@ -61,7 +69,7 @@ fn labelled(masks: &[u16; 32], l: u8, states: usize, stride: usize, tuples: usiz
 
 // The truth of label l of a variable's state. The variables after it change before it does: its stride is N to their number.
 pub fn label(
-    masks: &[u16; 32],
+    masks: &[u16; STATES],
     l: u8,
     variable: u8,
     states: usize,

@@ -23,7 +23,7 @@ pub record ColumnIn (N stride at : ℕ) (w : List ℕ) : Type 0 where
 
 -- the column's numbers have been copied
 pub record ColumnRead (N stride at : ℕ) (w column : List ℕ) : Type 0 where
-  pub long : length column ≡ 32
+  pub long : length column ≡ mostStates
   pub each : (s : ℕ) → s < N → getD column s 0 ≡ getD w (at + s * stride) 0
 
 -- a column lies in the list, and no sum of its step is above 2^62

@@ -5,13 +5,16 @@ pub mod sparse;
 ghost use mathlib.Core.Path.{_≡_};
 ghost use Prim.Native.Nat.{_*_, _<_};
 ghost use lib.ListN.{length};
+ghost use Rattle.layers.specs.Held.{mostStates};
 ghost use Rattle.steps.specs.Sparse.{RowsNamed};
 ghost use Rattle.steps.specs.Columns.{ColumnIn, ColumnRead, ColumnFits, ColumnStepped, LayerFits, LayerStepped};
 ghost use Rattle.steps.specs.Steps.{StepFits, Stepped};
+use layers::STATES;
+use sparse::PLACES;
 
 // Reads the numbers of a column.
-fn read_column(states: usize, stride: usize, at: usize, layer: &[u64], column: &mut [u64; 32])
-    requires { ⌜ ColumnIn states stride at (now layer) × (length (now column) ≡ 32) ⌝ }
+fn read_column(states: usize, stride: usize, at: usize, layer: &[u64], column: &mut [u64; STATES])
+    requires { ⌜ ColumnIn states stride at (now layer) × (length (now column) ≡ mostStates) ⌝ }
     ensures { λ r. ⌜ ColumnRead states stride at (now (layer .entry)) (now (column .exit)) ⌝ }
 {
     let mut place = at;
@@ -25,19 +28,19 @@ fn read_column(states: usize, stride: usize, at: usize, layer: &[u64], column: &
 
 // Steps the variable's state in one column: its numbers are copied, then each is the sum of its state's row.
 fn step_column(
-    rows: &[[u16; 32]; 32],
-    places: &[[u8; 8]; 32],
+    rows: &[[u16; STATES]; STATES],
+    places: &[[u8; PLACES]; STATES],
     most: usize,
     states: usize,
     stride: usize,
     at: usize,
     layer: &mut [u64],
-    column: &mut [u64; 32],
+    column: &mut [u64; STATES],
 )
     requires { ⌜ ColumnFits (now rows) states stride at (now layer) × RowsNamed (now rows) states most (now places) ×
-        (length (now column) ≡ 32) ⌝ }
+        (length (now column) ≡ mostStates) ⌝ }
     ensures { λ r. ⌜ ColumnStepped (now (rows .entry)) states stride at (now (layer .entry)) (now (layer .exit)) ×
-        (length (now (column .exit)) ≡ 32) ⌝ }
+        (length (now (column .exit)) ≡ mostStates) ⌝ }
 {
     read_column(states, stride, at, layer, column);
     let mut place = at;
@@ -52,8 +55,8 @@ fn step_column(
 // Steps one variable at all tuples. Its state changes every `stride` places: where `stride` columns have been stepped,
 // the next starts past their last places.
 fn step_variable(
-    rows: &[[u16; 32]; 32],
-    places: &[[u8; 8]; 32],
+    rows: &[[u16; STATES]; STATES],
+    places: &[[u8; PLACES]; STATES],
     most: usize,
     states: usize,
     stride: usize,
@@ -64,7 +67,7 @@ fn step_variable(
     ensures { λ r. ⌜ LayerStepped (now (rows .entry)) states stride tuples (now (layer .entry)) (now (layer .exit)) ⌝ }
 {
     let columns = tuples / states;
-    let mut column = [0u64; 32];
+    let mut column = [0u64; STATES];
     let mut at: usize = 0;
     let mut within: usize = 0;
     let mut j: usize = 0;
@@ -82,8 +85,8 @@ fn step_variable(
 
 // A joint step by the places that name the rows' weights: all n variables step, the last first.
 pub fn joint_named(
-    rows: &[[u16; 32]; 32],
-    places: &[[u8; 8]; 32],
+    rows: &[[u16; STATES]; STATES],
+    places: &[[u8; PLACES]; STATES],
     most: usize,
     states: usize,
     variables: usize,
@@ -105,7 +108,7 @@ pub fn joint_named(
 // A joint step. The layer of a function becomes the layer of its step; from a formula's truth it is the numerator of
 // next.
 pub fn joint_step(
-    rows: &[[u16; 32]; 32],
+    rows: &[[u16; STATES]; STATES],
     states: usize,
     variables: usize,
     tuples: usize,
@@ -114,7 +117,7 @@ pub fn joint_step(
     requires { ⌜ StepFits (now rows) states variables tuples (now work) ⌝ }
     ensures { λ r. ⌜ Stepped (now (rows .entry)) states variables tuples (now (work .entry)) (now (work .exit)) ⌝ }
 {
-    let mut places = [[0u8; 8]; 32];
+    let mut places = [[0u8; PLACES]; STATES];
     let most = sparse::name_rows(rows, states, &mut places);
     joint_named(rows, &places, most, states, variables, tuples, work);
 }

@@ -5,7 +5,14 @@ ghost use lib.ListN.{length, getD};
 ghost use Rattle.counting.specs.Below.{sum};
 ghost use Rattle.meaning.specs.Size.{limit};
 ghost use Rattle.layers.specs.Held.{mostStates};
-ghost use Rattle.steps.specs.Sparse.{productsAt, Naming, Named, RowsNamed};
+ghost use Rattle.steps.specs.Sparse.{placesInRow, mostNamed, productsAt, Naming, Named, RowsNamed};
+use layers::STATES;
+
+// The places of a row, which name states to which its weight is not 0.
+pub const PLACES: usize = 8;
+
+// The most of them that are used. Products are made two at a time, so one place more is read.
+const MOST: usize = 7;
 
 // A weight as a wider number.
 fn wide(x: u16) -> u64
@@ -15,7 +22,7 @@ fn wide(x: u16) -> u64
 }
 
 // The sum over the states of a row's weight times a column's number.
-fn dot(row: &[u16; 32], column: &[u64; 32], states: usize) -> u64
+fn dot(row: &[u16; STATES], column: &[u64; STATES], states: usize) -> u64
     requires { ⌜ (states ≤ mostStates) × (sum states (λ t. getD (now row) t 0 * getD (now column) t 0) ≤ limit) ⌝ }
     ensures { λ r. ⌜ r ≡ sum states (λ t. getD (now (row .entry)) t 0 * getD (now (column .entry)) t 0) ⌝ }
 {
@@ -29,8 +36,8 @@ fn dot(row: &[u16; 32], column: &[u64; 32], states: usize) -> u64
 }
 
 // A row's weight times a column's number, at a place.
-fn product(row: &[u16; 32], column: &[u64; 32], place: u8) -> u64
-    requires { ⌜ (place < 32) × (getD (now row) place 0 * getD (now column) place 0 ≤ limit) ⌝ }
+fn product(row: &[u16; STATES], column: &[u64; STATES], place: u8) -> u64
+    requires { ⌜ (place < mostStates) × (getD (now row) place 0 * getD (now column) place 0 ≤ limit) ⌝ }
     ensures { λ r. ⌜ r ≡ getD (now (row .entry)) place 0 * getD (now (column .entry)) place 0 ⌝ }
 {
     let t = place as usize;
@@ -38,8 +45,9 @@ fn product(row: &[u16; 32], column: &[u64; 32], place: u8) -> u64
 }
 
 // The products at two places of a row that are neighbours.
-fn pair(row: &[u16; 32], places: &[u8; 8], column: &[u64; 32], i: usize) -> u64
-    requires { ⌜ (i ≤ 6) × ((k : ℕ) → k < 8 → getD (now places) k 0 < 32) × (productsAt (now row) (now places) (now column) i ≤ limit) ⌝ }
+fn pair(row: &[u16; STATES], places: &[u8; PLACES], column: &[u64; STATES], i: usize) -> u64
+    requires { ⌜ (i ≤ 6) × ((k : ℕ) → k < placesInRow → getD (now places) k 0 < mostStates) ×
+        (productsAt (now row) (now places) (now column) i ≤ limit) ⌝ }
     ensures { λ r. ⌜ r ≡ productsAt (now (row .entry)) (now (places .entry)) (now (column .entry)) i ⌝ }
 {
     product(row, column, places[i]) + product(row, column, places[i + 1])
@@ -47,13 +55,13 @@ fn pair(row: &[u16; 32], places: &[u8; 8], column: &[u64; 32], i: usize) -> u64
 
 // The same sum as `dot`, over the places that name the weights: two at a time, since most rows have one or two.
 fn dot_named(
-    row: &[u16; 32],
-    places: &[u8; 8],
-    column: &[u64; 32],
+    row: &[u16; STATES],
+    places: &[u8; PLACES],
+    column: &[u64; STATES],
     states: usize,
     most: usize,
 ) -> u64
-    requires { ⌜ (most ≤ 7) × Named (now row) states most (now places) ×
+    requires { ⌜ (most ≤ mostNamed) × Named (now row) states most (now places) ×
         (sum states (λ t. getD (now row) t 0 * getD (now column) t 0) ≤ limit) ⌝ }
     ensures { λ r. ⌜ r ≡ sum states (λ t. getD (now (row .entry)) t 0 * getD (now (column .entry)) t 0) ⌝ }
 {
@@ -68,13 +76,13 @@ fn dot_named(
 
 // The sum over the states: by the places that name the weights, or where there are none (`most` is 0) by all states.
 pub(crate) fn row_sum(
-    row: &[u16; 32],
-    places: &[u8; 8],
-    column: &[u64; 32],
+    row: &[u16; STATES],
+    places: &[u8; PLACES],
+    column: &[u64; STATES],
     states: usize,
     most: usize,
 ) -> u64
-    requires { ⌜ (states ≤ mostStates) × (most ≤ 7) × (1 ≤ most → Named (now row) states most (now places)) ×
+    requires { ⌜ (states ≤ mostStates) × (most ≤ mostNamed) × (1 ≤ most → Named (now row) states most (now places)) ×
         (sum states (λ t. getD (now row) t 0 * getD (now column) t 0) ≤ limit) ⌝ }
     ensures { λ r. ⌜ r ≡ sum states (λ t. getD (now (row .entry)) t 0 * getD (now (column .entry)) t 0) ⌝ }
 {
@@ -85,7 +93,7 @@ pub(crate) fn row_sum(
 }
 
 // A state to which the row has weight 0, or `states` if there is none.
-fn zero_in(row: &[u16; 32], states: usize) -> usize
+fn zero_in(row: &[u16; STATES], states: usize) -> usize
     requires { ⌜ states ≤ mostStates ⌝ }
     ensures { λ r. ⌜ (r ≤ states) × (r < states → getD (now (row .entry)) r 0 ≡ 0) ⌝ }
 {
@@ -100,15 +108,15 @@ fn zero_in(row: &[u16; 32], states: usize) -> usize
 }
 
 // Names state t if its weight is not 0, and returns how many are named now: 8 if they are too many.
-fn name(row: &[u16; 32], t: usize, count: usize, places: &mut [u8; 8]) -> usize
-    requires { ⌜ (t < 32) × Naming (now row) t count (now places) ⌝ }
+fn name(row: &[u16; STATES], t: usize, count: usize, places: &mut [u8; PLACES]) -> usize
+    requires { ⌜ (t < mostStates) × Naming (now row) t count (now places) ⌝ }
     ensures { λ r. ⌜ Naming (now (row .entry)) (t + 1) r (now (places .exit)) ⌝ }
 {
     if row[t] == 0 {
         return count;
     }
-    if 7 <= count {
-        return 8;
+    if MOST <= count {
+        return PLACES;
     }
     places[count] = t as u8;
     count + 1
@@ -116,7 +124,7 @@ fn name(row: &[u16; 32], t: usize, count: usize, places: &mut [u8; 8]) -> usize
 
 // Names the states to which the row's weight is not 0, and returns how many they are: 8 if they are too many. At the
 // start all places name a weight that is 0.
-fn name_row(row: &[u16; 32], states: usize, places: &mut [u8; 8]) -> usize
+fn name_row(row: &[u16; STATES], states: usize, places: &mut [u8; PLACES]) -> usize
     requires { ⌜ (states ≤ mostStates) × Naming (now row) 0 0 (now places) ⌝ }
     ensures { λ r. ⌜ Naming (now (row .entry)) states r (now (places .exit)) ⌝ }
 {
@@ -130,37 +138,41 @@ fn name_row(row: &[u16; 32], states: usize, places: &mut [u8; 8]) -> usize
 }
 
 // The same, whatever the places hold at the start. Returns 8 too if no weight is 0.
-fn name_anew(row: &[u16; 32], states: usize, places: &mut [u8; 8]) -> usize
+fn name_anew(row: &[u16; STATES], states: usize, places: &mut [u8; PLACES]) -> usize
     requires { ⌜ states ≤ mostStates ⌝ }
-    ensures { λ r. ⌜ (r ≤ 7 → Named (now (row .entry)) states r (now (places .exit))) ⌝ }
+    ensures { λ r. ⌜ (r ≤ mostNamed → Named (now (row .entry)) states r (now (places .exit))) ⌝ }
 {
     let spare = zero_in(row, states);
     if spare == states {
-        return 8;
+        return PLACES;
     }
-    *places = [spare as u8; 8];
+    *places = [spare as u8; PLACES];
     name_row(row, states, places)
 }
 
 // The larger of two counts.
 fn larger(a: usize, b: usize) -> usize
-    requires { ⌜ (a ≤ 7) × (b ≤ 7) ⌝ }
-    ensures { λ r. ⌜ (a ≤ r) × (b ≤ r) × (r ≤ 7) ⌝ }
+    requires { ⌜ (a ≤ mostNamed) × (b ≤ mostNamed) ⌝ }
+    ensures { λ r. ⌜ (a ≤ r) × (b ≤ r) × (r ≤ mostNamed) ⌝ }
 {
     if a < b { b } else { a }
 }
 
 // Names the weights of all rows that are not 0, and returns how many a row has at most: 0 if some row has too many. No
 // contract says how many exactly; any number that is enough does.
-pub fn name_rows(rows: &[[u16; 32]; 32], states: usize, places: &mut [[u8; 8]; 32]) -> usize
-    requires { ⌜ (states ≤ mostStates) × (length (now places) ≡ 32) ⌝ }
+pub fn name_rows(
+    rows: &[[u16; STATES]; STATES],
+    states: usize,
+    places: &mut [[u8; PLACES]; STATES],
+) -> usize
+    requires { ⌜ (states ≤ mostStates) × (length (now places) ≡ mostStates) ⌝ }
     ensures { λ r. ⌜ RowsNamed (now (rows .entry)) states r (now (places .exit)) ⌝ }
 {
     let mut most: usize = 1;
     let mut s: usize = 0;
     while s < states {
         let count = name_anew(&rows[s], states, &mut places[s]);
-        if 7 < count {
+        if MOST < count {
             return 0;
         }
         most = larger(most, count);

@@ -6,8 +6,10 @@ ghost use lib.ListN.{length, getD};
 ghost use Rattle.layers.specs.Layers.{WrittenAt};
 ghost use Rattle.steps.specs.Sparse.{RowsNamed};
 ghost use Rattle.untils.specs.Untils.{choice, choiceAt, TurnFits, Turned, UntilFits, UntilTaken};
+use layers::STATES;
 use layers::power::scaled;
 use steps::joint_named;
+use steps::sparse::PLACES;
 use steps::sparse::name_rows;
 
 // What an until has at one tuple: all runs where the window is open and the second formula is met; else the number
@@ -57,8 +59,8 @@ fn copy(count: usize, from: usize, to: usize, work: &mut [u64])
 
 // One layer more: a step of the third layer, then the choice.
 fn turn(
-    rows: &[[u16; 32]; 32],
-    places: &[[u8; 8]; 32],
+    rows: &[[u16; STATES]; STATES],
+    places: &[[u8; PLACES]; STATES],
     most: usize,
     states: usize,
     variables: usize,
@@ -87,7 +89,7 @@ fn turn(
 // second that of the second. The third counts, by steps left, the weight of the runs taken: with none left, where the
 // second formula is met; with one more, by a joint step and the choice. At last it is copied to the front.
 pub fn until(
-    rows: &[[u16; 32]; 32],
+    rows: &[[u16; STATES]; STATES],
     states: usize,
     variables: usize,
     d: u64,
@@ -99,7 +101,7 @@ pub fn until(
     requires { ⌜ UntilFits (now rows) states variables tuples d k1 k2 (now work) ⌝ }
     ensures { λ r. ⌜ UntilTaken (now (rows .entry)) states variables tuples d k1 k2 (now (work .entry)) (now (work .exit)) ⌝ }
 {
-    let mut places = [[0u8; 8]; 32];
+    let mut places = [[0u8; PLACES]; STATES];
     let most = name_rows(rows, states, &mut places);
     copy(tuples, tuples, tuples + tuples, work);
     let mut all: u64 = 1;
