@@ -13,7 +13,7 @@ use Rattle.sentence.specs.declared.Node.the-variants.{Probability, Constant, Su
 use Rattle.sentence.specs.declared.Node.the-variants.{Difference as DifferenceNode, Product as ProductNode}
 use Rattle.meaning.specs.Chain.{Chain}
 use Rattle.meaning.specs.Tree.{Expression, probability}
-use Rattle.meaning.specs.Size.{limit, size, addS, mulS, exceedsIn, exceedsFrom, largeSize}
+use Rattle.meaning.specs.Size.{sizeLimit, size, addS, mulS, exceedsIn, exceedsFrom, largeSize}
 use Rattle.meaning.proofs.Bounds.{size-fits}
 use Rattle.meaning.proofs.Tests.{or-left}
 use Rattle.layers.specs.Layers.{Layer, WrittenFront}
@@ -157,7 +157,7 @@ module _ {op : Operation} {nodes : List Slot} {g : Setting} {masks : List ℕ} {
       (subst (λ (d : ℕ). CombineFits op (size (r .first) (c .D) n .d) d (g .tuples) mid) (sym (h .2)) m)
 
   -- the denominators' product is at most 2^62
-  pub bottoms-small : {w : List ℕ} → CombinedReady op nodes g masks rows at w → two .first * two .second ≤ limit
+  pub bottoms-small : {w : List ℕ} → CombinedReady op nodes g masks rows at w → two .first * two .second ≤ sizeLimit
   bottoms-small ready =
       let r = ready .two in
       let c = r .chain in

@@ -12,7 +12,7 @@ use Rattle.sentence.specs.declared.Slot.{Slot}
 use Rattle.meaning.specs.Chain.{Chain}
 use Rattle.meaning.specs.Tree.{Formula, Expression, PathFormula}
 use Rattle.meaning.specs.Meaning.{holds, numerator, denominator}
-use Rattle.meaning.specs.Size.{limit, size, exceeds, exceedsIn, exceedsFrom}
+use Rattle.meaning.specs.Size.{sizeLimit, size, exceeds, exceedsIn, exceedsFrom}
 use Rattle.layers.specs.Layers.{Layer, truth, bitAt}
 use Rattle.layers.specs.Held.{mostVariables, Holds, LayerSizes}
 use Rattle.fractions.specs.Values.{numeratorCodes, expressionOf}
@@ -70,7 +70,7 @@ module _ (nodes : List Slot) (g : Setting) (masks : List ℕ) (rows : List (List
     pub stands : PathAt nodes at path end
     pub ranged : RangedFrom (g .variables) path
     pub fits : exceedsFrom path (chain .D) (g .variables) ≡ false
-    pub small : denominator path (chain .D) (g .variables) ≤ limit
+    pub small : denominator path (chain .D) (g .variables) ≤ sizeLimit
     pub room : needFrom path * g .tuples ≤ length w
 
   -- two state formulas, one after another

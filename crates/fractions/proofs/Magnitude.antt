@@ -11,7 +11,7 @@ use lib.Signed.{mag, ltZ, nonNeg}
 use mir.Syntax.{w64}
 use mir.Val.{Fits, SFits, toZ, ofZ}
 use mir.Facts.{toZ-ofZ}
-use Rattle.meaning.specs.Size.{limit}
+use Rattle.meaning.specs.Size.{sizeLimit}
 use Rattle.meaning.proofs.Magnitude.{abs-diff}
 use Rattle.fractions.specs.Codes.{upperHalf, coded, decoded, Small}
 
@@ -20,7 +20,7 @@ mag-le : (z : ℤ) → mag z ≤ natAbs z
 mag-le (pos n) = le-refl n
 mag-le (negsuc n) = omega arith
 
-pub small-fits : (z : ℤ) → natAbs z ≤ limit → SFits w64 z
+pub small-fits : (z : ℤ) → natAbs z ≤ sizeLimit → SFits w64 z
 small-fits z h = record { sfits = omega (arith, mag-le z) }
 
 -- a number in the lower half is read as it is
@@ -59,7 +59,7 @@ decoded-fits x h = here (ltb x upperHalf) refl
 pub decoded-reads : {z : ℤ} {x : ℕ} → Fits w64 x → z ≡ decoded x → toZ w64 (ofZ w64 z) ≡ decoded x
 decoded-reads {x = x} h e = ap (λ (z : ℤ). toZ w64 (ofZ w64 z)) e ∙ toZ-ofZ (decoded-fits x (h .fits))
 
-pub minus-fits : (z : ℤ) → natAbs z ≤ limit → natAbs (pos 0 -ℤ z) ≤ limit
+pub minus-fits : (z : ℤ) → natAbs z ≤ sizeLimit → natAbs (pos 0 -ℤ z) ≤ sizeLimit
 minus-fits z h = omega (arith, abs-diff (pos 0) z)
 
 -- a test below zero, and the code

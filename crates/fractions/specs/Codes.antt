@@ -6,7 +6,7 @@ use Prim.Native.Nat.{ℕ, suc, _+_, _-_, _*_, _^_, _≤_}
 use mathlib.Core.Bool.{cond}
 use lib.Dec.{ltb}
 use lib.IntN.{ℤ, pos, negsuc, negℤ, natAbs}
-use Rattle.meaning.specs.Size.{limit}
+use Rattle.meaning.specs.Size.{sizeLimit}
 
 -- the codes from 2^63 on stand for negative numerators
 abbrev pub upperHalf : ℕ
@@ -23,9 +23,9 @@ decoded x = cond (ltb x upperHalf) (pos x) (negℤ (pos (x - upperHalf)))
 
 -- the numerator's size is at most 2^62
 pub record Small (z : ℤ) : Type 0 where
-  pub size : natAbs z ≤ limit
+  pub size : natAbs z ≤ sizeLimit
 
 -- a denominator is at most 2^62, and so is the size of a numerator times it
 pub record CrossFits (a : ℤ) (d : ℕ) : Type 0 where
-  pub small : d ≤ limit
-  pub size : natAbs a * d ≤ limit
+  pub small : d ≤ sizeLimit
+  pub size : natAbs a * d ≤ sizeLimit

@@ -9,7 +9,7 @@ use lib.IntN.{ℤ, natAbs}
 use lib.ListN.{length, getD}
 use Rattle.meaning.specs.Tree as tree
 use Rattle.meaning.specs.Meaning.{Fraction, addF, subF, mulF, compared}
-use Rattle.meaning.specs.Size.{Size, limit, addS, mulS}
+use Rattle.meaning.specs.Size.{Size, sizeLimit, addS, mulS}
 use Rattle.fractions.specs.declared.Operation.{Operation}
 use Rattle.fractions.specs.declared.Operation.the-variants.{Sum, Difference, Product}
 use Rattle.fractions.specs.declared.Relation.{Relation}
@@ -44,9 +44,9 @@ meantRelation Greater = tree.greater
 
 -- the denominators are at most 2^62, and so is the bound of the operation's numerator
 pub record OperandsFit (op : Operation) (a : ℤ) (d1 : ℕ) (b : ℤ) (d2 : ℕ) : Type 0 where
-  pub left : d1 ≤ limit
-  pub right : d2 ≤ limit
-  pub bound : sized op (record { d = d1; m = natAbs a }) (record { d = d2; m = natAbs b }) .m ≤ limit
+  pub left : d1 ≤ sizeLimit
+  pub right : d2 ≤ sizeLimit
+  pub bound : sized op (record { d = d1; m = natAbs a }) (record { d = d2; m = natAbs b }) .m ≤ sizeLimit
 
 -- both cross products fit
 pub record CrossesFit (a : ℤ) (d1 : ℕ) (b : ℤ) (d2 : ℕ) : Type 0 where

@@ -2,7 +2,7 @@
 ghost use mathlib.Core.Path.{_≡_};
 ghost use Prim.Native.Nat.{_+_, _*_, _≤_, _<_};
 ghost use lib.IntN.{pos, natAbs, _+ℤ_, _-ℤ_, _*ℤ_};
-ghost use Rattle.meaning.specs.Size.{limit};
+ghost use Rattle.meaning.specs.Size.{sizeLimit};
 ghost use Rattle.fractions.specs.Codes.{upperHalf, coded, decoded, Small, CrossFits};
 
 // Codes from 2^63 on stand for negative numerators.
@@ -18,7 +18,7 @@ fn signed(x: u64) -> i64
 
 // The sum of two numerators.
 pub(crate) fn plus(a: i64, b: i64) -> i64
-    requires { ⌜ natAbs a + natAbs b ≤ limit ⌝ }
+    requires { ⌜ natAbs a + natAbs b ≤ sizeLimit ⌝ }
     ensures { λ r. ⌜ r ≡ a +ℤ b ⌝ }
 {
     a + b
@@ -26,7 +26,7 @@ pub(crate) fn plus(a: i64, b: i64) -> i64
 
 // The difference of two numerators.
 pub(crate) fn minus(a: i64, b: i64) -> i64
-    requires { ⌜ natAbs a + natAbs b ≤ limit ⌝ }
+    requires { ⌜ natAbs a + natAbs b ≤ sizeLimit ⌝ }
     ensures { λ r. ⌜ r ≡ a -ℤ b ⌝ }
 {
     a - b
@@ -34,7 +34,7 @@ pub(crate) fn minus(a: i64, b: i64) -> i64
 
 // The product of two numerators.
 pub(crate) fn times(a: i64, b: i64) -> i64
-    requires { ⌜ natAbs a * natAbs b ≤ limit ⌝ }
+    requires { ⌜ natAbs a * natAbs b ≤ sizeLimit ⌝ }
     ensures { λ r. ⌜ r ≡ a *ℤ b ⌝ }
 {
     a * b

@@ -7,38 +7,38 @@ use native.Mathlib.Numerals.{add-one}
 use native.Mathlib.Omega.{arith}
 use borrow.Author.Tests.{lt-ltb}
 use lib.Dec.{ltb}
-use Rattle.meaning.specs.Size.{limit, tooLarge}
+use Rattle.meaning.specs.Size.{sizeLimit, tooLarge}
 use Rattle.sizes.specs.Sizing.{capped}
 
-pub capped-small : (x : ℕ) → x ≤ (limit + 1) → capped x ≡ x
+pub capped-small : (x : ℕ) → x ≤ (sizeLimit + 1) → capped x ≡ x
 unfolding capped
 capped-small x h = omega arith
 
-pub capped-large : (x : ℕ) → (limit + 1) ≤ x → capped x ≡ (limit + 1)
+pub capped-large : (x : ℕ) → (sizeLimit + 1) ≤ x → capped x ≡ (sizeLimit + 1)
 unfolding capped
 capped-large x h = omega arith
 
-pub capped-bound : (x : ℕ) → capped x ≤ (limit + 1)
+pub capped-bound : (x : ℕ) → capped x ≤ (sizeLimit + 1)
 unfolding capped
 capped-bound x = omega arith
 
-pub capped-result : (r x : ℕ) → r ≡ capped x → r ≤ (limit + 1)
+pub capped-result : (r x : ℕ) → r ≡ capped x → r ≤ (sizeLimit + 1)
 capped-result r x e = omega (arith, e, capped-bound x)
 
 -- a capped factor is as good as the number
-absorbs : (x y : ℕ) → (limit + 1) ≤ x → capped ((limit + 1) * y) ≡ capped (x * y)
+absorbs : (x y : ℕ) → (sizeLimit + 1) ≤ x → capped ((sizeLimit + 1) * y) ≡ capped (x * y)
 absorbs x zero h =
-    let e : (limit + 1) * zero ≡ x * zero = omega arith in
+    let e : (sizeLimit + 1) * zero ≡ x * zero = omega arith in
     ap capped e
-absorbs x (suc y) h = capped-large ((limit + 1) * suc y) (omega arith) ∙ sym (capped-large (x * suc y) (omega arith))
+absorbs x (suc y) h = capped-large ((sizeLimit + 1) * suc y) (omega arith) ∙ sym (capped-large (x * suc y) (omega arith))
 
 capped-left : (x y : ℕ) → capped (capped x * y) ≡ capped (x * y)
-capped-left x y = by (decLe x (limit + 1))
+capped-left x y = by (decLe x (sizeLimit + 1))
   where
-    by : Dec (x ≤ (limit + 1)) → capped (capped x * y) ≡ capped (x * y)
+    by : Dec (x ≤ (sizeLimit + 1)) → capped (capped x * y) ≡ capped (x * y)
     by (yes h) = ap (λ (z : ℕ). capped (z * y)) (capped-small x h)
     by (no h) =
-        let l : (limit + 1) ≤ x = omega arith in
+        let l : (sizeLimit + 1) ≤ x = omega arith in
         ap (λ (z : ℕ). capped (z * y)) (capped-large x l) ∙ absorbs x y l
 
 pub capped-times : (x y : ℕ) → capped (capped x * capped y) ≡ capped (x * y)
@@ -51,25 +51,25 @@ capped-plus x y = omega arith
 
 pub capped-too : (x : ℕ) → tooLarge (capped x) ≡ tooLarge x
 unfolding tooLarge
-capped-too x = by (decLe x limit)
+capped-too x = by (decLe x sizeLimit)
   where
-    by : Dec (x ≤ limit) → ltb limit (capped x) ≡ ltb limit x
-    by (yes h) = ap (ltb limit) (capped-small x (omega arith))
+    by : Dec (x ≤ sizeLimit) → ltb sizeLimit (capped x) ≡ ltb sizeLimit x
+    by (yes h) = ap (ltb sizeLimit) (capped-small x (omega arith))
     by (no h) =
-        let l : (limit + 1) ≤ x = omega arith in
-        lt-ltb limit (capped x) (omega (arith, capped-large x l)) ∙ sym (lt-ltb limit x (omega arith))
+        let l : (sizeLimit + 1) ≤ x = omega arith in
+        lt-ltb sizeLimit (capped x) (omega (arith, capped-large x l)) ∙ sym (lt-ltb sizeLimit x (omega arith))
 
 -- the quotient says whether a product is too large
-pub product-large : (a b : ℕ) → 1 ≤ b → limit / b < a → (limit + 1) ≤ a * b
+pub product-large : (a b : ℕ) → 1 ≤ b → sizeLimit / b < a → (sizeLimit + 1) ≤ a * b
 product-large a b h l =
-    let d = div-add-mod limit b in
-    let m = mod-lt limit {m = b} h in
+    let d = div-add-mod sizeLimit b in
+    let m = mod-lt sizeLimit {m = b} h in
     let p = mul-le-mul-right b l in
     omega (arith, d, m, p)
 
-pub product-small : (a b : ℕ) → a ≤ limit / b → a * b ≤ limit
+pub product-small : (a b : ℕ) → a ≤ sizeLimit / b → a * b ≤ sizeLimit
 product-small a b l =
-    let d = div-add-mod limit b in
+    let d = div-add-mod sizeLimit b in
     let p = mul-le-mul-right b l in
     omega (arith, d, p)
 

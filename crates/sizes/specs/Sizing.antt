@@ -11,7 +11,7 @@ use Rattle.sentence.specs.declared.Node.{Node}
 use Rattle.sentence.specs.Writing.{wantsOf}
 use Rattle.meaning.specs.Tree.{Formula, Expression, PathFormula}
 use Rattle.meaning.specs.Meaning.{denominator}
-use Rattle.meaning.specs.Size.{limit, size, tooLarge, exceeds, exceedsIn, exceedsFrom}
+use Rattle.meaning.specs.Size.{sizeLimit, size, tooLarge, exceeds, exceedsIn, exceedsFrom}
 use Rattle.trees.specs.Standing.{nodeAt, FormulaAt, ExpressionAt, PathAt}
 use Rattle.trees.specs.Wanted.{operandCount}
 use Rattle.sizes.specs.declared.Measure.{Measure}
@@ -19,7 +19,7 @@ use Rattle.sizes.specs.declared.MeasureTwo.{MeasureTwo}
 
 -- the number itself up to 2^62, and 2^62 + 1 above
 unfoldable pub capped : ℕ → ℕ
-capped x = min x (limit + 1)
+capped x = min x (sizeLimit + 1)
 
 -- ---- what is found of a node, from what was found of its parts
 

@@ -3,7 +3,7 @@
 ghost use Prim.Native.Nat.{ℕ, _+_, _*_, _^_, _≤_, _<_};
 ghost use mathlib.Core.Bool.{false};
 ghost use mathlib.Core.Path.{_≡_};
-ghost use Rattle.meaning.specs.Size.{exceeds as exceedsRule, limit, tooLarge};
+ghost use Rattle.meaning.specs.Size.{exceeds as exceedsRule, sizeLimit, tooLarge};
 ghost use Rattle.meaning.specs.Tree.{Formula};
 ghost use Rattle.trees.specs.Standing.{FormulaAt};
 ghost use Rattle.sizes.specs.Sizing.{capped, unmeasured, measured, ofPath, ofSum, ofProduct, ofComparison, ofProbability};
@@ -54,7 +54,7 @@ fn times(a: u64, b: u64) -> u64
 
 // The sum of two capped numbers, capped.
 fn plus(a: u64, b: u64) -> u64
-    requires { ⌜ (a ≤ limit + 1) × (b ≤ limit + 1) ⌝ }
+    requires { ⌜ (a ≤ sizeLimit + 1) × (b ≤ sizeLimit + 1) ⌝ }
     ensures { λ r. ⌜ r ≡ capped (a + b) ⌝ }
 {
     let s = a + b;

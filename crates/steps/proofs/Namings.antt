@@ -6,7 +6,7 @@ use native.Mathlib.Decide.{decLt}
 use native.Mathlib.Omega.{arith}
 use lib.ListN.{length, getD, set, length-set}
 use lib.Seq.{getD-set-same, getD-set-other}
-use Rattle.meaning.specs.Size.{limit}
+use Rattle.meaning.specs.Size.{sizeLimit}
 use Rattle.counting.specs.Below.{sum}
 use Rattle.counting.proofs.Laws.{sum-none, sum-more, sum-same}
 use Rattle.steps.specs.Sparse.{namedAt, productsAt, Naming, Named}
@@ -128,8 +128,8 @@ named-more h l = record { inside = h .inside; each = λ g m enough room. h .each
 
 -- the sum so far and the next two products fit
 pub pair-fits : {row places : List ℕ} {N most : ℕ} → Named row N most places → most ≤ 7 → (column : List ℕ) →
-    sum N (λ t. getD row t 0 * getD column t 0) ≤ limit → (i : ℕ) → i ≤ 6 →
-    sum i (namedAt row places (λ t. getD column t 0)) + productsAt row places column i ≤ limit
+    sum N (λ t. getD row t 0 * getD column t 0) ≤ sizeLimit → (i : ℕ) → i ≤ 6 →
+    sum i (namedAt row places (λ t. getD column t 0)) + productsAt row places column i ≤ sizeLimit
 pair-fits {row} {places} h few column fits i less =
     let p = two-le 8 i (namedAt row places (λ t. getD column t 0)) (omega arith) in
     let q = h .each (λ t. getD column t 0) 8 (omega arith) (omega arith) in

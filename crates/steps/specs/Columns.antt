@@ -7,7 +7,7 @@ use mathlib.Core.List.{List}
 use mathlib.Core.Path.{_≡_}
 use lib.ListN.{length, getD}
 use Rattle.counting.specs.Below.{sum}
-use Rattle.meaning.specs.Size.{limit}
+use Rattle.meaning.specs.Size.{sizeLimit}
 use Rattle.layers.specs.Layers.{RestKept}
 use Rattle.layers.specs.Held.{mostStates, mostTuples, weightIn}
 
@@ -30,7 +30,7 @@ pub record ColumnRead (N stride at : ℕ) (w column : List ℕ) : Type 0 where
 pub record ColumnFits (rows : List (List ℕ)) (N stride at : ℕ) (w : List ℕ) : Type 0 where
   pub lies : ColumnIn N stride at w
   pub apart : 1 ≤ stride
-  pub fits : (s : ℕ) → s < N → stepped rows N stride w at s ≤ limit
+  pub fits : (s : ℕ) → s < N → stepped rows N stride w at s ≤ sizeLimit
 
 -- the column has been stepped, and no other number has changed
 pub record ColumnStepped (rows : List (List ℕ)) (N stride at : ℕ) (before after : List ℕ) : Type 0 where
@@ -54,7 +54,7 @@ pub record LayerFits (rows : List (List ℕ)) (N stride T : ℕ) (w : List ℕ) 
   pub room : T ≤ length w
   pub bound : ℕ
   pub small : (k : ℕ) → k < T → getD w k 0 ≤ bound
-  pub fits : (s : ℕ) → s < N → sum N (weightIn rows s) * bound ≤ limit
+  pub fits : (s : ℕ) → s < N → sum N (weightIn rows s) * bound ≤ sizeLimit
 
 -- every column has been stepped
 pub record LayerStepped (rows : List (List ℕ)) (N stride T : ℕ) (before after : List ℕ) : Type 0 where

@@ -6,7 +6,7 @@ use mathlib.Core.List.{List}
 use lib.ListN.{length, getD}
 use Rattle.meaning.specs.Chain.{Chain, Tuple}
 use Rattle.meaning.proofs.Steps.{step}
-use Rattle.meaning.specs.Size.{limit}
+use Rattle.meaning.specs.Size.{sizeLimit}
 use Rattle.layers.specs.Layers.{Layer, RestKept}
 use Rattle.layers.specs.Held.{Holds, LayerSizes}
 
@@ -19,7 +19,7 @@ pub record StepFits (rows : List (List ℕ)) (N n T : ℕ) (w : List ℕ) : Type
   pub room : T ≤ length w
   pub bound : ℕ
   pub small : (k : ℕ) → k < T → getD w k 0 ≤ bound
-  pub fits : chain .D ^ n * bound ≤ limit
+  pub fits : chain .D ^ n * bound ≤ sizeLimit
 
 -- the layer of any function is now the layer of its joint step, and what lies past it has stayed
 pub record Stepped (rows : List (List ℕ)) (N n T : ℕ) (before after : List ℕ) : Type 0 where

@@ -3,7 +3,7 @@ ghost use mathlib.Core.Path.{_≡_};
 ghost use Prim.Native.Nat.{ℕ, _+_, _*_, _^_, _≤_, _<_};
 ghost use lib.ListN.{length, getD};
 ghost use Rattle.counting.specs.Below.{sum};
-ghost use Rattle.meaning.specs.Size.{limit};
+ghost use Rattle.meaning.specs.Size.{sizeLimit};
 ghost use Rattle.layers.specs.Held.{mostStates};
 ghost use Rattle.steps.specs.Sparse.{placesInRow, mostNamed, productsAt, Naming, Named, RowsNamed};
 use layers::STATES;
@@ -23,7 +23,7 @@ fn wide(x: u16) -> u64
 
 // The sum over the states of a row's weight times a column's number.
 fn dot(row: &[u16; STATES], column: &[u64; STATES], states: usize) -> u64
-    requires { ⌜ (states ≤ mostStates) × (sum states (λ t. getD (now row) t 0 * getD (now column) t 0) ≤ limit) ⌝ }
+    requires { ⌜ (states ≤ mostStates) × (sum states (λ t. getD (now row) t 0 * getD (now column) t 0) ≤ sizeLimit) ⌝ }
     ensures { λ r. ⌜ r ≡ sum states (λ t. getD (now (row .entry)) t 0 * getD (now (column .entry)) t 0) ⌝ }
 {
     let mut total: u64 = 0;
@@ -37,7 +37,7 @@ fn dot(row: &[u16; STATES], column: &[u64; STATES], states: usize) -> u64
 
 // A row's weight times a column's number, at a place.
 fn product(row: &[u16; STATES], column: &[u64; STATES], place: u8) -> u64
-    requires { ⌜ (place < mostStates) × (getD (now row) place 0 * getD (now column) place 0 ≤ limit) ⌝ }
+    requires { ⌜ (place < mostStates) × (getD (now row) place 0 * getD (now column) place 0 ≤ sizeLimit) ⌝ }
     ensures { λ r. ⌜ r ≡ getD (now (row .entry)) place 0 * getD (now (column .entry)) place 0 ⌝ }
 {
     let t = place as usize;
@@ -47,7 +47,7 @@ fn product(row: &[u16; STATES], column: &[u64; STATES], place: u8) -> u64
 // The products at two places of a row that are neighbours.
 fn pair(row: &[u16; STATES], places: &[u8; PLACES], column: &[u64; STATES], i: usize) -> u64
     requires { ⌜ (i ≤ 6) × ((k : ℕ) → k < placesInRow → getD (now places) k 0 < mostStates) ×
-        (productsAt (now row) (now places) (now column) i ≤ limit) ⌝ }
+        (productsAt (now row) (now places) (now column) i ≤ sizeLimit) ⌝ }
     ensures { λ r. ⌜ r ≡ productsAt (now (row .entry)) (now (places .entry)) (now (column .entry)) i ⌝ }
 {
     product(row, column, places[i]) + product(row, column, places[i + 1])
@@ -62,7 +62,7 @@ fn dot_named(
     most: usize,
 ) -> u64
     requires { ⌜ (most ≤ mostNamed) × Named (now row) states most (now places) ×
-        (sum states (λ t. getD (now row) t 0 * getD (now column) t 0) ≤ limit) ⌝ }
+        (sum states (λ t. getD (now row) t 0 * getD (now column) t 0) ≤ sizeLimit) ⌝ }
     ensures { λ r. ⌜ r ≡ sum states (λ t. getD (now (row .entry)) t 0 * getD (now (column .entry)) t 0) ⌝ }
 {
     let mut total = pair(row, places, column, 0);
@@ -83,7 +83,7 @@ pub(crate) fn row_sum(
     most: usize,
 ) -> u64
     requires { ⌜ (states ≤ mostStates) × (most ≤ mostNamed) × (1 ≤ most → Named (now row) states most (now places)) ×
-        (sum states (λ t. getD (now row) t 0 * getD (now column) t 0) ≤ limit) ⌝ }
+        (sum states (λ t. getD (now row) t 0 * getD (now column) t 0) ≤ sizeLimit) ⌝ }
     ensures { λ r. ⌜ r ≡ sum states (λ t. getD (now (row .entry)) t 0 * getD (now (column .entry)) t 0) ⌝ }
 {
     if most == 0 {

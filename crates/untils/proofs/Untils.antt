@@ -11,7 +11,7 @@ use lib.Dec.{eqb, leb}
 use lib.ListN.{length, getD, drop, length-drop}
 use lib.Pow.{pow-add}
 use lib.Seq.{getD-drop}
-use Rattle.meaning.specs.Size.{limit}
+use Rattle.meaning.specs.Size.{sizeLimit}
 use Rattle.meaning.specs.Chain.{Chain, Sound, Tuple, Inside, tuples, joint}
 use Rattle.meaning.proofs.Numbers.{numberOf, tupleOf, tuple-inside, number-tuple, number-below}
 use Rattle.meaning.proofs.Runs.{tuples-inside}
@@ -144,7 +144,7 @@ module _ {rows : List (List ℕ)} {N n T d k1 k2 : ℕ} {before : List ℕ} (fit
     next-power = ap (λ (x : ℕ). x * d ^ n) (h .power) ∙ power-more d n left
 
     -- and it is at most 2^62
-    pub power-fits : d ^ (n * suc left) ≤ limit
+    pub power-fits : d ^ (n * suc left) ≤ sizeLimit
     power-fits =
         le-trans (pow-le-pow-right (fits .weighed) {i = n * suc left} {j = n * k2} (mul-le-mul-left n less))
         (fits .fits)

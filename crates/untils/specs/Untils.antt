@@ -11,7 +11,7 @@ use Rattle.meaning.specs.Chain.{Chain, Tuple}
 use Rattle.meaning.specs.Meaning.{untilTakes, takenWeight}
 use Rattle.meaning.proofs.Numbers.{tupleOf}
 use Rattle.meaning.proofs.Steps.{step}
-use Rattle.meaning.specs.Size.{limit}
+use Rattle.meaning.specs.Size.{sizeLimit}
 use Rattle.layers.specs.Layers.{Layer, truth, RestKept}
 use Rattle.layers.specs.Held.{Holds, LayerSizes}
 use Rattle.steps.specs.Steps.{StepFits}
@@ -50,7 +50,7 @@ pub record UntilFits (rows : List (List ℕ)) (N n T d k1 k2 : ℕ) (w : List �
   pub room : T + T + T ≤ length w
   pub ones : (k : ℕ) → k < T → getD w (T + k) 0 ≤ 1
   pub window : k1 ≤ k2
-  pub fits : d ^ (n * k2) ≤ limit
+  pub fits : d ^ (n * k2) ≤ sizeLimit
 
 -- where the two layers held the truth of two formulas, the front layer holds the total weight of the runs that their
 -- until takes; the second and the third may have changed, and what lies past them has stayed

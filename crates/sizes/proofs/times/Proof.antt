@@ -3,7 +3,7 @@ use borrow.Author.Needs.{needs}
 use Prim.Native.Nat.{ℕ, _*_, _≤_}
 use mathlib.Core.Path.{_≡_, sym, ap, _∙_}
 use native.Mathlib.Omega.{arith}
-use Rattle.meaning.specs.Size.{limit}
+use Rattle.meaning.specs.Size.{sizeLimit}
 use Rattle.sizes.proofs.Capped.{capped-small, capped-large, product-large, product-small}
 use Rattle.sizes.proofs.times.Statement.{statement}
 use Rattle.sizes.proofs.times.Tie as tie
@@ -21,7 +21,7 @@ returns-2 c =
     sym (capped-large _ (product-large _ _ h (c .if2 .taken)))
 
 -- where the test fails the product is at most 2^62
-small : (c : lts.Else2 reads.Pre reads.Post) → c .before .before .args .a * c .before .before .args .b ≤ limit
+small : (c : lts.Else2 reads.Pre reads.Post) → c .before .before .args .a * c .before .before .args .b ≤ sizeLimit
 small c = product-small _ _ (c .if2 .left)
 
 mul-result : tie.Need-mul-result

@@ -3,7 +3,7 @@ use borrow.Author.Needs.{needs}
 use Prim.Native.Nat.{ℕ, _+_, _*_, _-_, _^_, _≤_}
 use mathlib.Core.Path.{_≡_, ap, sym, subst, _∙_}
 use native.Mathlib.Omega.{arith}
-use Rattle.meaning.specs.Size.{limit}
+use Rattle.meaning.specs.Size.{sizeLimit}
 use Rattle.counting.proofs.Laws.{sum-same}
 use Rattle.layers.specs.Held.{weightIn}
 use Rattle.steps.proofs.Columns.{ColumnStepping, column-none, column-next, column-all, next-near}
@@ -62,7 +62,7 @@ row-sum-requires c κs =
       start .pre .0 .lies .states,
       named .few,
       λ some. named .each some s (omega arith),
-      subst (λ (x : ℕ). x ≤ limit) (sym copied) (start .pre .0 .fits s (omega arith)),
+      subst (λ (x : ℕ). x ≤ sizeLimit) (sym copied) (start .pre .0 .fits s (omega arith)),
     )
 
 mul-layer : tie.Need-mul-layer Inv-loop μ-loop

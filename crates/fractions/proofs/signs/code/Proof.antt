@@ -9,14 +9,14 @@ use lib.Signed.{ltZ, nonNeg}
 use mir.Facts.{toZ-ofZ}
 use mir.Syntax.{w64}
 use mir.Val.{Fits, toZ, ofZ}
-use Rattle.meaning.specs.Size.{limit}
+use Rattle.meaning.specs.Size.{sizeLimit}
 use Rattle.fractions.specs.Codes.{upperHalf, coded}
 use Rattle.fractions.proofs.Magnitude.{small-fits, op-fits, op-reads, minus-fits, below-zero, not-below-zero}
 use Rattle.fractions.proofs.signs.code.Statement.{statement}
 use Rattle.fractions.proofs.signs.code.Tie as tie
 
 -- below 0: nothing less the number is within the ends, is read back as it is, and has the code
-size-below : (c : tie.Then1) → natAbs (pos 0 -ℤ c .before .args .x) ≤ limit
+size-below : (c : tie.Then1) → natAbs (pos 0 -ℤ c .before .args .x) ≤ sizeLimit
 size-below c = minus-fits (c .before .args .x) (c .before .pre .size)
 
 back-below : (c : tie.Then1) →
