@@ -3,13 +3,13 @@
 use Prim.Native.Nat.{ℕ, _+_}
 use mathlib.Core.List.{List, [], _∷_}
 use mathlib.Core.Path.{_≡_}
-use lib.ListN.{length}
+use lib.ListN.{length, getD}
 use Rattle.refusal.specs.declared.Written.{Written}
 use Rattle.refusal.specs.declared.Written.the-variants.{Wrote, Refused as Unwritten}
 use Rattle.refusal.specs.Answers.{numberIn, filled, replyOf, Writes}
 use Rattle.model.specs.declared.Model.{Model}
 use Rattle.model.specs.declared.ModelRead.{ModelRead}
-use Rattle.model.specs.Layout.{fileOf}
+use Rattle.model.specs.Layout.{modelOf, fileOf}
 use Rattle.model.specs.Rows.{Reads, recordRows}
 use Rattle.merge.specs.Rows.{mergeRows, mergedFile}
 
@@ -36,6 +36,10 @@ pub record ReadsModel (file : List ℕ) (head masks : List ℕ) (rows : List (Li
 unfoldable pub codeOf : Written → ℕ
 codeOf (Wrote size) = size
 codeOf (Unwritten number) = 4294967296 + number
+
+-- the model that the three parts stand for: N, A and D in this order, the masks and the weights
+abbrev pub modelOfParts : (head masks : List ℕ) → List (List ℕ) → Model
+modelOfParts head = modelOf (getD head 0 0) (getD head 1 0) (getD head 2 0)
 
 -- write model, exported
 abbrev pub WritesModel : Model → (before after : List ℕ) → ℕ → Type 0

@@ -5,8 +5,7 @@ mod questions;
 mod sentences;
 
 ghost use mathlib.Core.Path.{_≡_};
-ghost use Rattle.model.specs.Layout.{modelOf};
-ghost use Rattle.exports.specs.Records.{codeOf, ReadsModel, WritesModel};
+ghost use Rattle.exports.specs.Records.{codeOf, ReadsModel, modelOfParts, WritesModel};
 use model::Model;
 use model::matrix;
 use refusal::Outcome;
@@ -40,7 +39,7 @@ pub extern "C" fn twolsken_read_model(
         Outcome::Done => {
             let m = read.model;
             let lent = m.masks;
-            *head = [m.n as u32, m.a as u32, m.d];
+            *head = [m.n, m.a, m.d];
             *masks = lent;
             *rows = matrix::rows_of(m.weights);
             0
@@ -48,23 +47,21 @@ pub extern "C" fn twolsken_read_model(
     }
 }
 
-// Write model: the number of bytes written at the front of the output, or 2^32 plus the refusal's number with the output
+// Write model, of the three parts that read model leaves (N, A and D; the masks; the weights): the number of bytes written at the front of the output, or 2^32 plus the refusal's number with the output
 // as it was.
 #[no_mangle]
 pub extern "C" fn twolsken_write_model(
-    n: u8,
-    a: u8,
-    d: u32,
+    head: &[u32; 3],
     masks: &[u16; 32],
     rows: &[[u16; 32]; 32],
     out: &mut [u8],
 ) -> u64
-    ensures { λ r. ⌜ WritesModel (modelOf n a d (now (masks .entry)) (now (rows .entry))) (now (out .entry)) (now (out .exit)) r ⌝ }
+    ensures { λ r. ⌜ WritesModel (modelOfParts (now (head .entry)) (now (masks .entry)) (now (rows .entry))) (now (out .entry)) (now (out .exit)) r ⌝ }
 {
     let m = Model {
-        n: n,
-        a: a,
-        d: d,
+        n: head[0],
+        a: head[1],
+        d: head[2],
         masks: *masks,
         weights: matrix::holding(*rows),
     };

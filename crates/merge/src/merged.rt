@@ -13,7 +13,7 @@ use model::matrix;
 
 // The model of the groups, from the masks and the totals of the states: from the count of groups on masks and rows are zero.
 pub fn model_of_groups(
-    a: u8,
+    a: u32,
     d: u32,
     masks: &[u16; 32],
     totals: [[u16; 32]; 32],
@@ -34,7 +34,7 @@ pub fn model_of_groups(
     }
     let weights = matrix::holding(rows);
     Model {
-        n: count as u8,
+        n: count as u32,
         a: a,
         d: d,
         masks: merged,

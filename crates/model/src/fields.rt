@@ -7,6 +7,7 @@ use crate::Model;
 use crate::matrix;
 use block::block_byte;
 use block::two_of;
+use block::wide;
 
 // The number of two bytes from byte j of a block.
 fn two_at(file: &[u8], block: usize, j: usize) -> u16
@@ -64,8 +65,8 @@ pub fn fields_of(file: &[u8]) -> Model
     let masks = numbers_at(file, 0, 8);
     let weights = matrix::holding(weights_at(file));
     Model {
-        n: block_byte(file, 0, 1),
-        a: block_byte(file, 0, 2),
+        n: wide(block_byte(file, 0, 1)),
+        a: wide(block_byte(file, 0, 2)),
         d: four_of(two_at(file, 0, 4), two_at(file, 0, 6)),
         masks: masks,
         weights: weights,

@@ -12,8 +12,8 @@ use refusal::Outcome;
 // A model as its file says it: N states, A labels, D, a label mask for each state, and the weight from each state to
 // each. The record can hold what no file can: such a record is refused by write_model.
 pub struct Model {
-    pub n: u8,
-    pub a: u8,
+    pub n: u32,
+    pub a: u32,
     pub d: u32,
     pub masks: [u16; 32],
     pub weights: Weights,

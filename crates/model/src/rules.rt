@@ -12,7 +12,7 @@ use crate::fields::wide16;
 use crate::matrix;
 
 // N is 1..32 states, A is 1..16 labels, D is 1..65,535.
-fn numbers_right(n: u8, a: u8, d: u32) -> bool
+fn numbers_right(n: u32, a: u32, d: u32) -> bool
     ensures { λ r. ⌜ r ≡ (within 1 32 n && within 1 16 a && within 1 65535 d) ⌝ }
 {
     let states = (1 <= n) & (n <= 32);
@@ -22,7 +22,7 @@ fn numbers_right(n: u8, a: u8, d: u32) -> bool
 }
 
 // Whether a mask has its bits A and up zero.
-fn mask_fits(mask: u16, a: u8) -> bool
+fn mask_fits(mask: u16, a: u32) -> bool
     ensures { λ r. ⌜ r ≡ ltb mask (2 ^ a) ⌝ }
 {
     if 16 <= a {
@@ -33,7 +33,7 @@ fn mask_fits(mask: u16, a: u8) -> bool
 }
 
 // Whether state s may have this mask.
-fn mask_right(s: usize, n: usize, a: u8, mask: u16) -> bool
+fn mask_right(s: usize, n: usize, a: u32, mask: u16) -> bool
     ensures { λ r. ⌜ r ≡ (ltb s n && ltb mask (2 ^ a) || eqb mask 0) ⌝ }
 {
     (s < n) & mask_fits(mask, a) | (mask == 0)
@@ -65,7 +65,7 @@ fn row_ends(row: &[u16; 32], s: usize, n: usize) -> bool
 }
 
 // Whether every state's mask is right, and columns and rows from N on are zero.
-fn states_right(n: usize, a: u8, masks: &[u16; 32], rows: &[[u16; 32]; 32]) -> bool
+fn states_right(n: usize, a: u32, masks: &[u16; 32], rows: &[[u16; 32]; 32]) -> bool
     ensures { λ r. ⌜ r ≡ every 32 (λ s. (ltb s n && ltb (getD (now (masks .entry)) s 0) (2 ^ a) || eqb (getD (now (masks .entry)) s 0) 0) && every 32 (λ t. ltb s n && ltb t n || eqb (getD (getD (now (rows .entry)) s []) t 0) 0)) ⌝ }
 {
     let mut s: usize = 0;

@@ -184,6 +184,6 @@ pub fn write_model(m: Model, out: &mut [u8]) -> Written
     }
     let masks = m.masks;
     let rows = matrix::rows_of(m.weights);
-    write_blocks(m.n, m.a, m.d, &masks, &rows, count, out);
+    write_blocks(m.n as u8, m.a as u8, m.d, &masks, &rows, count, out);
     Written::Wrote(512 * count)
 }

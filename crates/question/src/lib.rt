@@ -18,17 +18,17 @@ use sentence::Slot;
 use sizes::exceeds;
 
 // Whether a node's label letter, if it has one, is below A.
-fn label_right(node: Node, a: u8) -> bool
+fn label_right(node: Node, a: u32) -> bool
     ensures { λ r. ⌜ r ≡ labelRight a node ⌝ }
 {
     match node {
-        Node::Label { label, variable: _ } => label < a,
+        Node::Label { label, variable: _ } => (label as u32) < a,
         _ => true,
     }
 }
 
 // Whether every label letter of the first nodes is below A.
-fn labels_right(nodes: [Slot; 64], count: usize, a: u8) -> bool
+fn labels_right(nodes: [Slot; 64], count: usize, a: u32) -> bool
     requires { ⌜ count ≤ 64 ⌝ }
     ensures { λ r. ⌜ r ≡ every (λ s. labelRight a (s .node)) (take count nodes) ⌝ }
 {

@@ -23,7 +23,7 @@ returns c =
 
 returns-2 : tie.Need-returns-2
 returns-2 c =
-    let told = c .before .before .before .before .before .before in
+    let told = c .before .before .before .before in
     let read = told .before .before .read-model in
     let m = read .result .model in
     let e = ap replyOf (told .enum-told .given .1) in
@@ -41,8 +41,6 @@ twolsken-read-model-spec =
     tie.close
     (tie.spec
     (λ c κs. search needs)
-    (λ c. search needs)
-    (λ c. search needs)
     (λ c. search needs)
     (λ c. search needs)
     (λ c. search needs)

@@ -24,5 +24,6 @@ label-right-spec =
     tie.close
     (tie.spec
     (λ c. search needs)
+    (λ c. search needs)
     returns
     returns-2)
