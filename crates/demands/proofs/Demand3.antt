@@ -26,7 +26,7 @@ use Rattle.meaning.specs.Size.{exceeds}
 use Rattle.meaning.specs.Merging.{Stable}
 use Rattle.trees.specs.Listed.{formulaNodes}
 use Rattle.chain.proofs.Accepted.{fields-right}
-use Rattle.question.specs.Rows.{labelRight, QuestionRow, area, model, sentence, labels, size, tuples}
+use Rattle.question.specs.Rows.{labelRight, QuestionRow, area, model, sentence, labels, size, tuples, areaSize}
 use Rattle.question.proofs.Stages.{none-of-file}
 use Rattle.verdict.specs.declared.Answer as Judged
 use Rattle.verdict.specs.Calls.{VerdictAnswer}
@@ -51,7 +51,7 @@ use Rattle.demands.proofs.Demand1.{demand-1}
 module _ (file grouping merged : List ℕ) (accepted : fileNumber merged ≡ 0)
     (kept : Kept (fieldsOf file) (groupOf grouping) (fieldsOf merged)) where
   -- a question to which no row applies on the full model is one on the merged model
-  question-free : {text : List ℕ} {room room′ : ℕ} → 8192 ≤ room′ → ((n : ℕ) → QuestionRow file text room n → ⊥) →
+  question-free : {text : List ℕ} {room room′ : ℕ} → areaSize ≤ room′ → ((n : ℕ) → QuestionRow file text room n → ⊥) →
       (n : ℕ) → QuestionRow merged text room′ n → ⊥
   question-free space none n (area h) = omega arith
   question-free space none n (model a) = none-of-file merged accepted a
@@ -69,7 +69,7 @@ module _ (file grouping merged : List ℕ) (accepted : fileNumber merged ≡ 0)
       by (yes h) = none 11 (tuples f s h)
       by (no h) = let few = kept .tuples (length ps) (omega arith) in omega (arith, few, e)
 
-  verdicts : {text before before′ after after′ : List ℕ} {a b : Judged.Answer} → 8192 ≤ length before′ → VerdictAnswer file text before a after →
+  verdicts : {text before before′ after after′ : List ℕ} {a b : Judged.Answer} → areaSize ≤ length before′ → VerdictAnswer file text before a after →
       ((n : ℕ) → QuestionRow file text (length before) n → ⊥) → VerdictAnswer merged text before′ b after′ → a ≡ b
   verdicts {a = a} {b} space x none y =
       let full = right-of none (x .ensured) in
@@ -83,7 +83,7 @@ module _ (file grouping merged : List ℕ) (accepted : fileNumber merged ≡ 0)
       judged-told a b (full .1 ∙ ap gives same ∙ sym (less .1))
 
   -- so is a question about a path formula at a tuple, at the tuple of the groups
-  asked-free : {text tuple : List ℕ} {path room room′ : ℕ} → 8192 ≤ room′ → ((n : ℕ) → NumeratorRow file text tuple path room n → ⊥) →
+  asked-free : {text tuple : List ℕ} {path room room′ : ℕ} → areaSize ≤ room′ → ((n : ℕ) → NumeratorRow file text tuple path room n → ⊥) →
       (n : ℕ) → NumeratorRow merged text (map (groupOf grouping) tuple) path room′ n → ⊥
   asked-free space none n (question r) = question-free space (λ n r. none n (question r)) n r
   asked-free {tuple = tuple} space none n (long f s e) = none 15 (long f s (λ x. e (length-map tuple (groupOf grouping) ∙ x)))
@@ -92,7 +92,7 @@ module _ (file grouping merged : List ℕ) (accepted : fileNumber merged ≡ 0)
       true≢false (sym (inside-members (kept .inside (length tuple) tuple inside)) ∙ e)
   asked-free space none n (missing f s e) = none 15 (missing f s e)
 
-  numerators : {text tuple before before′ after after′ : List ℕ} {path : ℕ} {a b : Counted.Answer} → 8192 ≤ length before′ →
+  numerators : {text tuple before before′ after after′ : List ℕ} {path : ℕ} {a b : Counted.Answer} → areaSize ≤ length before′ →
       NumeratorAnswer file text tuple path before a after → ((n : ℕ) → NumeratorRow file text tuple path (length before) n → ⊥) →
       NumeratorAnswer merged text (map (groupOf grouping) tuple) path before′ b after′ → a ≡ b
   numerators {tuple = tuple} {path = path} {a} {b} space x none y =

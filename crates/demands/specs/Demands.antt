@@ -22,7 +22,7 @@ use Rattle.meaning.specs.Tree.{PathFormula, next, until, letterOf}
 use Rattle.meaning.specs.Meaning.{numerator, verdict}
 use Rattle.meaning.specs.Merging.{Grouping, Stable}
 use Rattle.chain.specs.Of.{chainOf}
-use Rattle.question.specs.Rows.{QuestionRow, SentenceOf}
+use Rattle.question.specs.Rows.{QuestionRow, SentenceOf, areaSize}
 use Rattle.verdict.specs.declared.Answer as Judged
 use Rattle.verdict.specs.Calls.{VerdictAnswer, replyOf as replyJudged}
 use Rattle.numerator.specs.declared.Answer as Counted
@@ -121,11 +121,11 @@ pub record MergeAsked (file grouping : List ℕ) (M room : ℕ) : Type 0 where
 -- What merging keeps, of the answers on a file and on the file that it is merged to (where the second work area is long enough):
 pub record Keeps (file grouping merged : List ℕ) : Type 0 where
   -- for every sentence not refused on the full model the verdicts are equal,
-  pub verdicts : {text area area′ left left′ : List ℕ} {a b : Judged.Answer} → 8192 ≤ length area′ → VerdictAnswer file text area a left →
+  pub verdicts : {text area area′ left left′ : List ℕ} {a b : Judged.Answer} → areaSize ≤ length area′ → VerdictAnswer file text area a left →
       ((n : ℕ) → QuestionRow file text (length area) n → ⊥) → VerdictAnswer merged text area′ b left′ → a ≡ b
   -- and each path formula's numerator and denominator, at every tuple of states, equal those on the merged model at the tuple of
   -- their groups.
-  pub numerators : {text tuple area area′ left left′ : List ℕ} {path : ℕ} {a b : Counted.Answer} → 8192 ≤ length area′ →
+  pub numerators : {text tuple area area′ left left′ : List ℕ} {path : ℕ} {a b : Counted.Answer} → areaSize ≤ length area′ →
       NumeratorAnswer file text tuple path area a left → ((n : ℕ) → NumeratorRow file text tuple path (length area) n → ⊥) →
       NumeratorAnswer merged text (map (groupOf grouping) tuple) path area′ b left′ → a ≡ b
 

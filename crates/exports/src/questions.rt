@@ -1,8 +1,8 @@
 // Verdict and numerator for other languages, each thin over the library's own call.
 ghost use Rattle.exports.specs.Questions.{GivesVerdict, GivesNumerator};
 
-// Verdict: 256 where the sentence holds on the model and 257 where it does not, the first 8,192 numbers of the work area
-// zero; or the refusal's number, the area as it was.
+// Verdict: 256 where the sentence holds on the model and 257 where it does not, with as many numbers of the work area zero
+// as row 1 asks for; or the refusal's number, the area as it was.
 #[no_mangle]
 pub extern "C" fn twolsken_verdict(file: &[u8], text: &[u8], work: &mut [u64]) -> u32
     ensures { λ r. ⌜ GivesVerdict (now (file .entry)) (now (text .entry)) (now (work .entry)) (now (work .exit)) r ⌝ }
@@ -15,8 +15,8 @@ pub extern "C" fn twolsken_verdict(file: &[u8], text: &[u8], work: &mut [u64]) -
     }
 }
 
-// Numerator: 0, with the numerator and the denominator in the two lent numbers and the first 8,192 numbers of the work area
-// zero; or the refusal's number with the lent memory as it was.
+// Numerator: 0, with the numerator and the denominator in the two lent numbers and as many numbers of the work
+// area zero as row 1 asks for; or the refusal's number with the lent memory as it was.
 #[no_mangle]
 pub extern "C" fn twolsken_numerator(
     file: &[u8],

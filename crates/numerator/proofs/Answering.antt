@@ -17,7 +17,7 @@ use Rattle.meaning.specs.Tree.{Formula, pathsOf}
 use Rattle.meaning.specs.Meaning.{numerator, denominator}
 use Rattle.chain.specs.Of.{chainOf}
 use Rattle.paths.specs.Tuples.{membersBelow}
-use Rattle.question.specs.Rows.{QuestionRow, cleared}
+use Rattle.question.specs.Rows.{QuestionRow, cleared, areaSize}
 use Rattle.question.specs.Working.{SentenceRead}
 use Rattle.question.proofs.Numbers.{row-few}
 use Rattle.question.proofs.Pair.{letters-length}
@@ -72,7 +72,7 @@ module _ {file text tuple : List ℕ} {number : ℕ} where
           let same : length (pathsOf f) ≡ length (pathsOf (b .body)) = ap (λ (x : Formula). length (pathsOf x)) (one (model-of none reads) b f sp .1) in
           omega (arith, low, same, e)
 
-      pub answered-so : {after : List ℕ} {r : Ratio} → CountedSo (m .model) s tuple number r → after ≡ cleared 8192 before →
+      pub answered-so : {after : List ℕ} {r : Ratio} → CountedSo (m .model) s tuple number r → after ≡ cleared areaSize before →
           NumeratorAnswer file text tuple number before (Counted (r .top) (r .bottom)) after
       answered-so {after} {r} counts clear =
           let w = numbered (b .body) number in

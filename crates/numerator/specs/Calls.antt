@@ -12,7 +12,7 @@ use Rattle.meaning.specs.Meaning.{numerator, denominator}
 use Rattle.trees.specs.Listed.{formulaNodes}
 use Rattle.chain.specs.Of.{chainOf}
 use Rattle.paths.specs.Tuples.{membersBelow}
-use Rattle.question.specs.Rows.{QuestionRow, SentenceOf, cleared}
+use Rattle.question.specs.Rows.{QuestionRow, SentenceOf, cleared, areaSize}
 use Rattle.numerator.specs.declared.Answer.{Answer}
 use Rattle.numerator.specs.declared.Answer.the-variants.{Counted, Refused}
 
@@ -35,13 +35,13 @@ pub data NumeratorRow (file text tuple : List ℕ) (number room : ℕ) : ℕ →
   missing : {ps : List Bool} (f : Formula) → Spells ps (formulaNodes f) text → length (pathsOf f) ≤ number →
       NumeratorRow file text tuple number room 15
 
--- what is right of numerator: the numerator of the path formula at the tuple, and its denominator, and the first 8,192 numbers of
--- the area zero
+-- the correct result of numerator: the numerator of the path formula at the tuple, and its denominator; the first `areaSize`
+-- numbers of the area are zero afterwards
 pub record Counts (file text tuple : List ℕ) (number : ℕ) (before : List ℕ) (values : ℕ × ℕ) (after : List ℕ) : Type 0 where
   pub sentence : SentenceOf text
   pub top : values .0 ≡ numerator (numbered (sentence .body) number) (chainOf (fieldsOf file)) (length (sentence .prefix)) tuple
   pub bottom : values .1 ≡ denominator (numbered (sentence .body) number) (fieldsOf file .d) (length (sentence .prefix))
-  pub left : after ≡ cleared 8192 before
+  pub left : after ≡ cleared areaSize before
 
 -- what numerator ensures of the model file, the sentence text, the tuple, the path formula's number, the work area before and
 -- after, and what it answers

@@ -14,17 +14,17 @@ use Rattle.sentence.specs.declared.SentenceRead as Parsed
 use Rattle.sentence.specs.Grammar.{Spells}
 use Rattle.sentence.specs.Calls.{ReadRow, Spelled, ReadAnswer, recordOf}
 use Rattle.trees.proofs.Exists.{formula-of}
-use Rattle.question.specs.Rows.{QuestionRow, area, model, sentence, labels, size, tuples}
+use Rattle.question.specs.Rows.{QuestionRow, area, model, sentence, labels, size, tuples, areaSize}
 use Rattle.question.specs.Working.{ModelRead, SentenceRead}
 use Rattle.question.proofs.Numbers.{text-number, row-some, least-model}
 use Rattle.question.proofs.Stages.{none-of-file}
 
-pub gives-1 : {file text : List ℕ} {room : ℕ} → room < 8192 → Decided (QuestionRow file text room) 1
+pub gives-1 : {file text : List ℕ} {room : ℕ} → room < areaSize → Decided (QuestionRow file text room) 1
 gives-1 h = refused (area h) (λ k r. row-some r)
 
 -- the file
 
-pub gives-file : {file text : List ℕ} {room n : ℕ} → 8192 ≤ room → fileNumber file ≡ n → 0 < n → Decided (QuestionRow file text room) n
+pub gives-file : {file text : List ℕ} {room n : ℕ} → areaSize ≤ room → fileNumber file ≡ n → 0 < n → Decided (QuestionRow file text room) n
 gives-file {n = zero} space e h = absurd (omega arith)
 gives-file {n = suc n} space e h = let least = least-model space e in refused (least .0) (least .1)
 
@@ -33,7 +33,7 @@ file-read reads e = record { accepted = e; fields = reads-value reads e }
 
 -- the text
 
-pub gives-text : {file text : List ℕ} {room : ℕ} {r : Parsed.SentenceRead} → 8192 ≤ room → fileNumber file ≡ 0 → ReadAnswer text r →
+pub gives-text : {file text : List ℕ} {room : ℕ} {r : Parsed.SentenceRead} → areaSize ≤ room → fileNumber file ≡ 0 → ReadAnswer text r →
     0 < numberIn (replyOf (r .outcome)) → Decided (QuestionRow file text room) (numberIn (replyOf (r .outcome)))
 gives-text {file} {text} {room} space free said h = by (number-decided (said .ensured)) h
   where

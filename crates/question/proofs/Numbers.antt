@@ -13,7 +13,7 @@ use Rattle.model.specs.Rows.{fileRows, fileNumber}
 use Rattle.model.proofs.Theorems.{read-smallest}
 use Rattle.sentence.specs.Calls.{ReadRow, outside, long, range, many}
 use Rattle.meaning.specs.Lists.{every}
-use Rattle.question.specs.Rows.{QuestionRow, area, model, sentence, labels, size, tuples}
+use Rattle.question.specs.Rows.{QuestionRow, area, model, sentence, labels, size, tuples, areaSize}
 
 -- the numbers of a file's rows, and of a text's
 pub file-number : (file : List ℕ) {n : ℕ} → Applies n (fileRows file) → (2 ≤ n) × (n ≤ 5)
@@ -51,7 +51,7 @@ pub none-of : {file text : List ℕ} {room n : ℕ} → Decided (QuestionRow fil
 none-of (refused row least) h m r = let some = row-some row in absurd (omega arith)
 none-of (accepted none) h m r = none m r
 
-module _ {file text : List ℕ} {room : ℕ} (space : 8192 ≤ room) where
+module _ {file text : List ℕ} {room : ℕ} (space : areaSize ≤ room) where
   -- the file's number where it is not 0
   pub least-model : {k : ℕ} → fileNumber file ≡ suc k →
       QuestionRow file text room (suc k) × ((m : ℕ) → QuestionRow file text room m → suc k ≤ m)

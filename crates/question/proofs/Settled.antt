@@ -28,7 +28,7 @@ use Rattle.trees.specs.Ranged.{Ranged}
 use Rattle.trees.proofs.Ranges.{nests-in-range, formula-ranged}
 use Rattle.chain.specs.Of.{chainOf}
 use Rattle.chain.proofs.Accepted as accepted
-use Rattle.question.specs.Rows.{QuestionRow, area, model, sentence, size, tuples}
+use Rattle.question.specs.Rows.{QuestionRow, area, model, sentence, size, tuples, areaSize}
 use Rattle.question.specs.Working.{ModelRead, SentenceRead, Ready, SettingOf}
 use Rattle.question.proofs.Numbers.{least-model}
 use Rattle.question.proofs.Early.{file-read, text-read}
@@ -37,10 +37,10 @@ use Rattle.question.proofs.Stages.{size-same, tuples-same}
 
 module _ {file text : List ℕ} {room : ℕ} (none : (n : ℕ) → QuestionRow file text room n → ⊥) where
   -- the work area is long enough
-  pub space : 8192 ≤ room
-  space = by (decLt room 8192)
+  pub space : areaSize ≤ room
+  space = by (decLt room areaSize)
     where
-      by : Dec (room < 8192) → 8192 ≤ room
+      by : Dec (room < areaSize) → areaSize ≤ room
       by (yes h) = absurd (none 1 (area h))
       by (no h) = omega arith
 

@@ -24,7 +24,7 @@ use Rattle.meaning.specs.Size.{exceeds}
 use Rattle.trees.specs.Listed.{formulaNodes}
 use Rattle.trees.proofs.Once.{sentence-once}
 use Rattle.chain.specs.Of.{chainOf}
-use Rattle.question.specs.Rows.{labelRight, QuestionRow, area, model, sentence, labels, size, tuples}
+use Rattle.question.specs.Rows.{labelRight, QuestionRow, area, model, sentence, labels, size, tuples, areaSize}
 use Rattle.question.specs.Working.{ModelRead, SentenceRead}
 use Rattle.question.proofs.Numbers.{file-number}
 use Rattle.question.proofs.Pair.{letters-length}
@@ -68,7 +68,7 @@ module _ {file text : List ℕ} {m : Model} {s : Sentence} (a : ModelRead file m
     ten : exceeds (b .body) (fieldsOf file .d) (length (b .prefix)) ≡ true → Late 10
     eleven : 1024 < tupleCount (chainOf (fieldsOf file)) (length (b .prefix)) → Late 11
 
-  late : {room k : ℕ} → 8192 ≤ room → QuestionRow file text room k → Late k
+  late : {room k : ℕ} → areaSize ≤ room → QuestionRow file text room k → Late k
   late space (area h) = absurd (omega arith)
   late space (model r) = absurd (none-of-file file (a .accepted) r)
   late {k = k} space (sentence r) = absurd (b .clean k r)
@@ -79,7 +79,7 @@ module _ {file text : List ℕ} {m : Model} {s : Sentence} (a : ModelRead file m
   late space (tuples {ps} f sp e) =
       eleven (subst (λ (qs : List Bool). 1024 < tupleCount (chainOf (fieldsOf file)) (length qs)) (one f sp .0) e)
 
-  module _ {room : ℕ} (space : 8192 ≤ room) where
+  module _ {room : ℕ} (space : areaSize ≤ room) where
     pub gives-9 : every (labelRight (fieldsOf file .a)) (formulaNodes (b .body)) ≡ false → Decided (QuestionRow file text room) 9
     gives-9 e = refused (labels (b .body) (b .spelled) e) (λ k r. from (late space r))
       where

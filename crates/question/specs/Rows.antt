@@ -20,6 +20,10 @@ use Rattle.meaning.specs.Size.{exceeds}
 use Rattle.trees.specs.Listed.{formulaNodes}
 use Rattle.chain.specs.Of.{chainOf}
 
+-- how many numbers the work area has to have: 8,192 numbers of 64 bits
+abbrev pub areaSize : ℕ
+areaSize = 8192
+
 -- a node's label letter, if it has one, is below A
 abbrev pub labelRight : ℕ → Node → Bool
 labelRight a True = true
@@ -39,7 +43,7 @@ labelRight a (Until k1 k2) = true
 -- and a work area of `room` numbers. A sentence is the prefix ps and the body f that spell the text: every node list of the grammar
 -- is that of a tree, and of one only (`formula-of` and `sentence-once` of the crate `trees`).
 pub data QuestionRow (file text : List ℕ) (room : ℕ) : ℕ → Type 0 where
-  area : room < 8192 → QuestionRow file text room 1
+  area : room < areaSize → QuestionRow file text room 1
   model : {n : ℕ} → Applies n (fileRows file) → QuestionRow file text room n
   sentence : {n : ℕ} → ReadRow text n → QuestionRow file text room n
   labels : {ps : List Bool} (f : Formula) → Spells ps (formulaNodes f) text → every (labelRight (fieldsOf file .a)) (formulaNodes f) ≡ false →

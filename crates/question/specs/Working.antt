@@ -16,7 +16,7 @@ use Rattle.meaning.specs.Tree.{Formula}
 use Rattle.meaning.specs.Size.{exceeds}
 use Rattle.evaluate.specs.declared.Setting.{Setting}
 use Rattle.trees.specs.Listed.{formulaNodes}
-use Rattle.question.specs.Rows.{QuestionRow}
+use Rattle.question.specs.Rows.{QuestionRow, areaSize}
 
 -- the file is accepted and m is its model
 pub record ModelRead (file : List ℕ) (m : Model) : Type 0 where
@@ -40,7 +40,7 @@ pub record Read (m : Model) (s : Sentence) : Type 0 where
 
 -- the number that the rows give, of whatever file and text m and s are read from
 pub record Late (m : Model) (s : Sentence) (number : ℕ) : Type 0 where
-  pub each : (file text : List ℕ) (room : ℕ) → 8192 ≤ room → ModelRead file m → SentenceRead text s → Decided (QuestionRow file text room) number
+  pub each : (file text : List ℕ) (room : ℕ) → areaSize ≤ room → ModelRead file m → SentenceRead text s → Decided (QuestionRow file text room) number
 
 -- what the two readers answered, to some file and some text
 pub record Answered (m : Loaded.ModelRead) (s : Parsed.SentenceRead) : Type 0 where

@@ -17,6 +17,9 @@ use sentence::SentenceRead;
 use sentence::Slot;
 use sizes::exceeds;
 
+// How many numbers of the work area a call uses, and row 1 asks for: `areaSize` of specs/.
+pub const AREA: usize = 8192;
+
 // Whether a node's label letter, if it has one, is below A.
 fn label_right(node: Node, a: u32) -> bool
     ensures { λ r. ⌜ r ≡ labelRight a node ⌝ }
@@ -92,7 +95,7 @@ pub fn first_number(room: usize, m: ModelRead, s: SentenceRead) -> u8
     requires { ⌜ Answered m s ⌝ }
     ensures { λ r. ⌜ First room m s r ⌝ }
 {
-    if room < 8192 {
+    if room < AREA {
         return 1;
     }
     let loaded = m.outcome;

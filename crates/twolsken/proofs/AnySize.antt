@@ -11,7 +11,7 @@ use Rattle.refusal.specs.Rows.{Decided, refused}
 use Rattle.model.specs.Rows.{lengthRight, fileNumber}
 use Rattle.model.proofs.Answer.{number-2}
 use Rattle.sentence.specs.Calls.{long}
-use Rattle.question.specs.Rows.{QuestionRow, area, model, sentence, labels, size, tuples}
+use Rattle.question.specs.Rows.{QuestionRow, area, model, sentence, labels, size, tuples, areaSize}
 use Rattle.question.proofs.Numbers.{text-number}
 use Rattle.question.proofs.Stages.{none-of-file}
 use Rattle.question.proofs.Early.{gives-file}
@@ -29,7 +29,7 @@ last-fails true true c e = e
 last-fails true false c e = refl
 last-fails false b c e = refl
 
-module _ {room : ℕ} (space : 8192 ≤ room) where
+module _ {room : ℕ} (space : areaSize ≤ room) where
   -- a model file of over 3,072 bytes is refused 2, whatever the text
   over-model : (file text : List ℕ) → 3072 < length file → Decided (QuestionRow file text room) 2
   unfolding lengthRight
@@ -68,7 +68,7 @@ alike {file′ = file′} {text′} {before} {after} {r} {n} some d d′ a =
     (subst (λ (l : List ℕ). VerdictAnswer file′ text′ before (Refused n) l) (one .1) (refused-so d′ some))
 
 -- the answer on the first bytes is the answer on the whole files
-pub any-size : (file said : List ℕ) {before after : List ℕ} {r : Answer} → 8192 ≤ length before →
+pub any-size : (file said : List ℕ) {before after : List ℕ} {r : Answer} → areaSize ≤ length before →
     VerdictAnswer (take 3073 file) (withoutNewline (take 402 said)) before r after → VerdictAnswer file (withoutNewline said) before r after
 any-size file said {before} {after} {r} space = by (model-enough file) (text-enough said)
   where

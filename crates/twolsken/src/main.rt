@@ -11,6 +11,7 @@ use file::Contents;
 use file::read_file;
 use libc::STDOUT_FILENO;
 use line::line;
+use question::AREA;
 use text::without_newline;
 use verdict::Answer;
 
@@ -18,7 +19,7 @@ use verdict::Answer;
 fn answer(model: &[u8], sentence: &[u8]) -> Answer
     ensures { λ r. ⌜ AnswersFiles (now (model .entry)) (now (sentence .entry)) r ⌝ }
 {
-    let mut work = [0u64; 8192];
+    let mut work = [0u64; AREA];
     verdict::verdict(model, without_newline(sentence), &mut work)
 }
 

@@ -24,10 +24,11 @@ use Rattle.chain.specs.Of.{chainOf}
 use Rattle.question.specs.Working.{SentenceRead, Ready, SettingOf}
 use Rattle.question.proofs.Pair.{nodes-few, stands, one-sentence, letters-length}
 use Rattle.question.proofs.Settled.{body-ranged, sizes, fixed, variables-few, layers-fit}
+use Rattle.question.specs.Rows.{areaSize}
 
 module _ {m : Model} {s : Sentence} {g : Setting} {rows : List (List ℕ)} (r : Ready m s) (so : SettingOf m s g) (e : rows ≡ m .weights .rows) where
   -- the body can be evaluated
-  pub formula-ready : {w : List ℕ} → length w ≡ 8192 → FormulaReady (s .nodes) g (m .masks) rows 0 w
+  pub formula-ready : {w : List ℕ} → length w ≡ areaSize → FormulaReady (s .nodes) g (m .masks) rows 0 w
   formula-ready long =
       let b = r .read .sentence in
       let few = sizes r so .few in
@@ -44,7 +45,7 @@ module _ {m : Model} {s : Sentence} {g : Setting} {rows : List (List ℕ)} (r : 
       }
 
   -- the prefix can be descended
-  pub descent-ready : {w : List ℕ} → length w ≡ 8192 → DescentReady (s .exists) (g .variables) (g .states) 0 0 w
+  pub descent-ready : {w : List ℕ} → length w ≡ areaSize → DescentReady (s .exists) (g .variables) (g .states) 0 0 w
   descent-ready long =
       let size = sizes r so in
       let few = size .few in

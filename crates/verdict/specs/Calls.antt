@@ -9,7 +9,7 @@ use Rattle.model.specs.Layout.{fieldsOf}
 use Rattle.meaning.specs.Tree.{letterOf}
 use Rattle.meaning.specs.Meaning.{verdict}
 use Rattle.chain.specs.Of.{chainOf}
-use Rattle.question.specs.Rows.{QuestionRow, SentenceOf, cleared}
+use Rattle.question.specs.Rows.{QuestionRow, SentenceOf, cleared, areaSize}
 use Rattle.verdict.specs.declared.Answer.{Answer}
 use Rattle.verdict.specs.declared.Answer.the-variants.{Holds, Fails, Refused}
 
@@ -19,11 +19,11 @@ replyOf Holds = gives true
 replyOf Fails = gives false
 replyOf (Refused number) = refuses number
 
--- what is right of verdict: 'holds' exactly if the sentence holds, and the first 8,192 numbers of the area zero
+-- the correct result of verdict: 'holds' exactly if the sentence holds; the first `areaSize` numbers of the area are zero afterwards
 pub record Judges (file text before : List ℕ) (holds : Bool) (after : List ℕ) : Type 0 where
   pub sentence : SentenceOf text
   pub meant : holds ≡ verdict (chainOf (fieldsOf file)) (map letterOf (sentence .prefix)) (sentence .body)
-  pub left : after ≡ cleared 8192 before
+  pub left : after ≡ cleared areaSize before
 
 -- what verdict ensures of the model file, the sentence text, the work area before and after, and what it answers
 pub record VerdictAnswer (file text before : List ℕ) (answer : Answer) (after : List ℕ) : Type 0 where

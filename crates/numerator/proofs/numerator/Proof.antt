@@ -6,7 +6,7 @@ use borrow.Author.Needs.{needs}
 use borrow.Author.Tests.{not-true, not-false}
 use lib.ListN.{length, take}
 use lib.Seq.{length-take-le}
-use Rattle.question.specs.Rows.{QuestionRow}
+use Rattle.question.specs.Rows.{QuestionRow, areaSize}
 use Rattle.question.proofs.Numbers.{none-of}
 use Rattle.question.proofs.Settled.{space, sentence-of, ready-of}
 use Rattle.question.proofs.Cleared.{back-long, cleared-so}
@@ -48,9 +48,9 @@ returns-2 c =
 slice-relend-prefix-counted : tie.Need-slice-relend-prefix-counted
 slice-relend-prefix-counted c = space (none (c .before .before .before .before))
 
--- the area that is lent is 8,192 numbers long
-lent : (c : tie.Else1) → length (take 8192 (c .before .before .before .before .before .before .before .before .args .work .now)) ≡ 8192
-lent c = length-take-le 8192 (c .before .before .before .before .before .before .before .before .args .work .now) (space (none c))
+-- the front of the area that is lent has the numbers that a call uses
+lent : (c : tie.Else1) → length (take areaSize (c .before .before .before .before .before .before .before .before .args .work .now)) ≡ areaSize
+lent c = length-take-le areaSize (c .before .before .before .before .before .before .before .before .args .work .now) (space (none c))
 
 slice-aggregate-counted : tie.Need-slice-aggregate-counted
 slice-aggregate-counted c = sym (lent (c .before .before .before .before .before))
@@ -69,7 +69,7 @@ counted-requires c κs =
     )
 
 -- and so it is when it comes back
-back : (c : tie.After-counted) → length (c .counted .last .1 .1 .1 .1 .0) ≡ 8192
+back : (c : tie.After-counted) → length (c .counted .last .1 .1 .1 .1 .0) ≡ areaSize
 back c = c .counted .kept .1 .1 .1 .1 .0 ∙ lent (c .before .before .before .before .before .before)
 
 zero-requires : tie.Need-zero-requires
