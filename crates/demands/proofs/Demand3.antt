@@ -2,7 +2,7 @@
 use Prim.Native.Nat.{ℕ, _≤_, _<_}
 use mathlib.Core.Bool.{Bool, true, false, not, true≢false}
 use mathlib.Core.List.{List, map}
-use mathlib.Core.Logic.{_↔_}
+use mathlib.Core.Logic.{_↔_, _⊎_, ⊎-elim}
 use mathlib.Core.Path.{_≡_, refl, sym, ap, ap₂, subst, _∙_}
 use native.Mathlib.Decide.{decLt}
 use native.Mathlib.Omega.{arith}
@@ -12,7 +12,7 @@ use lib.Seq.{take-at}
 use Rattle.refusal.specs.declared.Written.{Written}
 use Rattle.refusal.specs.declared.Written.the-variants.{Wrote}
 use Rattle.refusal.specs.Rows.{Applies, refused as smallest-of, Given}
-use Rattle.refusal.specs.Answers.{gives, refuses, replyOfWritten, Writes}
+use Rattle.refusal.specs.Answers.{gives, refuses, numberIn, replyOfWritten, Writes}
 use Rattle.refusal.proofs.Ensuring.{right-of, written-told}
 use Rattle.refusal.proofs.Laws.{first-later, first-none}
 use Rattle.refusal.proofs.Listed.{none-applies}
@@ -42,9 +42,10 @@ use Rattle.merge.proofs.Exact.{refused-13, stable-alike}
 use Rattle.merge.proofs.Grouped.{grouping-right, count-is}
 use Rattle.merge.proofs.Numbers.{merge-rows, file-accepted}
 use Rattle.merge.proofs.Theorems.{merge-smallest, mergeable, merged-read, kept-written}
-use Rattle.demands.specs.Demands.{chainIn, MergeAsked, Keeps, MergedWritten, Demand3}
+use Rattle.demands.specs.Demands.{chainIn, MergeAsked, Differ, Keeps, MergedWritten, Demand3}
 use Rattle.demands.proofs.Free.{one-sentence, inside-members, members, tuple-inside}
 use Rattle.demands.proofs.Demand1.{demand-1}
+use Rattle.demands.proofs.Differing.{stable-differ, settled}
 
 -- ---- what merging keeps
 
@@ -134,17 +135,19 @@ module _ {file grouping : List ℕ} {M room : ℕ} (asked : MergeAsked file grou
 
 module _ (file grouping : List ℕ) (M : ℕ) {before after : List ℕ} {w : Written} (asked : MergeAsked file grouping M (length before))
     (writes : Writes (mergeRows file grouping (length before)) (mergedFile file grouping) before after w) where
-  -- it is refused exactly if the grouping is not stable
-  refused-so : ((n : ℕ) × (replyOfWritten w ≡ refuses n)) ↔ (Stable (chainIn file) (groupOf grouping) M → ⊥)
+  -- a stable grouping is not refused
+  stable-unrefused : Stable (chainIn file) (groupOf grouping) M → (n : ℕ) → replyOfWritten w ≡ refuses n → ⊥
   unfolding mergeNumber
-  refused-so = (
-    λ e st. none-applies (merge-rows file grouping (length before)) (stable-free asked st) (e .0)
-        (demand-1 .merge-call file grouping writes .refusal (e .0) .0 (e .1) .0),
-    λ differ.
-        let here = refused-13 file grouping (length before) (asked .accepted) M (asked .long) (asked .grouped) .1 differ in
-        let ends = demand-1 .merge-call file grouping writes .refusal 13 in
-        (13, ends .1 (given-13 here)),
-  )
+  stable-unrefused st n e =
+      none-applies (merge-rows file grouping (length before)) (stable-free asked st) n
+      (demand-1 .merge-call file grouping writes .refusal n .0 e .0)
+
+  -- one in which two states of a group differ is refused, with the number 13
+  differ-refused : Differ (chainIn file) (groupOf grouping) M → replyOfWritten w ≡ refuses 13
+  unfolding mergeNumber
+  differ-refused differ =
+      let here = refused-13 file grouping (length before) (asked .accepted) M (asked .long) (asked .grouped) .1 (λ st. stable-differ st differ) in
+      demand-1 .merge-call file grouping writes .refusal 13 .1 (given-13 here)
     where
       given-13 : mergeNumber file grouping (length before) ≡ 13 →
           Applies 13 (mergeRows file grouping (length before)) × ((m : ℕ) → Applies m (mergeRows file grouping (length before)) → 13 ≤ m)
@@ -153,6 +156,18 @@ module _ (file grouping : List ℕ) (M : ℕ) {before after : List ℕ} {w : Wri
           by : Given (mergeRows file grouping (length before)) 13 →
               Applies 13 (mergeRows file grouping (length before)) × ((m : ℕ) → Applies m (mergeRows file grouping (length before)) → 13 ≤ m)
           by (smallest-of row least) = (row, least)
+
+  -- there is no third
+  either : Stable (chainIn file) (groupOf grouping) M ⊎ Differ (chainIn file) (groupOf grouping) M
+  either =
+      settled (fieldsOf file) grouping (fields-right file (asked .accepted)) M
+      (count-is (chainIn file) grouping M (asked .long) (asked .grouped))
+
+  refused-so : (replyOfWritten w ≡ refuses 13) ↔ Differ (chainIn file) (groupOf grouping) M
+  refused-so = (λ e. ⊎-elim (λ st. absurd (stable-unrefused st 13 e)) (λ differ. differ) either, differ-refused)
+
+  number-so : (n : ℕ) → replyOfWritten w ≡ refuses n → n ≡ 13
+  number-so n e = ⊎-elim (λ st. absurd (stable-unrefused st n e)) (λ differ. ap numberIn (sym e ∙ differ-refused differ)) either
 
   -- otherwise the merged model is written
   written-so : Stable (chainIn file) (groupOf grouping) M → MergedWritten file grouping w after
@@ -180,5 +195,7 @@ module _ (file grouping : List ℕ) (M : ℕ) {before after : List ℕ} {w : Wri
 pub demand-3 : Demand3
 demand-3 = record {
   refused = λ file grouping M asked writes. refused-so file grouping M asked writes;
-  written = λ file grouping M asked writes. written-so file grouping M asked writes;
+  number = λ file grouping M asked writes. number-so file grouping M asked writes;
+  written = λ file grouping M asked writes none.
+      ⊎-elim (λ st. written-so file grouping M asked writes st) (λ differ. absurd (none differ)) (either file grouping M asked writes);
 }

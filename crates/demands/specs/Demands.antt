@@ -1,8 +1,10 @@
 -- The three demands of document 00, said of whatever the calls' contracts allow: of every reply, and of all that is left.
-use Prim.Native.Nat.{ℕ, _≤_}
-use mathlib.Core.List.{List, [], map}
+use Prim.Native.Nat.{ℕ, _≤_, _<_}
+use mathlib.Core.Bool.{Bool, cond}
+use mathlib.Core.List.{List, [], _∷_, map, List·Memᴰ}
 use mathlib.Core.Logic.{_↔_}
 use mathlib.Core.Path.{_≡_}
+use lib.IntN.{pos}
 use lib.ListN.{length, take}
 use Rattle.refusal.specs.declared.Outcome.the-variants.{Done}
 use Rattle.refusal.specs.declared.Written.{Written}
@@ -16,11 +18,11 @@ use Rattle.model.specs.Rows.{fileRows, fileNumber, emptyModel, Reads, recordRow
 use Rattle.sentence.specs.declared.Sentence.{Sentence}
 use Rattle.sentence.specs.declared.SentenceRead.{SentenceRead}
 use Rattle.sentence.specs.Calls.{ReadRow, recordOf, ReadAnswer, prefixOf, nodesOf, WriteRow, WriteAnswer}
-use Rattle.meaning.specs.Lists.{total}
-use Rattle.meaning.specs.Chain.{Chain, runWeight, runs}
-use Rattle.meaning.specs.Tree.{PathFormula, next, until, letterOf}
-use Rattle.meaning.specs.Meaning.{numerator, verdict}
-use Rattle.meaning.specs.Merging.{Grouping, Stable}
+use Rattle.meaning.specs.Lists.{total, Each, Distinct}
+use Rattle.meaning.specs.Chain.{Chain, Tuple, Inside, Run, runWeight}
+use Rattle.meaning.specs.Tree.{probability, PathFormula, next, until, letterOf}
+use Rattle.meaning.specs.Meaning.{nextTakes, untilTakes, holds, value, verdict}
+use Rattle.meaning.specs.Merging.{weightInto, Grouping}
 use Rattle.chain.specs.Of.{chainOf}
 use Rattle.question.specs.Rows.{QuestionRow, SentenceOf, areaSize}
 use Rattle.verdict.specs.declared.Answer as Judged
@@ -71,12 +73,35 @@ stepsOf (until k1 k2 f g) = k2
 abbrev pub chainIn : List ℕ → Chain
 chainIn file = chainOf (fieldsOf file)
 
--- what numerator gives of a path formula at a tuple: the total weight of the satisfying runs, each run once, over the total weight
--- of all
-pub record Probability (file : List ℕ) (p : PathFormula) (n : ℕ) (tuple : List ℕ) (reply : Reply (ℕ × ℕ)) : Type 0 where
+-- whether the path formula takes the run
+abbrev pub takes : PathFormula → Chain → ℕ → Run → Bool
+takes (next f) c n r = nextTakes (λ t. holds f c n t) r
+takes (until k1 k2 f g) c n r = untilTakes (λ t. holds f c n t) (λ t. holds g c n t) k1 k2 r
+
+-- a run of k steps from a tuple: the tuple, followed by any k tuples of n states
+pub record RunFrom (c : Chain) (n k : ℕ) (tuple : Tuple) (r : Run) : Type 0 where
+  pub rest : Run
+  pub starts : tuple ∷ rest ≡ r
+  pub steps : Each (Inside (c .N) n) k rest
+
+-- A path formula's numerator and denominator at a tuple. There is a list
+pub record Probability (c : Chain) (p : PathFormula) (n : ℕ) (tuple : Tuple) (top bottom : ℕ) : Type 0 where
+  pub all : List Run
+  -- in which just the runs from the tuple stand that have as many steps as the path formula speaks of,
+  pub just : (r : Run) → List·Memᴰ r all ↔ RunFrom c n (stepsOf p) tuple r
+  -- each run once.
+  pub once : Distinct all
+  -- The numerator is the total weight of those that the path formula takes,
+  pub satisfying : top ≡ total (λ r. cond (takes p c n r) (runWeight c r) 0) all
+  -- the denominator the total weight of all.
+  pub whole : bottom ≡ total (runWeight c) all
+
+-- the value that a probability has in an expression, at a tuple
+pub record Valued (c : Chain) (p : PathFormula) (n : ℕ) (tuple : Tuple) : Type 0 where
+  pub top : ℕ
   pub bottom : ℕ
-  pub given : reply ≡ gives (numerator p (chainIn file) n tuple, bottom)
-  pub whole : bottom ≡ total (runWeight (chainIn file)) (runs (chainIn file) n (stepsOf p) tuple)
+  pub valued : value (probability p) c n tuple ≡ record { top = pos top; bottom = bottom }
+  pub counted : Probability c p n tuple top bottom
 
 -- Demand 2, of verdict and numerator on a file, where no row applies: the text has a sentence, and one only;
 pub record Demand2 (file : List ℕ) : Type 0 where
@@ -85,10 +110,14 @@ pub record Demand2 (file : List ℕ) : Type 0 where
   pub verdicts : {text before after : List ℕ} {a : Judged.Answer} → VerdictAnswer file text before a after →
       ((n : ℕ) → QuestionRow file text (length before) n → ⊥) →
       (s : SentenceOf text) × (replyJudged a ≡ gives (verdict (chainIn file) (map letterOf (s .prefix)) (s .body)))
-  -- and each probability is the total weight of the satisfying runs over the total weight of all.
-  pub probabilities : {text tuple before after : List ℕ} {path : ℕ} {a : Counted.Answer} → NumeratorAnswer file text tuple path before a after →
-      ((n : ℕ) → NumeratorRow file text tuple path (length before) n → ⊥) →
-      (s : SentenceOf text) × Probability file (numbered (s .body) path) (length (s .prefix)) tuple (replyCounted a)
+  -- each probability in it is, at every tuple of states, the total weight of the satisfying runs over the total weight of all;
+  pub in-verdicts : {text : List ℕ} {room : ℕ} → ((n : ℕ) → QuestionRow file text room n → ⊥) → (s : SentenceOf text) (p : PathFormula)
+      {tuple : Tuple} → Inside (chainIn file .N) (length (s .prefix)) tuple → Valued (chainIn file) p (length (s .prefix)) tuple
+  -- and so are the two numbers that numerator gives.
+  pub probabilities : {text tuple before after : List ℕ} {path : ℕ} {a : Counted.Answer} →
+      NumeratorAnswer file text tuple path before a after → ((n : ℕ) → NumeratorRow file text tuple path (length before) n → ⊥) →
+      (s : SentenceOf text) × (v : ℕ × ℕ) × (replyCounted a ≡ gives v) ×
+      Probability (chainIn file) (numbered (s .body) path) (length (s .prefix)) tuple (v .0) (v .1)
 
 -- Demand 2, of the readers and writers.
 pub record RoundTrips : Type 0 where
@@ -118,6 +147,13 @@ pub record MergeAsked (file grouping : List ℕ) (M room : ℕ) : Type 0 where
   pub grouped : Grouping (chainIn file) (groupOf grouping) M
   pub fits : length (mergedFile file grouping) ≤ room
 
+-- two states of one group differ in labels or in their weight into some group
+pub data Differ (c : Chain) (group : ℕ → ℕ) (M : ℕ) : Type 0 where
+  inLabels : (s t : ℕ) → s < c .N → t < c .N → group s ≡ group t →
+      (((l : ℕ) → c .label l s ≡ c .label l t) → ⊥) → Differ c group M
+  inWeight : (s t : ℕ) → s < c .N → t < c .N → group s ≡ group t → (h : ℕ) → h < M →
+      (weightInto c group s h ≡ weightInto c group t h → ⊥) → Differ c group M
+
 -- What merging keeps, of the answers on a file and on the file that it is merged to (where the second work area is long enough):
 pub record Keeps (file grouping merged : List ℕ) : Type 0 where
   -- for every sentence not refused on the full model the verdicts are equal,
@@ -141,11 +177,15 @@ pub record MergedWritten (file grouping : List ℕ) (answer : Written) (after : 
 
 -- Demand 3, of whatever merge answers and leaves.
 pub record Demand3 : Type 0 where
-  -- It is refused exactly if two states of one group differ in labels or in their weight into some group.
+  -- It is refused, with the number 13, exactly if two states of one group differ in labels or in their weight into some group;
   pub refused : (file grouping : List ℕ) (M : ℕ) {before after : List ℕ} {w : Written} → MergeAsked file grouping M (length before) →
       Writes (mergeRows file grouping (length before)) (mergedFile file grouping) before after w →
-      ((n : ℕ) × (replyOfWritten w ≡ refuses n)) ↔ (Stable (chainIn file) (groupOf grouping) M → ⊥)
+      (replyOfWritten w ≡ refuses 13) ↔ Differ (chainIn file) (groupOf grouping) M
+  -- it is refused with no other number.
+  pub number : (file grouping : List ℕ) (M : ℕ) {before after : List ℕ} {w : Written} → MergeAsked file grouping M (length before) →
+      Writes (mergeRows file grouping (length before)) (mergedFile file grouping) before after w →
+      (n : ℕ) → replyOfWritten w ≡ refuses n → n ≡ 13
   -- Otherwise the merged model is written, and what merging keeps is kept.
   pub written : (file grouping : List ℕ) (M : ℕ) {before after : List ℕ} {w : Written} → MergeAsked file grouping M (length before) →
       Writes (mergeRows file grouping (length before)) (mergedFile file grouping) before after w →
-      Stable (chainIn file) (groupOf grouping) M → MergedWritten file grouping w after
+      (Differ (chainIn file) (groupOf grouping) M → ⊥) → MergedWritten file grouping w after
