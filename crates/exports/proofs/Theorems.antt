@@ -33,9 +33,10 @@ use Rattle.verdict.proofs.Single.{one-verdict, number-few}
 use Rattle.numerator.specs.declared.Answer as Counted
 use Rattle.numerator.specs.Calls.{replyOf as replyCounted}
 use Rattle.numerator.proofs.Single.{one-numerator}
-use Rattle.exports.specs.Questions.{verdictCode, GivesVerdict, valuesLeft, GivesNumerator}
-use Rattle.exports.specs.Records.{Coded, headOf, ReadsModel, codeOf, WritesModel, Merges}
-use Rattle.exports.specs.Sentences.{sentenceHead, letterCode, letterCodes, codesOf, codeOfNode, ReadsSentence, unspelled, nodeOf, nodeOfCode, placesOf, lettersOf, WritesSentence}
+use Rattle.codes.specs.Codes.{Coded, codeOf, sentenceHead, letterCodes, codesOf, noNode}
+use Rattle.exports.specs.Questions.{verdictCode, ExportedVerdict, valuesLeft, ExportedNumerator}
+use Rattle.exports.specs.Models.{headOf, ExportedReadModel, ExportedWriteModel, ExportedMerge}
+use Rattle.exports.specs.Sentences.{ExportedReadSentence, ExportedWriteSentence}
 
 -- ---- any two results that a contract allows are equal
 
@@ -48,22 +49,22 @@ module _ {A : Type 0} (code : A → ℕ) (Ensures : A → List ℕ → Type 0)
       (x .coded ∙ ap code (same .0) ∙ sym (y .coded), same .1)
 
 module _ {before after after′ : List ℕ} {r r′ : ℕ} where
-  pub one-model-written : (m : Model) → WritesModel m before after r → WritesModel m before after′ r′ → (r ≡ r′) × (after ≡ after′)
+  pub one-model-written : (m : Model) → ExportedWriteModel m before after r → ExportedWriteModel m before after′ r′ → (r ≡ r′) × (after ≡ after′)
   one-model-written m = one-coded codeOf _ (λ a b l l′ x y. one-writing x y)
 
-  pub one-merged : (file grouping : List ℕ) → Merges file grouping before after r → Merges file grouping before after′ r′ →
+  pub one-merged : (file grouping : List ℕ) → ExportedMerge file grouping before after r → ExportedMerge file grouping before after′ r′ →
       (r ≡ r′) × (after ≡ after′)
   one-merged file grouping = one-coded codeOf _ (λ a b l l′ x y. one-writing x y)
 
-  pub one-sentence-written : (s : Sentence) → WritesSentence s before after r → WritesSentence s before after′ r′ → (r ≡ r′) × (after ≡ after′)
+  pub one-sentence-written : (s : Sentence) → ExportedWriteSentence s before after r → ExportedWriteSentence s before after′ r′ → (r ≡ r′) × (after ≡ after′)
   one-sentence-written s = one-coded codeOf _ (λ a b l l′ x y. one-text x y)
 
-  pub one-verdict-given : (file text : List ℕ) → GivesVerdict file text before after r → GivesVerdict file text before after′ r′ →
+  pub one-verdict-given : (file text : List ℕ) → ExportedVerdict file text before after r → ExportedVerdict file text before after′ r′ →
       (r ≡ r′) × (after ≡ after′)
   one-verdict-given file text = one-coded verdictCode _ (λ a b l l′ x y. one-verdict x y)
 
 module _ {head masks h h′ m m′ : List ℕ} {rows w w′ : List (List ℕ)} {r r′ : ℕ} where
-  pub one-model-read : {file : List ℕ} → ReadsModel file head masks rows h m w r → ReadsModel file head masks rows h′ m′ w′ r′ →
+  pub one-model-read : {file : List ℕ} → ExportedReadModel file head masks rows h m w r → ExportedReadModel file head masks rows h′ m′ w′ r′ →
       (r ≡ r′) × (h ≡ h′) × (m ≡ m′) × (w ≡ w′)
   one-model-read a b =
       let same : a .read ≡ b .read = one-reading (a .answer) (b .answer) in (
@@ -74,7 +75,7 @@ module _ {head masks h h′ m m′ : List ℕ} {rows w w′ : List (List ℕ)} {
       )
 
 module _ {text head exists h h′ e e′ : List ℕ} {codes c c′ : List (List ℕ)} {r r′ : ℕ} where
-  pub one-sentence-read : ReadsSentence text head exists codes h e c r → ReadsSentence text head exists codes h′ e′ c′ r′ →
+  pub one-sentence-read : ExportedReadSentence text head exists codes h e c r → ExportedReadSentence text head exists codes h′ e′ c′ r′ →
       (r ≡ r′) × (h ≡ h′) × (e ≡ e′) × (c ≡ c′)
   one-sentence-read a b =
       let same : a .read ≡ b .read = one-answer (a .answer) (b .answer) in (
@@ -85,8 +86,8 @@ module _ {text head exists h h′ e e′ : List ℕ} {codes c c′ : List (List 
       )
 
 module _ {file text tuple before value after after′ v v′ : List ℕ} {path r r′ : ℕ} where
-  pub one-numerator-given : GivesNumerator file text tuple path before value after v r →
-      GivesNumerator file text tuple path before value after′ v′ r′ → (r ≡ r′) × (after ≡ after′) × (v ≡ v′)
+  pub one-numerator-given : ExportedNumerator file text tuple path before value after v r →
+      ExportedNumerator file text tuple path before value after′ v′ r′ → (r ≡ r′) × (after ≡ after′) × (v ≡ v′)
   one-numerator-given a b =
       let same = one-numerator (a .answer) (b .answer) in (
         a .answered ∙ ap (λ (x : Counted.Answer). numberIn (replyCounted x)) (same .0) ∙ sym (b .answered),
@@ -102,7 +103,7 @@ filled-none (gives v) value before some = absurd (omega arith)
 filled-none (refuses n) value before some = refl
 
 module _ {head masks h m : List ℕ} {rows w : List (List ℕ)} {r : ℕ} where
-  pub model-unchanged : {file : List ℕ} → ReadsModel file head masks rows h m w r → 0 < r → (h ≡ head) × (m ≡ masks) × (w ≡ rows)
+  pub model-unchanged : {file : List ℕ} → ExportedReadModel file head masks rows h m w r → 0 < r → (h ≡ head) × (m ≡ masks) × (w ≡ rows)
   model-unchanged a some =
       let refusal = subst (λ (n : ℕ). 0 < n) (a .answered) some in (
         a .head-left ∙ filled-none (replyOf (a .read .outcome)) _ head refusal,
@@ -111,7 +112,7 @@ module _ {head masks h m : List ℕ} {rows w : List (List ℕ)} {r : ℕ} where
       )
 
 module _ {text head exists h e : List ℕ} {codes c : List (List ℕ)} {r : ℕ} where
-  pub sentence-unchanged : ReadsSentence text head exists codes h e c r → 0 < r → (h ≡ head) × (e ≡ exists) × (c ≡ codes)
+  pub sentence-unchanged : ExportedReadSentence text head exists codes h e c r → 0 < r → (h ≡ head) × (e ≡ exists) × (c ≡ codes)
   sentence-unchanged a some =
       let refusal = subst (λ (n : ℕ). 0 < n) (a .answered) some in (
         a .head-left ∙ filled-none (replyOf (a .read .outcome)) _ head refusal,
@@ -120,7 +121,7 @@ module _ {text head exists h e : List ℕ} {codes c : List (List ℕ)} {r : ℕ}
       )
 
 module _ {file text tuple before value after v : List ℕ} {path r : ℕ} where
-  pub value-unchanged : GivesNumerator file text tuple path before value after v r → 0 < r → v ≡ value
+  pub value-unchanged : ExportedNumerator file text tuple path before value after v r → 0 < r → v ≡ value
   value-unchanged a some = a .value-left ∙ none (replyCounted (a .counted)) (subst (λ (n : ℕ). 0 < n) (a .answered) some)
     where
       none : (q : Reply (ℕ × ℕ)) → 0 < numberIn q → valuesLeft q value ≡ value
@@ -151,67 +152,11 @@ code-tells (Refused n) (Refused m) x y e = ap Refused e
 
 -- who is given an answer's code is given that answer
 pub verdict-told : {file text before after : List ℕ} (a : Judged.Answer) → numberIn (replyJudged a) ≤ 11 →
-    GivesVerdict file text before after (verdictCode a) → VerdictAnswer file text before a after
+    ExportedVerdict file text before after (verdictCode a) → VerdictAnswer file text before a after
 verdict-told {file} {text} {before} {after} a few g =
     subst (λ (x : Judged.Answer). VerdictAnswer file text before x after)
     (code-tells (g .answer) a (number-few (g .ensures)) few (sym (g .coded)))
     (g .ensures)
-
--- ---- the writer takes what the reader leaves
-
--- a label and a variable are bytes
-abbrev pub Bytes : Node → Type 0
-Bytes True = Unit
-Bytes (Label label variable) = (label ≤ 255) × (variable ≤ 255)
-Bytes Not = Unit
-Bytes And = Unit
-Bytes (Compare relation) = Unit
-Bytes Probability = Unit
-Bytes (Constant top bottom) = Unit
-Bytes Sum = Unit
-Bytes Difference = Unit
-Bytes Product = Unit
-Bytes Next = Unit
-Bytes (Until from to) = Unit
-
--- the code of a node stands for that node
-pub node-back : (n : Node) → Bytes n → nodeOfCode (codeOfNode n) ≡ n
-unfolding nodeOf
-node-back True b = refl
-node-back (Label label variable) b =
-    ap (λ (t : Bool). cond t (Label label variable) unspelled) (and-true (le-leb label 255 (b .0)) (le-leb variable 255 (b .1)))
-node-back Not b = refl
-node-back And b = refl
-node-back (Compare Less) b = refl
-node-back (Compare AtMost) b = refl
-node-back (Compare Equal) b = refl
-node-back (Compare AtLeast) b = refl
-node-back (Compare Greater) b = refl
-node-back Probability b = refl
-node-back (Constant top bottom) b = refl
-node-back Sum b = refl
-node-back Difference b = refl
-node-back Product b = refl
-node-back Next b = refl
-node-back (Until from to) b = refl
-
--- the codes of 64 places stand for those places
-pub places-back : (nodes : List Slot) → length nodes ≡ 64 → ((k : ℕ) → k < 64 → Bytes (getD nodes k (slot True) .node)) → placesOf (codesOf nodes) ≡ nodes
-places-back nodes long bytes =
-    sym (table-is 64 (λ i. slot (nodeOfCode (getD (codesOf nodes) i []))) (slot True) nodes long (λ k less.
-    sym (ap slot (node-back (getD nodes k (slot True) .node) (bytes k less))) ∙
-    ap (λ (c : List ℕ). slot (nodeOfCode c)) (sym (table-at 64 (λ i. codeOfNode (getD nodes i (slot True) .node)) [] k less))))
-
-letter-back : (b : Bool) → not (eqb (letterCode b) 0) ≡ b
-letter-back true = refl
-letter-back false = refl
-
--- the codes of four letters stand for those letters
-pub letters-back : (exists : List Bool) → length exists ≡ 4 → lettersOf (letterCodes exists) ≡ exists
-letters-back exists long =
-    sym (table-is 4 (λ i. not (eqb (getD (letterCodes exists) i 0) 0)) false exists long (λ k less.
-    sym (letter-back (getD exists k false)) ∙
-    ap (λ (n : ℕ). not (eqb n 0)) (sym (table-at 4 (λ i. letterCode (getD exists i false)) 0 k less))))
 
 -- ---- a code that is no node's is refused as 6 where it counts
 
@@ -219,7 +164,7 @@ inner-writable : (before after : List Node) (n : Node) → AllWritable (before +
 inner-writable [] after n h = h .0
 inner-writable (x ∷ before) after n h = inner-writable before after n (h .1)
 
-pub no-node-refused : (s : Sentence) (room : ℕ) (before after : List Node) → nodesOf s ≡ before ++ unspelled ∷ after → WriteRow s room 6
+pub no-node-refused : (s : Sentence) (room : ℕ) (before after : List Node) → nodesOf s ≡ before ++ noNode ∷ after → WriteRow s room 6
 no-node-refused s room before after e = WriteRow.unspelled (λ t p short.
-    let w = inner-writable before after unspelled (subst AllWritable e (all-writable (p .nests))) in
+    let w = inner-writable before after noNode (subst AllWritable e (all-writable (p .nests))) in
     omega (arith, w .0))

@@ -4,22 +4,11 @@ mod merging;
 mod questions;
 mod sentences;
 
-ghost use mathlib.Core.Path.{_≡_};
-ghost use Rattle.exports.specs.Records.{codeOf, ReadsModel, modelOfParts, WritesModel};
+ghost use Rattle.exports.specs.Models.{ExportedReadModel, modelOfParts, ExportedWriteModel};
+use codes::written_code;
 use model::Model;
 use model::matrix;
 use refusal::Outcome;
-use refusal::Written;
-
-// The code of a writer's answer: the number of bytes written, or 2^32 plus the refusal's number.
-fn written_code(written: Written) -> u64
-    ensures { λ r. ⌜ r ≡ codeOf written ⌝ }
-{
-    match written {
-        Written::Wrote(size) => size as u64,
-        Written::Refused(number) => 4294967296 + number as u64,
-    }
-}
 
 // Read model: 0, and the model in the three lent parts (N, A and D; the masks; the weights), or the refusal's number
 // with the lent memory as it was.
@@ -30,7 +19,7 @@ pub extern "C" fn twolsken_read_model(
     masks: &mut [u16; 32],
     rows: &mut [[u16; 32]; 32],
 ) -> u32
-    ensures { λ r. ⌜ ReadsModel (now (file .entry)) (now (head .entry)) (now (masks .entry)) (now (rows .entry)) (now (head .exit)) (now (masks .exit)) (now (rows .exit)) r ⌝ }
+    ensures { λ r. ⌜ ExportedReadModel (now (file .entry)) (now (head .entry)) (now (masks .entry)) (now (rows .entry)) (now (head .exit)) (now (masks .exit)) (now (rows .exit)) r ⌝ }
 {
     let read = model::reader::read_model(file);
     let outcome = read.outcome;
@@ -56,7 +45,7 @@ pub extern "C" fn twolsken_write_model(
     rows: &[[u16; 32]; 32],
     out: &mut [u8],
 ) -> u64
-    ensures { λ r. ⌜ WritesModel (modelOfParts (now (head .entry)) (now (masks .entry)) (now (rows .entry))) (now (out .entry)) (now (out .exit)) r ⌝ }
+    ensures { λ r. ⌜ ExportedWriteModel (modelOfParts (now (head .entry)) (now (masks .entry)) (now (rows .entry))) (now (out .entry)) (now (out .exit)) r ⌝ }
 {
     let m = Model {
         n: head[0],

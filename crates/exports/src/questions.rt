@@ -1,11 +1,11 @@
 // Verdict and numerator for other languages, each thin over the library's own call.
-ghost use Rattle.exports.specs.Questions.{GivesVerdict, GivesNumerator};
+ghost use Rattle.exports.specs.Questions.{ExportedVerdict, ExportedNumerator};
 
 // Verdict: 256 where the sentence holds on the model and 257 where it does not, with as many numbers of the work area zero
 // as row 1 asks for; or the refusal's number, the area as it was.
 #[no_mangle]
 pub extern "C" fn twolsken_verdict(file: &[u8], text: &[u8], work: &mut [u64]) -> u32
-    ensures { λ r. ⌜ GivesVerdict (now (file .entry)) (now (text .entry)) (now (work .entry)) (now (work .exit)) r ⌝ }
+    ensures { λ r. ⌜ ExportedVerdict (now (file .entry)) (now (text .entry)) (now (work .entry)) (now (work .exit)) r ⌝ }
 {
     let answer = verdict::verdict(file, text, work);
     match answer {
@@ -26,7 +26,7 @@ pub extern "C" fn twolsken_numerator(
     work: &mut [u64],
     value: &mut [u64; 2],
 ) -> u32
-    ensures { λ r. ⌜ GivesNumerator (now (file .entry)) (now (text .entry)) (now (tuple .entry)) path (now (work .entry)) (now (value .entry)) (now (work .exit)) (now (value .exit)) r ⌝ }
+    ensures { λ r. ⌜ ExportedNumerator (now (file .entry)) (now (text .entry)) (now (tuple .entry)) path (now (work .entry)) (now (value .entry)) (now (work .exit)) (now (value .exit)) r ⌝ }
 {
     let answer = numerator::numerator(file, text, tuple, path, work);
     match answer {

@@ -3,7 +3,7 @@ use borrow.Author.Needs.{needs}
 use mathlib.Core.Path.{ap, sym, _∙_}
 use Rattle.refusal.specs.Answers.{numberIn, replyOf}
 use Rattle.refusal.proofs.Ensuring.{filled-given, filled-refused}
-use Rattle.exports.specs.Records.{headOf}
+use Rattle.exports.specs.Models.{headOf}
 use Rattle.exports.proofs.twolsken_read_model.Statement.{statement}
 use Rattle.exports.proofs.twolsken_read_model.Tie as tie
 

@@ -1,11 +1,11 @@
--- `exports::sentences::comparison_of` meets its contract: a number has its comparison, and none past the last.
+-- `codes::comparison_of` meets its contract: a number has its comparison, and none past the last.
 use borrow.Author.Needs.{needs}
 use mathlib.Core.Path.{sym, ap, _∙_}
 use lib.ListN.{List·getD-eq-default}
-use Rattle.exports.specs.Sentences.{comparisons, comparisonOf, unspelled}
-use Rattle.exports.proofs.Arms.{past-arms}
-use Rattle.exports.proofs.sentences.comparison_of.Statement.{statement}
-use Rattle.exports.proofs.sentences.comparison_of.Tie as tie
+use Rattle.codes.specs.Codes.{comparisons, comparisonOf, noNode}
+use Rattle.codes.proofs.Arms.{past-arms}
+use Rattle.codes.proofs.comparison_of.Statement.{statement}
+use Rattle.codes.proofs.comparison_of.Tie as tie
 
 returns : tie.Need-returns
 returns c = ap comparisonOf (sym (c .match .keys1))
@@ -25,7 +25,7 @@ returns-5 c = ap comparisonOf (sym (c .match .keys5))
 returns-6 : tie.Need-returns-6
 returns-6 c =
     let past = past-arms 5 (c .before .before .args .x) (c .before .match .rest) in
-    c .no-node .ensures ∙ sym (List·getD-eq-default comparisons unspelled past)
+    c .no-node .ensures ∙ sym (List·getD-eq-default comparisons noNode past)
 
 pub comparison-of-spec : {M : Type 1} → statement M
 comparison-of-spec =

@@ -1,8 +1,8 @@
--- `exports::sentences::letter_codes` meets its contract, letter by letter.
+-- `codes::letter_codes` meets its contract, letter by letter.
 use borrow.Author.Needs.{needs}
 use Rattle.counting.specs.Below.{table}
-use Rattle.exports.proofs.sentences.letter_codes.Statement.{statement}
-use Rattle.exports.proofs.sentences.letter_codes.Tie as tie
+use Rattle.codes.proofs.letter_codes.Statement.{statement}
+use Rattle.codes.proofs.letter_codes.Tie as tie
 
 returns : tie.Need-returns
 unfolding table

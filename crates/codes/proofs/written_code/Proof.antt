@@ -1,9 +1,9 @@
--- `exports::written_code` meets its contract.
+-- `codes::written_code` meets its contract.
 use borrow.Author.Needs.{needs}
 use mathlib.Core.Path.{ap, sym}
-use Rattle.exports.specs.Records.{codeOf}
-use Rattle.exports.proofs.written_code.Statement.{statement}
-use Rattle.exports.proofs.written_code.Tie as tie
+use Rattle.codes.specs.Codes.{codeOf}
+use Rattle.codes.proofs.written_code.Statement.{statement}
+use Rattle.codes.proofs.written_code.Tie as tie
 
 returns : tie.Need-returns
 unfolding codeOf

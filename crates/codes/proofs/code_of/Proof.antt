@@ -1,10 +1,10 @@
--- `exports::sentences::code_of` meets its contract, node by node.
+-- `codes::code_of` meets its contract, node by node.
 use borrow.Author.Needs.{needs}
 use Prim.Native.Nat.{ℕ}
 use mathlib.Core.Path.{sym, ap, _∙_}
-use Rattle.exports.specs.Sentences.{code, codeOfNode}
-use Rattle.exports.proofs.sentences.code_of.Statement.{statement}
-use Rattle.exports.proofs.sentences.code_of.Tie as tie
+use Rattle.codes.specs.Codes.{code, codeOfNode}
+use Rattle.codes.proofs.code_of.Statement.{statement}
+use Rattle.codes.proofs.code_of.Tie as tie
 
 returns-2 : tie.Need-returns-2
 returns-2 c = sym (ap codeOfNode (c .before .node .given .1))

@@ -1,12 +1,12 @@
--- `exports::sentences::node_of` meets its contract: a tag has its node, and none past the last.
+-- `codes::node_of` meets its contract: a tag has its node, and none past the last.
 use borrow.Author.Needs.{needs}
 use Prim.Native.Nat.{ℕ}
 use mathlib.Core.Path.{_≡_, sym, ap, _∙_}
 use lib.ListN.{List·getD-eq-default}
-use Rattle.exports.specs.Sentences.{nodesByTag, nodeOf, unspelled}
-use Rattle.exports.proofs.Arms.{past-arms}
-use Rattle.exports.proofs.sentences.node_of.Statement.{statement}
-use Rattle.exports.proofs.sentences.node_of.Tie as tie
+use Rattle.codes.specs.Codes.{nodesByTag, nodeOf, noNode}
+use Rattle.codes.proofs.Arms.{past-arms}
+use Rattle.codes.proofs.node_of.Statement.{statement}
+use Rattle.codes.proofs.node_of.Tie as tie
 
 -- the node of a tag that is known
 tagged : {tag k : ℕ} (x y : ℕ) → tag ≡ k → nodeOf k x y ≡ nodeOf tag x y
@@ -65,7 +65,7 @@ unfolding nodeOf
 returns-13 c =
     let a = c .before .before .args in
     let past = past-arms 12 (a .tag) (c .before .match .rest) in
-    c .no-node .ensures ∙ sym (List·getD-eq-default (nodesByTag (a .x) (a .y)) unspelled past)
+    c .no-node .ensures ∙ sym (List·getD-eq-default (nodesByTag (a .x) (a .y)) noNode past)
 
 pub node-of-spec : {M : Type 1} → statement M
 node-of-spec =

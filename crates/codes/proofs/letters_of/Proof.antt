@@ -1,9 +1,9 @@
--- `exports::sentences::letters_of` meets its contract, letter by letter.
+-- `codes::letters_of` meets its contract, letter by letter.
 use borrow.Author.Needs.{needs}
 use mathlib.Core.Path.{refl}
 use Rattle.counting.specs.Below.{table}
-use Rattle.exports.proofs.sentences.letters_of.Statement.{statement}
-use Rattle.exports.proofs.sentences.letters_of.Tie as tie
+use Rattle.codes.proofs.letters_of.Statement.{statement}
+use Rattle.codes.proofs.letters_of.Tie as tie
 
 returns : tie.Need-returns
 unfolding table

@@ -1,0 +1,69 @@
+-- The codes stand for what they were made of: 64 places (`places-back`) and four letters (`letters-back`).
+use Prim.Native.Nat.{ℕ, _≤_, _<_}
+use mathlib.Core.Bool.{Bool, true, false, not, cond}
+use mathlib.Core.List.{List, []}
+use mathlib.Core.Path.{_≡_, refl, sym, ap, _∙_}
+use lib.Dec.{eqb}
+use lib.ListN.{length, getD}
+use borrow.Author.Tests.{le-leb}
+use Rattle.counting.proofs.Laws.{and-true, table-at, table-is}
+use Rattle.sentence.specs.Calls.{slot}
+use Rattle.sentence.specs.declared.Slot.{Slot}
+use Rattle.sentence.specs.declared.Relation.the-variants.{Less, AtMost, Equal, AtLeast, Greater}
+use Rattle.sentence.specs.declared.Node.{Node}
+use Rattle.sentence.specs.declared.Node.the-variants.{True, Label, Not, And, Compare, Probability, Constant, Sum, Difference, Product, Next, Until}
+use Rattle.codes.specs.Codes.{letterCode, letterCodes, codesOf, codeOfNode, noNode, nodeOf, nodeOfCode, placesOf, lettersOf}
+
+-- a label and a variable are bytes
+abbrev pub Bytes : Node → Type 0
+Bytes True = Unit
+Bytes (Label label variable) = (label ≤ 255) × (variable ≤ 255)
+Bytes Not = Unit
+Bytes And = Unit
+Bytes (Compare relation) = Unit
+Bytes Probability = Unit
+Bytes (Constant top bottom) = Unit
+Bytes Sum = Unit
+Bytes Difference = Unit
+Bytes Product = Unit
+Bytes Next = Unit
+Bytes (Until from to) = Unit
+
+-- the code of a node stands for that node
+pub node-back : (n : Node) → Bytes n → nodeOfCode (codeOfNode n) ≡ n
+unfolding nodeOf
+node-back True b = refl
+node-back (Label label variable) b =
+    ap (λ (t : Bool). cond t (Label label variable) noNode) (and-true (le-leb label 255 (b .0)) (le-leb variable 255 (b .1)))
+node-back Not b = refl
+node-back And b = refl
+node-back (Compare Less) b = refl
+node-back (Compare AtMost) b = refl
+node-back (Compare Equal) b = refl
+node-back (Compare AtLeast) b = refl
+node-back (Compare Greater) b = refl
+node-back Probability b = refl
+node-back (Constant top bottom) b = refl
+node-back Sum b = refl
+node-back Difference b = refl
+node-back Product b = refl
+node-back Next b = refl
+node-back (Until from to) b = refl
+
+-- the codes of 64 places stand for those places
+pub places-back : (nodes : List Slot) → length nodes ≡ 64 → ((k : ℕ) → k < 64 → Bytes (getD nodes k (slot True) .node)) → placesOf (codesOf nodes) ≡ nodes
+places-back nodes long bytes =
+    sym (table-is 64 (λ i. slot (nodeOfCode (getD (codesOf nodes) i []))) (slot True) nodes long (λ k less.
+    sym (ap slot (node-back (getD nodes k (slot True) .node) (bytes k less))) ∙
+    ap (λ (c : List ℕ). slot (nodeOfCode c)) (sym (table-at 64 (λ i. codeOfNode (getD nodes i (slot True) .node)) [] k less))))
+
+letter-back : (b : Bool) → not (eqb (letterCode b) 0) ≡ b
+letter-back true = refl
+letter-back false = refl
+
+-- the codes of four letters stand for those letters
+pub letters-back : (exists : List Bool) → length exists ≡ 4 → lettersOf (letterCodes exists) ≡ exists
+letters-back exists long =
+    sym (table-is 4 (λ i. not (eqb (getD (letterCodes exists) i 0) 0)) false exists long (λ k less.
+    sym (letter-back (getD exists k false)) ∙
+    ap (λ (n : ℕ). not (eqb n 0)) (sym (table-at 4 (λ i. letterCode (getD exists i false)) 0 k less))))

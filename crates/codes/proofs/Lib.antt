@@ -1,0 +1,3 @@
+-- The laws of the codes.
+pub mod Arms
+pub mod Back
