@@ -1,18 +1,23 @@
--- The codes stand for what they were made of: 64 places (`places-back`) and four letters (`letters-back`).
-use Prim.Native.Nat.{ℕ, _≤_, _<_}
+-- The codes stand for what they were made of: 64 places (`places-back`), four letters (`letters-back`), and so a sentence that was read
+-- (`record-back`).
+use Prim.Native.Nat.{ℕ, zero, suc, _-_, _≤_, _<_}
 use mathlib.Core.Bool.{Bool, true, false, not, cond}
-use mathlib.Core.List.{List, []}
-use mathlib.Core.Path.{_≡_, refl, sym, ap, _∙_}
+use mathlib.Core.List.{List, [], _∷_, _++_, map}
+use mathlib.Core.Path.{_≡_, refl, sym, ap, subst, _∙_}
+use native.Mathlib.Omega.{arith}
 use lib.Dec.{eqb}
-use lib.ListN.{length, getD}
+use lib.ListN.{length, getD, replicate, length-append, length-map, length-replicate}
 use borrow.Author.Tests.{le-leb}
 use Rattle.counting.proofs.Laws.{and-true, table-at, table-is}
-use Rattle.sentence.specs.Calls.{slot}
+use Rattle.sentence.specs.Grammar.{Writable, Spells}
+use Rattle.sentence.specs.Writing.{AllWritable}
+use Rattle.sentence.specs.Calls.{slot, recordOf}
 use Rattle.sentence.specs.declared.Slot.{Slot}
 use Rattle.sentence.specs.declared.Relation.the-variants.{Less, AtMost, Equal, AtLeast, Greater}
 use Rattle.sentence.specs.declared.Node.{Node}
 use Rattle.sentence.specs.declared.Node.the-variants.{True, Label, Not, And, Compare, Probability, Constant, Sum, Difference, Product, Next, Until}
-use Rattle.codes.specs.Codes.{letterCode, letterCodes, codesOf, codeOfNode, noNode, nodeOf, nodeOfCode, placesOf, lettersOf}
+use Rattle.sentence.proofs.Unique.{all-writable}
+use Rattle.codes.specs.Codes.{letterCode, letterCodes, codesOf, codeOfNode, noNode, nodeOf, nodeOfCode, placesOf, lettersOf, sentenceOf}
 
 -- a label and a variable are bytes
 abbrev pub Bytes : Node → Type 0
@@ -67,3 +72,47 @@ letters-back exists long =
     sym (table-is 4 (λ i. not (eqb (getD (letterCodes exists) i 0) 0)) false exists long (λ k less.
     sym (letter-back (getD exists k false)) ∙
     ap (λ (n : ℕ). not (eqb n 0)) (sym (table-at 4 (λ i. letterCode (getD exists i false)) 0 k less))))
+
+-- ---- a sentence that was read
+
+-- a node that a text spells has a label and a variable of one byte
+writable-bytes : (n : Node) → Writable n → Bytes n
+writable-bytes True w = tt
+writable-bytes (Label label variable) w = (omega (arith, w .0), omega (arith, w .2))
+writable-bytes Not w = tt
+writable-bytes And w = tt
+writable-bytes (Compare relation) w = tt
+writable-bytes Probability w = tt
+writable-bytes (Constant top bottom) w = tt
+writable-bytes Sum w = tt
+writable-bytes Difference w = tt
+writable-bytes Product w = tt
+writable-bytes Next w = tt
+writable-bytes (Until from to) w = tt
+
+-- an empty place is empty wherever it stands
+empty-at : (m k : ℕ) → getD (replicate m (slot True)) k (slot True) ≡ slot True
+empty-at zero k = refl
+empty-at (suc m) zero = refl
+empty-at (suc m) (suc k) = empty-at m k
+
+-- every place of the record of such nodes
+place-bytes : (ns : List Node) (m : ℕ) → AllWritable ns → (k : ℕ) → Bytes (getD (map slot ns ++ replicate m (slot True)) k (slot True) .node)
+place-bytes [] m all k = subst (λ (x : Slot). Bytes (x .node)) (sym (empty-at m k)) tt
+place-bytes (n ∷ ns) m all zero = writable-bytes n (all .0)
+place-bytes (n ∷ ns) m all (suc k) = place-bytes ns m (all .1) k
+
+-- the codes of a sentence that was read stand for that sentence
+pub record-back : {ps : List Bool} {ns : List Node} {t : List ℕ} → Spells ps ns t → length ns ≤ 64 →
+    sentenceOf (length ps) (length ns) (letterCodes (recordOf ps ns .exists)) (codesOf (recordOf ps ns .nodes)) ≡ recordOf ps ns
+unfolding recordOf
+record-back {ps} {ns} spells few =
+    let letters : length (ps ++ replicate (4 - length ps) false) ≡ 4 =
+    simp (length-append, length-replicate) (omega (arith, spells .few)) in
+    let places : length (map slot ns ++ replicate (64 - length ns) (slot True)) ≡ 64 =
+    simp (length-append, length-map, length-replicate) (omega arith) in
+    let exists = letters-back (ps ++ replicate (4 - length ps) false) letters in
+    let nodes =
+    places-back (map slot ns ++ replicate (64 - length ns) (slot True)) places
+    (λ k less. place-bytes ns (64 - length ns) (all-writable (spells .nests)) k) in
+    λ i. record { letters = length ps; exists = exists i; count = length ns; nodes = nodes i }

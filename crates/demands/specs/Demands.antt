@@ -5,7 +5,7 @@ use mathlib.Core.List.{List, [], _∷_, map, List·Memᴰ}
 use mathlib.Core.Logic.{_↔_}
 use mathlib.Core.Path.{_≡_}
 use lib.IntN.{pos}
-use lib.ListN.{length, take}
+use lib.ListN.{length, take, getD}
 use Rattle.refusal.specs.declared.Outcome.the-variants.{Done}
 use Rattle.refusal.specs.declared.Written.{Written}
 use Rattle.refusal.specs.declared.Written.the-variants.{Wrote}
@@ -31,6 +31,9 @@ use Rattle.numerator.specs.declared.Answer as Counted
 use Rattle.numerator.specs.Calls.{NumeratorRow, NumeratorAnswer, numbered, replyOf as replyCounted}
 use Rattle.merge.specs.Groups.{groupOf, mergedModel}
 use Rattle.merge.specs.Rows.{mergeRows, mergedFile}
+use Rattle.codes.specs.Codes.{sentenceOf}
+use Rattle.exports.specs.Models.{modelOfParts, ExportedReadModel, ExportedWriteModel}
+use Rattle.exports.specs.Sentences.{ExportedReadSentence, ExportedWriteSentence}
 
 -- ---- Demand 1
 
@@ -136,6 +139,30 @@ pub record RoundTrips : Type 0 where
   pub sentences : {s : Sentence} {before after : List ℕ} {size : ℕ} {r : SentenceRead} → length (s .exists) ≡ 4 →
       WriteAnswer s before (Wrote size) after → ReadAnswer (take size after) r →
       r ≡ record { outcome = Done; sentence = recordOf (prefixOf s) (nodesOf s) }
+
+-- The same of the exported calls, on the numbers that they leave and take. A code of 0 says that a reader has read, and one below 2^32
+-- that a writer has written so many bytes.
+pub record ExportedRoundTrips : Type 0 where
+  -- Writing what was read gives the same file
+  pub files : {file head masks head′ masks′ before after : List ℕ} {rows rows′ : List (List ℕ)} {r : ℕ} →
+      ExportedReadModel file head masks rows head′ masks′ rows′ 0 → length file ≤ length before →
+      ExportedWriteModel (modelOfParts head′ masks′ rows′) before after r → (r ≡ length file) × (after ≡ atFront file before)
+  -- or text,
+  pub texts : {text head exists head′ exists′ before after : List ℕ} {codes codes′ : List (List ℕ)} {r : ℕ} →
+      ExportedReadSentence text head exists codes head′ exists′ codes′ 0 → length text ≤ length before →
+      ExportedWriteSentence (sentenceOf (getD head′ 0 0) (getD head′ 1 0) exists′ codes′) before after r →
+      (r ≡ length text) × (after ≡ atFront text before)
+  -- and reading what was written leaves the same head, masks and rows, of three parts as their types have them,
+  pub models : {head masks before after h m h′ m′ : List ℕ} {rows w w′ : List (List ℕ)} {size r : ℕ} → length head ≡ 3 →
+      Shaped (modelOfParts head masks rows) → ExportedWriteModel (modelOfParts head masks rows) before after size → size < 4294967296 →
+      ExportedReadModel (take size after) h m w h′ m′ w′ r → (r ≡ 0) × (h′ ≡ head) × (m′ ≡ masks) × (w′ ≡ rows)
+  -- or the same sentence: its prefix and its nodes.
+  pub sentences : (letters count : ℕ) (exists : List ℕ) (codes : List (List ℕ)) {before after h e h′ e′ : List ℕ}
+      {c c′ : List (List ℕ)} {size r : ℕ} →
+      ExportedWriteSentence (sentenceOf letters count exists codes) before after size → size < 4294967296 →
+      ExportedReadSentence (take size after) h e c h′ e′ c′ r →
+      (r ≡ 0) × (sentenceOf (getD h′ 0 0) (getD h′ 1 0) e′ c′ ≡
+      recordOf (prefixOf (sentenceOf letters count exists codes)) (nodesOf (sentenceOf letters count exists codes)))
 
 -- ---- Demand 3
 
