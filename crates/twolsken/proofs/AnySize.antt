@@ -2,7 +2,8 @@
 use Prim.Native.Nat.{ℕ, zero, suc, _%_, _≤_, _<_}
 use mathlib.Core.Bool.{Bool, true, false, _&&_}
 use mathlib.Core.List.{List}
-use mathlib.Core.Path.{_≡_, refl, subst}
+use mathlib.Core.Path.{_≡_, refl, sym, ap, subst, _∙_}
+use native.Mathlib.Nat.{le-of-eq}
 use native.Mathlib.Omega.{arith}
 use borrow.Author.Tests.{lt-leb}
 use lib.Dec.{leb, eqb}
@@ -20,7 +21,7 @@ use Rattle.verdict.specs.declared.Answer.the-variants.{Refused}
 use Rattle.verdict.specs.Calls.{VerdictAnswer}
 use Rattle.verdict.proofs.Answering.{refused-so}
 use Rattle.verdict.proofs.Single.{one-verdict}
-use Rattle.twolsken.specs.Texts.{withoutNewline}
+use Rattle.twolsken.specs.Texts.{withoutNewline, AnswersFiles, AnswersBuffers}
 use Rattle.twolsken.proofs.Enough.{Alike, same, over, model-enough, text-enough}
 
 -- a conjunction whose last part fails
@@ -82,3 +83,21 @@ any-size file said {before} {after} {r} space = by (model-enough file) (text-eno
         let b = subst (λ (x : List ℕ). VerdictAnswer x (withoutNewline (take 402 said)) before r after) e a in
         let n = both-over space file (withoutNewline (take 402 said)) (withoutNewline said) g h in
         alike (n .1) (n .2) (n .3) b
+
+-- so the answer on what stands in the buffers is the answer on the whole files, where the buffers have that many bytes
+pub buffers-so : {model sentence : List ℕ} {m s : ℕ} {r : Answer} → length model ≡ 3073 → length sentence ≡ 402 →
+    AnswersFiles (take m model) (take s sentence) r → AnswersBuffers model m sentence s r
+buffers-so {model} {sentence} {m} {s} {r} whole-model whole-text own = record {
+  each = λ file said first second.
+      let model-first : take m model ≡ take 3073 file = first ∙ ap (λ (k : ℕ). take k file) whole-model in
+      let text-first : take s sentence ≡ take 402 said = second ∙ ap (λ (k : ℕ). take k said) whole-text in
+      record {
+        before = own .before;
+        after = own .after;
+        enough = own .enough;
+        answer =
+            any-size file said (le-of-eq (sym (own .enough)))
+            (subst (λ (x : List ℕ). VerdictAnswer x (withoutNewline (take 402 said)) (own .before) r (own .after)) model-first
+            (subst (λ (x : List ℕ). VerdictAnswer (take m model) (withoutNewline x) (own .before) r (own .after)) text-first (own .answer)));
+      };
+}

@@ -19,3 +19,11 @@ pub record AnswersFiles (model sentence : List ℕ) (r : Answer) : Type 0 where
   pub after : List ℕ
   pub enough : length before ≡ areaSize
   pub answer : VerdictAnswer model (withoutNewline sentence) before r after
+
+-- the first n bytes of a buffer are the first of a file: all that it has, or as many as the buffer has room for
+abbrev pub FirstOf : (file buf : List ℕ) → ℕ → Type 0
+FirstOf file buf n = take n buf ≡ take (length buf) file
+
+-- the answer on two files of any size, from their first bytes in two buffers
+pub record AnswersBuffers (model : List ℕ) (m : ℕ) (sentence : List ℕ) (s : ℕ) (r : Answer) : Type 0 where
+  pub each : (file said : List ℕ) → FirstOf file model m → FirstOf said sentence s → AnswersFiles file said r

@@ -6,7 +6,10 @@ mod file;
 mod line;
 mod text;
 
-ghost use Rattle.twolsken.specs.Texts.{AnswersFiles};
+ghost use mathlib.Core.Path.{_≡_};
+ghost use lib.ListN.{length};
+ghost use Rattle.io.specs.Counts.{Counts};
+ghost use Rattle.twolsken.specs.Texts.{AnswersFiles, AnswersBuffers};
 use file::Contents;
 use file::read_file;
 use libc::STDOUT_FILENO;
@@ -32,12 +35,21 @@ fn print(answer: Answer) {
     }
 }
 
-// A file of any size is judged by its first bytes, as many as tell that it is too long (proofs/AnySize, `any-size`).
+// The verdict on two files, from their first bytes in two buffers: as many as tell that a file is too long (proofs/AnySize,
+// `any-size`), so that files of any size get their answer.
 // - A model file of over 3,072 bytes is refused 2, whatever stands in it and in the sentence: with this work area no
 //   smaller number applies. So 3,073 bytes of it are as good as all.
 // - A text of over 400 bytes is 6 unless a number below 6 applies, and those ask the model alone. A file of 402 bytes or
 //   more has such a text with or without its last byte. So 402 bytes of it are as good as all; 401 are not, since the last
 //   of them may be a newline that is not the file's last byte.
+fn judged(model: &[u8], m: usize, sentence: &[u8], s: usize) -> Answer
+    requires { ⌜ (length (now model) ≡ 3073) × Counts m (now model) × (length (now sentence) ≡ 402) × Counts s (now sentence) ⌝ }
+    ensures { λ r. ⌜ AnswersBuffers (now (model .entry)) m (now (sentence .entry)) s r ⌝ }
+{
+    answer(&model[..m], &sentence[..s])
+}
+
+// Reads the two files, each as far as its buffer goes, and prints the verdict's line.
 fn main() {
     let mut model = [0u8; 3073];
     let Contents::Bytes(m) = read_file(b"model.blk", &mut model) else {
@@ -47,5 +59,5 @@ fn main() {
     let Contents::Bytes(s) = read_file(b"sentence.txt", &mut sentence) else {
         return;
     };
-    print(answer(&model[..m], &sentence[..s]));
+    print(judged(&model, m, &sentence, s));
 }
