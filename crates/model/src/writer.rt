@@ -179,11 +179,12 @@ pub fn write_model(m: Model, out: &mut [u8]) -> Written
         return Written::Refused(5);
     }
     let count = 1 + (m.n as usize + 6) / 7;
-    if out.len() < 512 * count {
+    let size = 512 * count;
+    if out.len() < size {
         return Written::Refused(14);
     }
     let masks = m.masks;
     let rows = matrix::rows_of(m.weights);
     write_blocks(m.n as u8, m.a as u8, m.d, &masks, &rows, count, out);
-    Written::Wrote(512 * count)
+    Written::Wrote(size)
 }

@@ -97,6 +97,5 @@ write-model-spec =
     cast-write-blocks
     cast-write-blocks-2
     write-blocks-requires
-    (λ c. search needs)
     same-length
     returns-4)
