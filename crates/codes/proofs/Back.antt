@@ -15,9 +15,11 @@ use Rattle.sentence.specs.Calls.{slot, recordOf}
 use Rattle.sentence.specs.declared.Slot.{Slot}
 use Rattle.sentence.specs.declared.Relation.the-variants.{Less, AtMost, Equal, AtLeast, Greater}
 use Rattle.sentence.specs.declared.Node.{Node}
-use Rattle.sentence.specs.declared.Node.the-variants.{True, Label, Not, And, Compare, Probability, Constant, Sum, Difference, Product, Next, Until}
+use Rattle.sentence.specs.declared.Node.the-variants.{True, Label, Not, And, Compare, Probability}
+use Rattle.sentence.specs.declared.Node.the-variants.{Constant, Sum, Difference, Product, Next, Until}
 use Rattle.sentence.proofs.Unique.{all-writable}
-use Rattle.codes.specs.Codes.{letterCode, letterCodes, codesOf, codeOfNode, noNode, nodeOf, nodeOfCode, placesOf, lettersOf, sentenceOf}
+use Rattle.codes.specs.Codes.{letterCode, letterCodes, codesOf, codeOfNode, noNode}
+use Rattle.codes.specs.Codes.{nodeOf, nodeOfCode, placesOf, lettersOf, sentenceOf}
 
 -- a label and a variable are bytes
 abbrev pub Bytes : Node → Type 0
@@ -56,7 +58,8 @@ node-back Next b = refl
 node-back (Until from to) b = refl
 
 -- the codes of 64 places stand for those places
-pub places-back : (nodes : List Slot) → length nodes ≡ 64 → ((k : ℕ) → k < 64 → Bytes (getD nodes k (slot True) .node)) → placesOf (codesOf nodes) ≡ nodes
+pub places-back : (nodes : List Slot) → length nodes ≡ 64 → ((k : ℕ) → k < 64 → Bytes (getD nodes k (slot True) .node)) →
+    placesOf (codesOf nodes) ≡ nodes
 places-back nodes long bytes =
     sym (table-is 64 (λ i. slot (nodeOfCode (getD (codesOf nodes) i []))) (slot True) nodes long (λ k less.
     sym (ap slot (node-back (getD nodes k (slot True) .node) (bytes k less))) ∙
@@ -97,7 +100,8 @@ empty-at (suc m) zero = refl
 empty-at (suc m) (suc k) = empty-at m k
 
 -- every place of the record of such nodes
-place-bytes : (ns : List Node) (m : ℕ) → AllWritable ns → (k : ℕ) → Bytes (getD (map slot ns ++ replicate m (slot True)) k (slot True) .node)
+place-bytes : (ns : List Node) (m : ℕ) → AllWritable ns → (k : ℕ) →
+    Bytes (getD (map slot ns ++ replicate m (slot True)) k (slot True) .node)
 place-bytes [] m all k = subst (λ (x : Slot). Bytes (x .node)) (sym (empty-at m k)) tt
 place-bytes (n ∷ ns) m all zero = writable-bytes n (all .0)
 place-bytes (n ∷ ns) m all (suc k) = place-bytes ns m (all .1) k

@@ -13,7 +13,8 @@ use Rattle.sentence.specs.Calls.{slot}
 use Rattle.sentence.specs.declared.Relation.{Relation}
 use Rattle.sentence.specs.declared.Relation.the-variants.{Less, AtMost, Equal, AtLeast, Greater}
 use Rattle.sentence.specs.declared.Node.{Node}
-use Rattle.sentence.specs.declared.Node.the-variants.{True, Label, Not, And, Compare, Probability, Constant, Sum, Difference, Product, Next, Until}
+use Rattle.sentence.specs.declared.Node.the-variants.{True, Label, Not, And, Compare, Probability}
+use Rattle.sentence.specs.declared.Node.the-variants.{Constant, Sum, Difference, Product, Next, Until}
 use Rattle.sentence.specs.declared.Slot.{Slot}
 use Rattle.sentence.specs.declared.Sentence.{Sentence}
 

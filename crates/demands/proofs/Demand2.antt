@@ -16,12 +16,12 @@ use Rattle.meaning.specs.Meaning.{takenWeight, value, numerator, denominator, v
 use Rattle.meaning.proofs.Runs.{runs-member, runs-has, runs-distinct}
 use Rattle.meaning.proofs.Steps.{runs-total}
 use Rattle.chain.proofs.Accepted.{sound}
-use Rattle.question.specs.Rows.{QuestionRow, SentenceOf}
+use Rattle.question.specs.Contract.{QuestionRow, SentenceOf}
 use Rattle.question.proofs.Settled.{file-free}
 use Rattle.verdict.specs.declared.Answer as Judged
-use Rattle.verdict.specs.Calls.{VerdictAnswer, replyOf as replyJudged}
+use Rattle.verdict.specs.Contract.{VerdictEnsures, verdictReply}
 use Rattle.numerator.specs.declared.Answer as Counted
-use Rattle.numerator.specs.Calls.{NumeratorRow, question, NumeratorAnswer, numbered, replyOf as replyCounted}
+use Rattle.numerator.specs.Contract.{NumeratorRow, question, NumeratorEnsures, numbered, numeratorReply}
 use Rattle.demands.specs.Demands.{stepsOf, chainIn, takes, Probability, Valued, Demand2}
 use Rattle.demands.proofs.Free.{one-sentence, tuple-inside}
 
@@ -62,16 +62,16 @@ valued-so p c adds n {s} inside = record {
   counted = counted-once p c adds n inside;
 }
 
-judged : (file : List ℕ) {text before after : List ℕ} {a : Judged.Answer} → VerdictAnswer file text before a after →
+judged : (file : List ℕ) {text before after : List ℕ} {a : Judged.Answer} → VerdictEnsures file text before a after →
     ((n : ℕ) → QuestionRow file text (length before) n → ⊥) →
-    (s : SentenceOf text) × (replyJudged a ≡ gives (verdict (chainIn file) (map letterOf (s .prefix)) (s .body)))
+    (s : SentenceOf text) × (verdictReply a ≡ gives (verdict (chainIn file) (map letterOf (s .prefix)) (s .body)))
 judged file x none =
     let right = right-of none (x .ensured) in
     (right .2 .sentence, right .1 ∙ ap gives (right .2 .meant))
 
 counted : (file : List ℕ) {text tuple before after : List ℕ} {path : ℕ} {a : Counted.Answer} →
-    NumeratorAnswer file text tuple path before a after → ((n : ℕ) → NumeratorRow file text tuple path (length before) n → ⊥) →
-    (s : SentenceOf text) × (v : ℕ × ℕ) × (replyCounted a ≡ gives v) ×
+    NumeratorEnsures file text tuple path before a after → ((n : ℕ) → NumeratorRow file text tuple path (length before) n → ⊥) →
+    (s : SentenceOf text) × (v : ℕ × ℕ) × (numeratorReply a ≡ gives v) ×
     Probability (chainIn file) (numbered (s .body) path) (length (s .prefix)) tuple (v .0) (v .1)
 counted file {tuple = tuple} {path = path} x none =
     let right = right-of none (x .ensured) in

@@ -26,13 +26,13 @@ use Rattle.meaning.specs.Size.{exceeds}
 use Rattle.meaning.specs.Merging.{Stable}
 use Rattle.trees.specs.Listed.{formulaNodes}
 use Rattle.chain.proofs.Accepted.{fields-right}
-use Rattle.question.specs.Rows.{labelRight, QuestionRow, area, model, sentence, labels, size, tuples, areaSize}
+use Rattle.question.specs.Contract.{labelRight, QuestionRow, area, model, sentence, labels, size, tuples, areaSize}
 use Rattle.question.proofs.Stages.{none-of-file}
 use Rattle.verdict.specs.declared.Answer as Judged
-use Rattle.verdict.specs.Calls.{VerdictAnswer}
+use Rattle.verdict.specs.Contract.{VerdictEnsures}
 use Rattle.verdict.proofs.Single.{reply-told as judged-told}
 use Rattle.numerator.specs.declared.Answer as Counted
-use Rattle.numerator.specs.Calls.{NumeratorRow, question, long, member, missing, NumeratorAnswer, numbered}
+use Rattle.numerator.specs.Contract.{NumeratorRow, question, long, member, missing, NumeratorEnsures, numbered}
 use Rattle.numerator.proofs.Single.{reply-told as counted-told}
 use Rattle.paths.proofs.Members.{members-inside}
 use Rattle.merge.specs.Groups.{groupOf}
@@ -70,8 +70,9 @@ module _ (file grouping merged : List ℕ) (accepted : fileNumber merged ≡ 0)
       by (yes h) = none 11 (tuples f s h)
       by (no h) = let few = kept .tuples (length ps) (omega arith) in omega (arith, few, e)
 
-  verdicts : {text before before′ after after′ : List ℕ} {a b : Judged.Answer} → areaSize ≤ length before′ → VerdictAnswer file text before a after →
-      ((n : ℕ) → QuestionRow file text (length before) n → ⊥) → VerdictAnswer merged text before′ b after′ → a ≡ b
+  verdicts : {text before before′ after after′ : List ℕ} {a b : Judged.Answer} → areaSize ≤ length before′ →
+      VerdictEnsures file text before a after →
+      ((n : ℕ) → QuestionRow file text (length before) n → ⊥) → VerdictEnsures merged text before′ b after′ → a ≡ b
   verdicts {a = a} {b} space x none y =
       let full = right-of none (x .ensured) in
       let less = right-of (question-free space none) (y .ensured) in
@@ -94,8 +95,8 @@ module _ (file grouping merged : List ℕ) (accepted : fileNumber merged ≡ 0)
   asked-free space none n (missing f s e) = none 15 (missing f s e)
 
   numerators : {text tuple before before′ after after′ : List ℕ} {path : ℕ} {a b : Counted.Answer} → areaSize ≤ length before′ →
-      NumeratorAnswer file text tuple path before a after → ((n : ℕ) → NumeratorRow file text tuple path (length before) n → ⊥) →
-      NumeratorAnswer merged text (map (groupOf grouping) tuple) path before′ b after′ → a ≡ b
+      NumeratorEnsures file text tuple path before a after → ((n : ℕ) → NumeratorRow file text tuple path (length before) n → ⊥) →
+      NumeratorEnsures merged text (map (groupOf grouping) tuple) path before′ b after′ → a ≡ b
   numerators {tuple = tuple} {path = path} {a} {b} space x none y =
       let full = right-of none (x .ensured) in
       let less = right-of (asked-free space none) (y .ensured) in
@@ -106,7 +107,8 @@ module _ (file grouping merged : List ℕ) (accepted : fileNumber merged ≡ 0)
       let top =
       full .2 .top ∙
       kept .numerators p n tuple (tuple-inside none s) ∙
-      ap₂ (λ (ps : List Bool) (f : Formula). numerator (numbered f path) (chainIn merged) (length ps) (map (groupOf grouping) tuple)) (one .0) (one .1) ∙
+      ap₂ (λ (ps : List Bool) (f : Formula). numerator (numbered f path) (chainIn merged) (length ps) (map (groupOf grouping) tuple))
+      (one .0) (one .1) ∙
       sym (less .2 .top) in
       let bottom =
       full .2 .bottom ∙
@@ -146,7 +148,8 @@ module _ (file grouping : List ℕ) (M : ℕ) {before after : List ℕ} {w : Wri
   differ-refused : Differ (chainIn file) (groupOf grouping) M → replyOfWritten w ≡ refuses 13
   unfolding mergeNumber
   differ-refused differ =
-      let here = refused-13 file grouping (length before) (asked .accepted) M (asked .long) (asked .grouped) .1 (λ st. stable-differ st differ) in
+      let here = refused-13 file grouping (length before) (asked .accepted) M (asked .long) (asked .grouped) .1
+      (λ st. stable-differ st differ) in
       demand-1 .merge-call file grouping writes .refusal 13 .1 (given-13 here)
     where
       given-13 : mergeNumber file grouping (length before) ≡ 13 →
@@ -154,7 +157,8 @@ module _ (file grouping : List ℕ) (M : ℕ) {before after : List ℕ} {w : Wri
       given-13 e = by (subst (Given (mergeRows file grouping (length before))) e (merge-smallest file grouping (length before)))
         where
           by : Given (mergeRows file grouping (length before)) 13 →
-              Applies 13 (mergeRows file grouping (length before)) × ((m : ℕ) → Applies m (mergeRows file grouping (length before)) → 13 ≤ m)
+              Applies 13 (mergeRows file grouping (length before)) × ((m : ℕ) → Applies m (mergeRows file grouping (length before)) →
+              13 ≤ m)
           by (smallest-of row least) = (row, least)
 
   -- there is no third

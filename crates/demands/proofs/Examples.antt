@@ -24,7 +24,8 @@ use Rattle.trees.specs.Listed.{formulaNodes, expressionNodes}
 use Rattle.chain.specs.Of.{chainOf}
 use Rattle.merge.specs.Examples.{modelWith, M2, M2merged, Claim as Merging, Met as MetMerging, claims as onMerging}
 use Rattle.merge.proofs.Examples.{examples as merged}
-use Rattle.demands.specs.Examples.{ascii, TextOf, SentenceText, Texted, modelM1, sameChain, Claim, means, merging, Met, claims}
+use Rattle.counting.specs.Ascii.{ascii}
+use Rattle.demands.specs.Examples.{TextOf, SentenceText, Texted, modelM1, sameChain, Claim, means, merging, Met, claims}
 
 -- whether nodes are just what is wanted: of a list that is written out, by computing
 abbrev nesting : List Kind → List Node → Bool
@@ -44,11 +45,13 @@ nested (k ∷ ks) (n ∷ ns) e =
     (nested (wants n ++ ks) ns (and-right (writable n) (nesting (wants n ++ ks) ns) rest))
 
 -- the text of an expression, and of a sentence
-expression : (nodes : List Node) (text : String) → nesting (Expression ∷ []) nodes ≡ true → ascii text ≡ bodyText nodes → TextOf Expression nodes text
+expression : (nodes : List Node) (text : String) → nesting (Expression ∷ []) nodes ≡ true → ascii text ≡ bodyText nodes →
+    TextOf Expression nodes text
 expression nodes text n e = record { nests = nested (Expression ∷ []) nodes n; spelled = e }
 
 sentence : (ps : List Bool) (body : Formula) (text : String) → 1 ≤ length ps → length ps ≤ 4 →
-    nesting (State ∷ []) (formulaNodes body) ≡ true → ascii text ≡ sentenceText ps (formulaNodes body) → SentenceText text (map letterOf ps) body
+    nesting (State ∷ []) (formulaNodes body) ≡ true → ascii text ≡ sentenceText ps (formulaNodes body) →
+    SentenceText text (map letterOf ps) body
 sentence ps body text some few n e =
     record {
       sentence = record {
@@ -62,7 +65,7 @@ sentence ps body text some few n e =
 
 -- the document's texts are those of the trees
 texts : Each Texted (length onSentences) onSentences
-unfolding Texted onSentences ascii below formulaNodes expressionNodes numberText digits
+unfolding Texted onSentences ascii table formulaNodes expressionNodes numberText digits
 texts =
     further (expression _ "PXa1" refl refl)
     (further (expression _ "PXa1" refl refl)

@@ -60,7 +60,8 @@ model-parts {head = head} {masks} {rows = rows} x done =
 sentence-done : {text head exists head′ exists′ : List ℕ} {codes codes′ : List (List ℕ)} →
     (x : ExportedReadSentence text head exists codes head′ exists′ codes′ 0) → x .read .outcome ≡ Done
 sentence-done {text} x =
-    let right = right-of (by (subst (Decided (ReadRow text)) (sym (x .answered)) (number-decided (x .answer .ensured)))) (x .answer .ensured) in
+    let right = right-of (by (subst (Decided (ReadRow text)) (sym (x .answered)) (number-decided (x .answer .ensured))))
+    (x .answer .ensured) in
     outcome-told (x .read .outcome) Done (right .1)
   where
     by : Decided (ReadRow text) 0 → (n : ℕ) → ReadRow text n → ⊥

@@ -37,7 +37,8 @@ file-back {file} {before} {after} {r} {w} reads done room writes =
 
 -- reading a file that was written
 model-back : {m : Model} {before after : List ℕ} {size : ℕ} {r : ModelRead} → Shaped m →
-    Writes (recordRows m (length before)) (fileOf m) before after (Wrote size) → Reads (take size after) r → r ≡ record { outcome = Done; model = m }
+    Writes (recordRows m (length before)) (fileOf m) before after (Wrote size) → Reads (take size after) r →
+    r ≡ record { outcome = Done; model = m }
 unfolding recordNumber
 model-back {m} {before} {after} {size} {r} shaped writes reads =
     let free = sym (list-number (record-rows m (length before)) (writes .ensured)) in

@@ -24,11 +24,11 @@ use Rattle.meaning.specs.Tree.{probability, PathFormula, next, until, letterOf}
 use Rattle.meaning.specs.Meaning.{nextTakes, untilTakes, holds, value, verdict}
 use Rattle.meaning.specs.Merging.{weightInto, Grouping}
 use Rattle.chain.specs.Of.{chainOf}
-use Rattle.question.specs.Rows.{QuestionRow, SentenceOf, areaSize}
+use Rattle.question.specs.Contract.{QuestionRow, SentenceOf, areaSize}
 use Rattle.verdict.specs.declared.Answer as Judged
-use Rattle.verdict.specs.Calls.{VerdictAnswer, replyOf as replyJudged}
+use Rattle.verdict.specs.Contract.{VerdictEnsures, verdictReply}
 use Rattle.numerator.specs.declared.Answer as Counted
-use Rattle.numerator.specs.Calls.{NumeratorRow, NumeratorAnswer, numbered, replyOf as replyCounted}
+use Rattle.numerator.specs.Contract.{NumeratorRow, NumeratorEnsures, numbered, numeratorReply}
 use Rattle.merge.specs.Groups.{groupOf, mergedModel}
 use Rattle.merge.specs.Rows.{mergeRows, mergedFile}
 use Rattle.codes.specs.Codes.{sentenceOf}
@@ -57,10 +57,11 @@ pub record Demand1 : Type 0 where
       Ends (ReadRow text) (recordOf [] []) (replyOf (r .outcome)) (r .sentence)
   pub write-sentence : {s : Sentence} {before after : List ℕ} {w : Written} → WriteAnswer s before w after →
       Ends (WriteRow s (length before)) before (replyOfWritten w) after
-  pub verdict-call : {file text before after : List ℕ} {a : Judged.Answer} → VerdictAnswer file text before a after →
-      Ends (QuestionRow file text (length before)) before (replyJudged a) after
-  pub numerator-call : {file text tuple before after : List ℕ} {path : ℕ} {a : Counted.Answer} → NumeratorAnswer file text tuple path before a after →
-      Ends (NumeratorRow file text tuple path (length before)) before (replyCounted a) after
+  pub verdict-call : {file text before after : List ℕ} {a : Judged.Answer} → VerdictEnsures file text before a after →
+      Ends (QuestionRow file text (length before)) before (verdictReply a) after
+  pub numerator-call : {file text tuple before after : List ℕ} {path : ℕ} {a : Counted.Answer} →
+      NumeratorEnsures file text tuple path before a after →
+      Ends (NumeratorRow file text tuple path (length before)) before (numeratorReply a) after
   pub merge-call : (file grouping : List ℕ) {before after : List ℕ} {w : Written} →
       Writes (mergeRows file grouping (length before)) (mergedFile file grouping) before after w →
       Ends (λ n. Applies n (mergeRows file grouping (length before))) before (replyOfWritten w) after
@@ -110,16 +111,16 @@ pub record Valued (c : Chain) (p : PathFormula) (n : ℕ) (tuple : Tuple) : Type
 pub record Demand2 (file : List ℕ) : Type 0 where
   pub one-sentence : {text : List ℕ} (s t : SentenceOf text) → (s .prefix ≡ t .prefix) × (s .body ≡ t .body)
   -- the verdict is 'holds' exactly if it holds;
-  pub verdicts : {text before after : List ℕ} {a : Judged.Answer} → VerdictAnswer file text before a after →
+  pub verdicts : {text before after : List ℕ} {a : Judged.Answer} → VerdictEnsures file text before a after →
       ((n : ℕ) → QuestionRow file text (length before) n → ⊥) →
-      (s : SentenceOf text) × (replyJudged a ≡ gives (verdict (chainIn file) (map letterOf (s .prefix)) (s .body)))
+      (s : SentenceOf text) × (verdictReply a ≡ gives (verdict (chainIn file) (map letterOf (s .prefix)) (s .body)))
   -- each probability in it is, at every tuple of states, the total weight of the satisfying runs over the total weight of all;
   pub in-verdicts : {text : List ℕ} {room : ℕ} → ((n : ℕ) → QuestionRow file text room n → ⊥) → (s : SentenceOf text) (p : PathFormula)
       {tuple : Tuple} → Inside (chainIn file .N) (length (s .prefix)) tuple → Valued (chainIn file) p (length (s .prefix)) tuple
   -- and so are the two numbers that numerator gives.
   pub probabilities : {text tuple before after : List ℕ} {path : ℕ} {a : Counted.Answer} →
-      NumeratorAnswer file text tuple path before a after → ((n : ℕ) → NumeratorRow file text tuple path (length before) n → ⊥) →
-      (s : SentenceOf text) × (v : ℕ × ℕ) × (replyCounted a ≡ gives v) ×
+      NumeratorEnsures file text tuple path before a after → ((n : ℕ) → NumeratorRow file text tuple path (length before) n → ⊥) →
+      (s : SentenceOf text) × (v : ℕ × ℕ) × (numeratorReply a ≡ gives v) ×
       Probability (chainIn file) (numbered (s .body) path) (length (s .prefix)) tuple (v .0) (v .1)
 
 -- Demand 2, of the readers and writers.
@@ -133,7 +134,8 @@ pub record RoundTrips : Type 0 where
       length text ≤ length before → WriteAnswer (r .sentence) before w after → (w ≡ Wrote (length text)) × (after ≡ atFront text before)
   -- and reading what was written gives the same model, of a record as its type has it,
   pub models : {m : Model} {before after : List ℕ} {size : ℕ} {r : ModelRead} → Shaped m →
-      Writes (recordRows m (length before)) (fileOf m) before after (Wrote size) → Reads (take size after) r → r ≡ record { outcome = Done; model = m }
+      Writes (recordRows m (length before)) (fileOf m) before after (Wrote size) → Reads (take size after) r →
+      r ≡ record { outcome = Done; model = m }
   -- or sentence, of a record with four places for letters, as its type has them: its prefix and its nodes, since places past the
   -- count are no part of it.
   pub sentences : {s : Sentence} {before after : List ℕ} {size : ℕ} {r : SentenceRead} → length (s .exists) ≡ 4 →
@@ -184,13 +186,14 @@ pub data Differ (c : Chain) (group : ℕ → ℕ) (M : ℕ) : Type 0 where
 -- What merging keeps, of the answers on a file and on the file that it is merged to (where the second work area is long enough):
 pub record Keeps (file grouping merged : List ℕ) : Type 0 where
   -- for every sentence not refused on the full model the verdicts are equal,
-  pub verdicts : {text area area′ left left′ : List ℕ} {a b : Judged.Answer} → areaSize ≤ length area′ → VerdictAnswer file text area a left →
-      ((n : ℕ) → QuestionRow file text (length area) n → ⊥) → VerdictAnswer merged text area′ b left′ → a ≡ b
+  pub verdicts : {text area area′ left left′ : List ℕ} {a b : Judged.Answer} → areaSize ≤ length area′ →
+      VerdictEnsures file text area a left →
+      ((n : ℕ) → QuestionRow file text (length area) n → ⊥) → VerdictEnsures merged text area′ b left′ → a ≡ b
   -- and each path formula's numerator and denominator, at every tuple of states, equal those on the merged model at the tuple of
   -- their groups.
   pub numerators : {text tuple area area′ left left′ : List ℕ} {path : ℕ} {a b : Counted.Answer} → areaSize ≤ length area′ →
-      NumeratorAnswer file text tuple path area a left → ((n : ℕ) → NumeratorRow file text tuple path (length area) n → ⊥) →
-      NumeratorAnswer merged text (map (groupOf grouping) tuple) path area′ b left′ → a ≡ b
+      NumeratorEnsures file text tuple path area a left → ((n : ℕ) → NumeratorRow file text tuple path (length area) n → ⊥) →
+      NumeratorEnsures merged text (map (groupOf grouping) tuple) path area′ b left′ → a ≡ b
 
 -- The merged model is written: the bytes at the front are its file, which is accepted and read as that model, and what merging
 -- keeps is kept.

@@ -2,12 +2,12 @@
 -- crate `meaning`, the line on merging those of the crate `merge`. Of the former it is said too that the document's text is the
 -- text of the tree, and that their chains are those of the models M1 and M2.
 use Prim.Native.Nat.{ℕ}
-use Prim.Native.Char.{code}
-use Prim.Native.String.{String, len, charAt}
+use Prim.Native.String.{String}
 use mathlib.Core.Bool.{Bool, true, _&&_, Bool·beq}
 use mathlib.Core.List.{List, [], _∷_, _++_, map}
 use mathlib.Core.Path.{_≡_}
 use lib.Dec.{eqb}
+use Rattle.counting.specs.Ascii.{ascii}
 use Rattle.model.specs.declared.Model.{Model}
 use Rattle.sentence.specs.declared.Kind.{Kind}
 use Rattle.sentence.specs.declared.Kind.the-variants.{Expression}
@@ -16,15 +16,12 @@ use Rattle.sentence.specs.Grammar.{Nests, bodyText}
 use Rattle.meaning.specs.Lists.{below, every}
 use Rattle.meaning.specs.Chain.{Chain}
 use Rattle.meaning.specs.Tree.{Letter, Formula, probability, letterOf}
-use Rattle.meaning.specs.Examples.{M1, M2 as chainM2, M2merged as chainM2merged, Claim as Meant, fraction, worth, answer, rows, met, claims as onSentences}
+use Rattle.meaning.specs.Examples.{M1, M2 as chainM2, M2merged as chainM2merged, Claim as Meant, fraction}
+use Rattle.meaning.specs.Examples.{worth, answer, rows, met, claims as onSentences}
 use Rattle.trees.specs.Listed.{expressionNodes}
-use Rattle.question.specs.Rows.{SentenceOf}
+use Rattle.question.specs.Contract.{SentenceOf}
 use Rattle.chain.specs.Of.{chainOf}
 use Rattle.merge.specs.Examples.{modelWith, M2, M2merged, Claim as Merging, Met as MetMerging, claims as onMerging}
-
--- the bytes of a text, in ASCII
-unfoldable pub ascii : String → List ℕ
-ascii text = map (λ i. code (charAt text i)) (below (len text))
 
 -- the text is that of the nodes, and these are one thing of the kind
 pub record TextOf (kind : Kind) (nodes : List Node) (text : String) : Type 0 where

@@ -20,7 +20,8 @@ use Rattle.sentence.specs.Writing.{AllWritable}
 use Rattle.sentence.specs.declared.Slot.{Slot}
 use Rattle.sentence.specs.declared.Relation.the-variants.{Less, AtMost, Equal, AtLeast, Greater}
 use Rattle.sentence.specs.declared.Node.{Node}
-use Rattle.sentence.specs.declared.Node.the-variants.{True, Label, Not, And, Compare, Probability, Constant, Sum, Difference, Product, Next, Until}
+use Rattle.sentence.specs.declared.Node.the-variants.{True, Label, Not, And, Compare, Probability}
+use Rattle.sentence.specs.declared.Node.the-variants.{Constant, Sum, Difference, Product, Next, Until}
 use Rattle.sentence.specs.declared.Sentence.{Sentence}
 use Rattle.sentence.specs.declared.SentenceRead.{SentenceRead}
 use Rattle.sentence.proofs.ReadAll.{one-answer}
@@ -28,10 +29,10 @@ use Rattle.sentence.proofs.Unique.{all-writable}
 use Rattle.sentence.proofs.WriteAll.{one-writing as one-text}
 use Rattle.verdict.specs.declared.Answer as Judged
 use Rattle.verdict.specs.declared.Answer.the-variants.{Holds, Fails, Refused}
-use Rattle.verdict.specs.Calls.{VerdictAnswer, replyOf as replyJudged}
+use Rattle.verdict.specs.Contract.{VerdictEnsures, verdictReply}
 use Rattle.verdict.proofs.Single.{one-verdict, number-few}
 use Rattle.numerator.specs.declared.Answer as Counted
-use Rattle.numerator.specs.Calls.{replyOf as replyCounted}
+use Rattle.numerator.specs.Contract.{numeratorReply}
 use Rattle.numerator.proofs.Single.{one-numerator}
 use Rattle.codes.specs.Codes.{Coded, codeOf, sentenceHead, letterCodes, codesOf, noNode}
 use Rattle.exports.specs.Questions.{verdictCode, ExportedVerdict, valuesLeft, ExportedNumerator}
@@ -49,14 +50,16 @@ module _ {A : Type 0} (code : A → ℕ) (Ensures : A → List ℕ → Type 0)
       (x .coded ∙ ap code (same .0) ∙ sym (y .coded), same .1)
 
 module _ {before after after′ : List ℕ} {r r′ : ℕ} where
-  pub one-model-written : (m : Model) → ExportedWriteModel m before after r → ExportedWriteModel m before after′ r′ → (r ≡ r′) × (after ≡ after′)
+  pub one-model-written : (m : Model) → ExportedWriteModel m before after r → ExportedWriteModel m before after′ r′ →
+      (r ≡ r′) × (after ≡ after′)
   one-model-written m = one-coded codeOf _ (λ a b l l′ x y. one-writing x y)
 
   pub one-merged : (file grouping : List ℕ) → ExportedMerge file grouping before after r → ExportedMerge file grouping before after′ r′ →
       (r ≡ r′) × (after ≡ after′)
   one-merged file grouping = one-coded codeOf _ (λ a b l l′ x y. one-writing x y)
 
-  pub one-sentence-written : (s : Sentence) → ExportedWriteSentence s before after r → ExportedWriteSentence s before after′ r′ → (r ≡ r′) × (after ≡ after′)
+  pub one-sentence-written : (s : Sentence) → ExportedWriteSentence s before after r → ExportedWriteSentence s before after′ r′ →
+      (r ≡ r′) × (after ≡ after′)
   one-sentence-written s = one-coded codeOf _ (λ a b l l′ x y. one-text x y)
 
   pub one-verdict-given : (file text : List ℕ) → ExportedVerdict file text before after r → ExportedVerdict file text before after′ r′ →
@@ -64,7 +67,8 @@ module _ {before after after′ : List ℕ} {r r′ : ℕ} where
   one-verdict-given file text = one-coded verdictCode _ (λ a b l l′ x y. one-verdict x y)
 
 module _ {head masks h h′ m m′ : List ℕ} {rows w w′ : List (List ℕ)} {r r′ : ℕ} where
-  pub one-model-read : {file : List ℕ} → ExportedReadModel file head masks rows h m w r → ExportedReadModel file head masks rows h′ m′ w′ r′ →
+  pub one-model-read : {file : List ℕ} → ExportedReadModel file head masks rows h m w r →
+      ExportedReadModel file head masks rows h′ m′ w′ r′ →
       (r ≡ r′) × (h ≡ h′) × (m ≡ m′) × (w ≡ w′)
   one-model-read a b =
       let same : a .read ≡ b .read = one-reading (a .answer) (b .answer) in (
@@ -81,8 +85,10 @@ module _ {text head exists h h′ e e′ : List ℕ} {codes c c′ : List (List 
       let same : a .read ≡ b .read = one-answer (a .answer) (b .answer) in (
         a .answered ∙ ap (λ (x : SentenceRead). numberIn (replyOf (x .outcome))) same ∙ sym (b .answered),
         a .head-left ∙ ap (λ (x : SentenceRead). filled (replyOf (x .outcome)) (sentenceHead (x .sentence)) head) same ∙ sym (b .head-left),
-        a .exists-left ∙ ap (λ (x : SentenceRead). filled (replyOf (x .outcome)) (letterCodes (x .sentence .exists)) exists) same ∙ sym (b .exists-left),
-        a .codes-left ∙ ap (λ (x : SentenceRead). filled (replyOf (x .outcome)) (codesOf (x .sentence .nodes)) codes) same ∙ sym (b .codes-left),
+        a .exists-left ∙ ap (λ (x : SentenceRead). filled (replyOf (x .outcome)) (letterCodes (x .sentence .exists)) exists) same ∙
+            sym (b .exists-left),
+        a .codes-left ∙ ap (λ (x : SentenceRead). filled (replyOf (x .outcome)) (codesOf (x .sentence .nodes)) codes) same ∙
+            sym (b .codes-left),
       )
 
 module _ {file text tuple before value after after′ v v′ : List ℕ} {path r r′ : ℕ} where
@@ -90,14 +96,14 @@ module _ {file text tuple before value after after′ v v′ : List ℕ} {path r
       ExportedNumerator file text tuple path before value after′ v′ r′ → (r ≡ r′) × (after ≡ after′) × (v ≡ v′)
   one-numerator-given a b =
       let same = one-numerator (a .answer) (b .answer) in (
-        a .answered ∙ ap (λ (x : Counted.Answer). numberIn (replyCounted x)) (same .0) ∙ sym (b .answered),
+        a .answered ∙ ap (λ (x : Counted.Answer). numberIn (numeratorReply x)) (same .0) ∙ sym (b .answered),
         same .1,
-        a .value-left ∙ ap (λ (x : Counted.Answer). valuesLeft (replyCounted x) value) (same .0) ∙ sym (b .value-left),
+        a .value-left ∙ ap (λ (x : Counted.Answer). valuesLeft (numeratorReply x) value) (same .0) ∙ sym (b .value-left),
       )
 
 -- ---- a refusal leaves all lent memory unchanged
 
--- where the reply's number is not 0, what is lent is as it was
+-- where the reply's number is not 0, what is lent is unchanged
 filled-none : {A B : Type 0} (q : Reply A) (value before : B) → 0 < numberIn q → filled q value before ≡ before
 filled-none (gives v) value before some = absurd (omega arith)
 filled-none (refuses n) value before some = refl
@@ -122,7 +128,7 @@ module _ {text head exists h e : List ℕ} {codes c : List (List ℕ)} {r : ℕ}
 
 module _ {file text tuple before value after v : List ℕ} {path r : ℕ} where
   pub value-unchanged : ExportedNumerator file text tuple path before value after v r → 0 < r → v ≡ value
-  value-unchanged a some = a .value-left ∙ none (replyCounted (a .counted)) (subst (λ (n : ℕ). 0 < n) (a .answered) some)
+  value-unchanged a some = a .value-left ∙ none (numeratorReply (a .counted)) (subst (λ (n : ℕ). 0 < n) (a .answered) some)
     where
       none : (q : Reply (ℕ × ℕ)) → 0 < numberIn q → valuesLeft q value ≡ value
       none (gives x) some = absurd (omega arith)
@@ -138,7 +144,7 @@ values-refused e before = ap (λ (x : Reply (ℕ × ℕ)). valuesLeft x before) 
 
 -- ---- a verdict's code tells the verdict
 
-code-tells : (a b : Judged.Answer) → numberIn (replyJudged a) ≤ 11 → numberIn (replyJudged b) ≤ 11 → verdictCode a ≡ verdictCode b → a ≡ b
+code-tells : (a b : Judged.Answer) → numberIn (verdictReply a) ≤ 11 → numberIn (verdictReply b) ≤ 11 → verdictCode a ≡ verdictCode b → a ≡ b
 unfolding verdictCode
 code-tells Holds Holds x y e = refl
 code-tells Holds Fails x y e = absurd (omega arith)
@@ -151,10 +157,10 @@ code-tells (Refused n) Fails x y e = absurd (omega arith)
 code-tells (Refused n) (Refused m) x y e = ap Refused e
 
 -- who is given an answer's code is given that answer
-pub verdict-told : {file text before after : List ℕ} (a : Judged.Answer) → numberIn (replyJudged a) ≤ 11 →
-    ExportedVerdict file text before after (verdictCode a) → VerdictAnswer file text before a after
+pub verdict-told : {file text before after : List ℕ} (a : Judged.Answer) → numberIn (verdictReply a) ≤ 11 →
+    ExportedVerdict file text before after (verdictCode a) → VerdictEnsures file text before a after
 verdict-told {file} {text} {before} {after} a few g =
-    subst (λ (x : Judged.Answer). VerdictAnswer file text before x after)
+    subst (λ (x : Judged.Answer). VerdictEnsures file text before x after)
     (code-tells (g .answer) a (number-few (g .ensures)) few (sym (g .coded)))
     (g .ensures)
 

@@ -88,7 +88,8 @@ sentence-short s before (Refused number) after writes = tt
 
 -- who is given an answer's code is given that answer
 module _ {before after : List ℕ} (a : Written) (short : Short a) where
-  pub model-told : (m : Model) → ExportedWriteModel m before after (codeOf a) → Writes (recordRows m (length before)) (fileOf m) before after a
+  pub model-told : (m : Model) → ExportedWriteModel m before after (codeOf a) →
+      Writes (recordRows m (length before)) (fileOf m) before after a
   model-told m = answer-told _ (model-short m before) a short
 
   pub merge-told : (file grouping : List ℕ) → ExportedMerge file grouping before after (codeOf a) →

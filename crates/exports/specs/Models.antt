@@ -17,7 +17,8 @@ abbrev pub headOf : Model → List ℕ
 headOf m = m .n ∷ m .a ∷ m .d ∷ []
 
 -- read model, exported: the number of what read model answers, and the three parts of the model
-pub record ExportedReadModel (file : List ℕ) (head masks : List ℕ) (rows : List (List ℕ)) (head′ masks′ : List ℕ) (rows′ : List (List ℕ)) (r : ℕ) : Type 0 where
+pub record ExportedReadModel (file : List ℕ) (head masks : List ℕ) (rows : List (List ℕ)) (head′ masks′ : List ℕ) (rows′ : List (List ℕ))
+    (r : ℕ) : Type 0 where
   pub read : ModelRead
   pub answer : Reads file read
   pub answered : r ≡ numberIn (replyOf (read .outcome))

@@ -5,9 +5,9 @@ use mathlib.Core.Path.{_≡_}
 use Rattle.refusal.specs.Answers.{Reply, gives, refuses, numberIn}
 use Rattle.verdict.specs.declared.Answer as Judged
 use Rattle.verdict.specs.declared.Answer.the-variants.{Holds, Fails, Refused}
-use Rattle.verdict.specs.Calls.{VerdictAnswer}
+use Rattle.verdict.specs.Contract.{VerdictEnsures}
 use Rattle.numerator.specs.declared.Answer as Counted
-use Rattle.numerator.specs.Calls.{replyOf, NumeratorAnswer}
+use Rattle.numerator.specs.Contract.{numeratorReply, NumeratorEnsures}
 use Rattle.codes.specs.Codes.{Coded}
 
 -- the code of what verdict answers: 256 for 'holds', 257 for 'fails', or the refusal's number, which is below both
@@ -18,7 +18,7 @@ verdictCode (Refused number) = number
 
 -- verdict, exported
 abbrev pub ExportedVerdict : (file text before after : List ℕ) → ℕ → Type 0
-ExportedVerdict file text before = Coded verdictCode (VerdictAnswer file text before)
+ExportedVerdict file text before = Coded verdictCode (VerdictEnsures file text before)
 
 -- what the two numbers that are lent for the values hold after a reply: the numerator and the denominator, or what they held
 abbrev pub valuesLeft : Reply (ℕ × ℕ) → List ℕ → List ℕ
@@ -30,6 +30,6 @@ valuesLeft (refuses number) before = before
 -- values, before and after
 pub record ExportedNumerator (file text tuple : List ℕ) (path : ℕ) (before value after value′ : List ℕ) (r : ℕ) : Type 0 where
   pub counted : Counted.Answer
-  pub answer : NumeratorAnswer file text tuple path before counted after
-  pub answered : r ≡ numberIn (replyOf counted)
-  pub value-left : value′ ≡ valuesLeft (replyOf counted) value
+  pub answer : NumeratorEnsures file text tuple path before counted after
+  pub answered : r ≡ numberIn (numeratorReply counted)
+  pub value-left : value′ ≡ valuesLeft (numeratorReply counted) value

@@ -9,7 +9,8 @@ use Rattle.sentence.specs.declared.SentenceRead.{SentenceRead}
 use Rattle.codes.specs.Codes.{Coded, codeOf, sentenceHead, letterCodes, codesOf}
 
 -- read sentence, exported: the number of what read sentence answers, and the parts of its record
-pub record ExportedReadSentence (text : List ℕ) (head exists : List ℕ) (codes : List (List ℕ)) (head′ exists′ : List ℕ) (codes′ : List (List ℕ)) (r : ℕ) : Type 0 where
+pub record ExportedReadSentence (text : List ℕ) (head exists : List ℕ) (codes : List (List ℕ)) (head′ exists′ : List ℕ)
+    (codes′ : List (List ℕ)) (r : ℕ) : Type 0 where
   pub read : SentenceRead
   pub answer : ReadAnswer text read
   pub answered : r ≡ numberIn (replyOf (read .outcome))

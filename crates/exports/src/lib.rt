@@ -10,8 +10,8 @@ use model::Model;
 use model::matrix;
 use refusal::Outcome;
 
-// Read model: 0, and the model in the three lent parts (N, A and D; the masks; the weights), or the refusal's number
-// with the lent memory as it was.
+// Read model: returns 0 and leaves the model in the three lent parts (N, A and D; the masks; the weights), or returns the
+// refusal's number and leaves the lent memory unchanged.
 #[no_mangle]
 pub extern "C" fn twolsken_read_model(
     file: &[u8],
@@ -19,7 +19,8 @@ pub extern "C" fn twolsken_read_model(
     masks: &mut [u16; 32],
     rows: &mut [[u16; 32]; 32],
 ) -> u32
-    ensures { λ r. ⌜ ExportedReadModel (now (file .entry)) (now (head .entry)) (now (masks .entry)) (now (rows .entry)) (now (head .exit)) (now (masks .exit)) (now (rows .exit)) r ⌝ }
+    ensures { λ r. ⌜ ExportedReadModel (now (file .entry)) (now (head .entry)) (now (masks .entry)) (now (rows .entry)) (now (head .exit))
+        (now (masks .exit)) (now (rows .exit)) r ⌝ }
 {
     let read = model::reader::read_model(file);
     let outcome = read.outcome;
@@ -36,8 +37,8 @@ pub extern "C" fn twolsken_read_model(
     }
 }
 
-// Write model, of the three parts that read model leaves (N, A and D; the masks; the weights): the number of bytes written at the front of the output, or 2^32 plus the refusal's number with the output
-// as it was.
+// Write model, of the three parts that read model leaves (N, A and D; the masks; the weights): returns the number of bytes
+// written at the front of the output, or 2^32 plus the refusal's number, with the output unchanged.
 #[no_mangle]
 pub extern "C" fn twolsken_write_model(
     head: &[u32; 3],
@@ -45,7 +46,8 @@ pub extern "C" fn twolsken_write_model(
     rows: &[[u16; 32]; 32],
     out: &mut [u8],
 ) -> u64
-    ensures { λ r. ⌜ ExportedWriteModel (modelOfParts (now (head .entry)) (now (masks .entry)) (now (rows .entry))) (now (out .entry)) (now (out .exit)) r ⌝ }
+    ensures { λ r. ⌜ ExportedWriteModel (modelOfParts (now (head .entry)) (now (masks .entry)) (now (rows .entry))) (now (out .entry))
+        (now (out .exit)) r ⌝ }
 {
     let m = Model {
         n: head[0],

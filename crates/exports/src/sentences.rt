@@ -10,8 +10,8 @@ use codes::written_code;
 use refusal::Outcome;
 use sentence::Sentence;
 
-// Read sentence: 0, and the sentence in the three lent parts (the number of letters and the count; the letters; the
-// codes), or the refusal's number with the lent memory as it was.
+// Read sentence: returns 0 and leaves the sentence in the three lent parts (the number of letters and the count; the
+// letters; the codes), or returns the refusal's number and leaves the lent memory unchanged.
 #[no_mangle]
 pub extern "C" fn twolsken_read_sentence(
     text: &[u8],
@@ -19,7 +19,8 @@ pub extern "C" fn twolsken_read_sentence(
     exists: &mut [u8; 4],
     codes: &mut [[u32; 3]; 64],
 ) -> u32
-    ensures { λ r. ⌜ ExportedReadSentence (now (text .entry)) (now (head .entry)) (now (exists .entry)) (now (codes .entry)) (now (head .exit)) (now (exists .exit)) (now (codes .exit)) r ⌝ }
+    ensures { λ r. ⌜ ExportedReadSentence (now (text .entry)) (now (head .entry)) (now (exists .entry)) (now (codes .entry))
+        (now (head .exit)) (now (exists .exit)) (now (codes .exit)) r ⌝ }
 {
     let read = sentence::read_sentence(text);
     let outcome = read.outcome;
@@ -37,8 +38,8 @@ pub extern "C" fn twolsken_read_sentence(
     }
 }
 
-// Write sentence: the number of bytes written at the front of the output, or 2^32 plus the refusal's number with the
-// output as it was.
+// Write sentence: returns the number of bytes written at the front of the output, or 2^32 plus the refusal's number, with
+// the output unchanged.
 #[no_mangle]
 pub extern "C" fn twolsken_write_sentence(
     letters: u64,
@@ -47,7 +48,8 @@ pub extern "C" fn twolsken_write_sentence(
     codes: &[[u32; 3]; 64],
     out: &mut [u8],
 ) -> u64
-    ensures { λ r. ⌜ ExportedWriteSentence (sentenceOf letters count (now (exists .entry)) (now (codes .entry))) (now (out .entry)) (now (out .exit)) r ⌝ }
+    ensures { λ r. ⌜ ExportedWriteSentence (sentenceOf letters count (now (exists .entry)) (now (codes .entry))) (now (out .entry))
+        (now (out .exit)) r ⌝ }
 {
     let s = Sentence {
         letters: letters as usize,

@@ -16,11 +16,11 @@ use Rattle.trees.specs.Listed.{formulaNodes}
 use Rattle.paths.specs.Tuples.{membersBelow, tupleRight}
 use Rattle.paths.specs.Places.{PathPlace, here, none}
 use Rattle.paths.proofs.Joining.{path-stands, path-missing}
-use Rattle.question.specs.Working.{SentenceRead}
+use Rattle.question.specs.Working.{TextOfSentence}
 use Rattle.question.proofs.Pair.{nodes-few}
 use Rattle.numerator.specs.Working.{asksRight}
 
-module _ {text : List ℕ} {s : Sentence} (b : SentenceRead text s) where
+module _ {text : List ℕ} {s : Sentence} (b : TextOfSentence text s) where
   pub held : s .nodes ≡ recordOf (b .prefix) (formulaNodes (b .body)) .nodes
   held = ap (λ (x : Sentence). x .nodes) (b .fields)
 
@@ -32,13 +32,16 @@ module _ {text : List ℕ} {s : Sentence} (b : SentenceRead text s) where
   pub place-test : {number at : ℕ} → PathPlace (s .nodes) (s .count) number at → ltb at (s .count) ≡ ltb number (length (pathsOf (b .body)))
   place-test {number} {at} place = by (s .count) refl place
     where
-      by : (count : ℕ) → s .count ≡ count → {r : ℕ} → PathPlace (s .nodes) count number r → ltb r count ≡ ltb number (length (pathsOf (b .body)))
+      by : (count : ℕ) → s .count ≡ count → {r : ℕ} → PathPlace (s .nodes) count number r →
+          ltb r count ≡ ltb number (length (pathsOf (b .body)))
       by count e (here {r} h starts i) =
           lt-ltb r count h ∙
-          sym (lt-ltb number (length (pathsOf (b .body))) (path-stands (b .prefix) (b .body) (nodes-few b) held (sym e ∙ counted) (here h starts i) h (next always) .0))
+          sym (lt-ltb number (length (pathsOf (b .body)))
+          (path-stands (b .prefix) (b .body) (nodes-few b) held (sym e ∙ counted) (here h starts i) h (next always) .0))
       by count e (none i) =
           le-ltb count count (omega arith) ∙
-          sym (le-ltb number (length (pathsOf (b .body))) (path-missing (b .prefix) (b .body) (nodes-few b) held (sym e ∙ counted) (none i) (omega arith)))
+          sym (le-ltb number (length (pathsOf (b .body)))
+          (path-missing (b .prefix) (b .body) (nodes-few b) held (sym e ∙ counted) (none i) (omega arith)))
 
 -- what it is for the tuple and the number to be right
 pub record RightParts (m : Model) (s : Sentence) (f : Formula) (tuple : List ℕ) (number : ℕ) : Type 0 where

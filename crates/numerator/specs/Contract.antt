@@ -12,14 +12,14 @@ use Rattle.meaning.specs.Meaning.{numerator, denominator}
 use Rattle.trees.specs.Listed.{formulaNodes}
 use Rattle.chain.specs.Of.{chainOf}
 use Rattle.paths.specs.Tuples.{membersBelow}
-use Rattle.question.specs.Rows.{QuestionRow, SentenceOf, cleared, areaSize}
+use Rattle.question.specs.Contract.{QuestionRow, SentenceOf, cleared, areaSize}
 use Rattle.numerator.specs.declared.Answer.{Answer}
 use Rattle.numerator.specs.declared.Answer.the-variants.{Counted, Refused}
 
 -- the document's words for an answer: the numerator and the denominator, or the number of a refusal
-abbrev pub replyOf : Answer → Reply (ℕ × ℕ)
-replyOf (Counted top bottom) = gives (top, bottom)
-replyOf (Refused number) = refuses number
+abbrev pub numeratorReply : Answer → Reply (ℕ × ℕ)
+numeratorReply (Counted top bottom) = gives (top, bottom)
+numeratorReply (Refused number) = refuses number
 
 -- the path formula with a number, counted from 0 in written order (where there is none, row 15 applies)
 unfoldable pub numbered : Formula → ℕ → PathFormula
@@ -45,5 +45,6 @@ pub record Counts (file text tuple : List ℕ) (number : ℕ) (before : List ℕ
 
 -- what numerator ensures of the model file, the sentence text, the tuple, the path formula's number, the work area before and
 -- after, and what it answers
-pub record NumeratorAnswer (file text tuple : List ℕ) (number : ℕ) (before : List ℕ) (answer : Answer) (after : List ℕ) : Type 0 where
-  pub ensured : Ensured (NumeratorRow file text tuple number (length before)) (Counts file text tuple number before) before (replyOf answer) after
+pub record NumeratorEnsures (file text tuple : List ℕ) (number : ℕ) (before : List ℕ) (answer : Answer) (after : List ℕ) : Type 0 where
+  pub ensured : Ensured (NumeratorRow file text tuple number (length before)) (Counts file text tuple number before) before
+      (numeratorReply answer) after

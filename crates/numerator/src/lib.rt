@@ -1,9 +1,9 @@
 // Numerator: the rows of a question and row 15, then the path formula's numerators at every tuple, of which one is asked.
 ghost use mathlib.Core.Path.{_≡_};
 ghost use lib.ListN.{length};
-ghost use Rattle.question.specs.Rows.{areaSize};
+ghost use Rattle.question.specs.Contract.{areaSize};
 ghost use Rattle.question.specs.Working.{Ready};
-ghost use Rattle.numerator.specs.Calls.{NumeratorAnswer};
+ghost use Rattle.numerator.specs.Contract.{NumeratorEnsures};
 ghost use Rattle.numerator.specs.Working.{Asked, Right, CountedSo};
 use evaluate::nodes::path;
 use layers::plain::zero;
@@ -64,7 +64,8 @@ fn counted(m: Model, s: Sentence, tuple: &[u8], number: usize, area: &mut [u64])
 
 // Numerator: the numerator and the denominator of a path formula at a tuple, or the smallest number of a row that applies.
 pub fn numerator(file: &[u8], text: &[u8], tuple: &[u8], number: usize, work: &mut [u64]) -> Answer
-    ensures { λ r. ⌜ NumeratorAnswer (now (file .entry)) (now (text .entry)) (now (tuple .entry)) number (now (work .entry)) r (now (work .exit)) ⌝ }
+    ensures { λ r. ⌜ NumeratorEnsures (now (file .entry)) (now (text .entry)) (now (tuple .entry)) number (now (work .entry)) r
+        (now (work .exit)) ⌝ }
 {
     let read = read_model(file);
     let said = read_sentence(text);

@@ -6,7 +6,7 @@ use native.Mathlib.Omega.{arith}
 use lib.ListN.{length, getD, take, drop, replicate, take-append-drop, length-replicate, getD-replicate, length-append, length-drop}
 use lib.Seq.{ext-getD, getD-take, length-take-le, drop-append-seam}
 use Rattle.layers.specs.Layers.{Written}
-use Rattle.question.specs.Rows.{cleared}
+use Rattle.question.specs.Contract.{cleared}
 
 -- the area that was lent of it is as long as before, and so is the whole
 pub back-long : {n : ℕ} (w area : List ℕ) → n ≤ length w → length area ≡ n → length (area ++ drop n w) ≡ length w

@@ -14,8 +14,8 @@ use Rattle.sentence.specs.declared.SentenceRead as Parsed
 use Rattle.sentence.specs.Grammar.{Spells}
 use Rattle.sentence.specs.Calls.{ReadRow, Spelled, ReadAnswer, recordOf}
 use Rattle.trees.proofs.Exists.{formula-of}
-use Rattle.question.specs.Rows.{QuestionRow, area, model, sentence, labels, size, tuples, areaSize}
-use Rattle.question.specs.Working.{ModelRead, SentenceRead}
+use Rattle.question.specs.Contract.{QuestionRow, area, model, sentence, labels, size, tuples, areaSize}
+use Rattle.question.specs.Working.{FileOfModel, TextOfSentence}
 use Rattle.question.proofs.Numbers.{text-number, row-some, least-model}
 use Rattle.question.proofs.Stages.{none-of-file}
 
@@ -28,7 +28,7 @@ pub gives-file : {file text : List ℕ} {room n : ℕ} → areaSize ≤ room →
 gives-file {n = zero} space e h = absurd (omega arith)
 gives-file {n = suc n} space e h = let least = least-model space e in refused (least .0) (least .1)
 
-pub file-read : {file : List ℕ} {r : Loaded.ModelRead} → Reads file r → fileNumber file ≡ 0 → ModelRead file (r .model)
+pub file-read : {file : List ℕ} {r : Loaded.ModelRead} → Reads file r → fileNumber file ≡ 0 → FileOfModel file (r .model)
 file-read reads e = record { accepted = e; fields = reads-value reads e }
 
 -- the text
@@ -49,10 +49,12 @@ gives-text {file} {text} {room} space free said h = by (number-decided (said .en
         from j (size f s b) = let x = text-number row in omega arith
         from j (tuples f s b) = let x = text-number row in omega arith
 
-pub text-read : {text : List ℕ} {r : Parsed.SentenceRead} → ReadAnswer text r → numberIn (replyOf (r .outcome)) ≡ 0 → SentenceRead text (r .sentence)
+pub text-read : {text : List ℕ} {r : Parsed.SentenceRead} → ReadAnswer text r → numberIn (replyOf (r .outcome)) ≡ 0 →
+    TextOfSentence text (r .sentence)
 text-read {text} {r} said free = by (said .ensured)
   where
-    by : Ensured (ReadRow text) (λ done. Spelled text) (recordOf [] []) (replyOf (r .outcome)) (r .sentence) → SentenceRead text (r .sentence)
+    by : Ensured (ReadRow text) (λ done. Spelled text) (recordOf [] []) (replyOf (r .outcome)) (r .sentence) →
+        TextOfSentence text (r .sentence)
     by (not-read e k row least) =
         let x = text-number row in
         let n = sym (ap numberIn e) ∙ free in

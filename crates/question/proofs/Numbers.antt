@@ -13,7 +13,7 @@ use Rattle.model.specs.Rows.{fileRows, fileNumber}
 use Rattle.model.proofs.Theorems.{read-smallest}
 use Rattle.sentence.specs.Calls.{ReadRow, outside, long, range, many}
 use Rattle.meaning.specs.Lists.{every}
-use Rattle.question.specs.Rows.{QuestionRow, area, model, sentence, labels, size, tuples, areaSize}
+use Rattle.question.specs.Contract.{QuestionRow, area, model, sentence, labels, size, tuples, areaSize}
 
 -- the numbers of a file's rows, and of a text's
 pub file-number : (file : List ℕ) {n : ℕ} → Applies n (fileRows file) → (2 ≤ n) × (n ≤ 5)
@@ -47,7 +47,8 @@ row-few (size f s e) = omega arith
 row-few (tuples f s e) = omega arith
 
 -- where the number given is 0, no row applies
-pub none-of : {file text : List ℕ} {room n : ℕ} → Decided (QuestionRow file text room) n → n ≤ 0 → (m : ℕ) → QuestionRow file text room m → ⊥
+pub none-of : {file text : List ℕ} {room n : ℕ} → Decided (QuestionRow file text room) n → n ≤ 0 → (m : ℕ) →
+    QuestionRow file text room m → ⊥
 none-of (refused row least) h m r = let some = row-some row in absurd (omega arith)
 none-of (accepted none) h m r = none m r
 
@@ -108,17 +109,20 @@ begins test l n i d h room =
     ap (λ x. test x && every test (drop (suc i) (take n l))) (getD-take n l i d h) ∙
     ap (λ (k : ℕ). test (getD l i d) && every test (drop k (take n l))) (sym (add-one i))
 
-pub left-next : {A : Type 0} {test : A → Bool} {l : List A} {n : ℕ} {i : ℕ} (d : A) → Left test l n i → i < n → n ≤ length l → test (getD l i d) ≡ true → Left test l n (i + 1)
+pub left-next : {A : Type 0} {test : A → Bool} {l : List A} {n : ℕ} {i : ℕ} (d : A) → Left test l n i → i < n → n ≤ length l →
+    test (getD l i d) ≡ true → Left test l n (i + 1)
 left-next {test = test} {l} {n} {i} d left h room e = record {
   upTo = omega arith;
   same = sym (begins test l n i d h room ∙ ap (λ (b : Bool). b && every test (drop (i + 1) (take n l))) e) ∙ left .same;
 }
 
-pub left-failed : {A : Type 0} {test : A → Bool} {l : List A} {n : ℕ} {i : ℕ} (d : A) → Left test l n i → i < n → n ≤ length l → test (getD l i d) ≡ false → false ≡ every test (take n l)
+pub left-failed : {A : Type 0} {test : A → Bool} {l : List A} {n : ℕ} {i : ℕ} (d : A) → Left test l n i → i < n → n ≤ length l →
+    test (getD l i d) ≡ false → false ≡ every test (take n l)
 left-failed {test = test} {l} {n} {i} d left h room e =
     sym (begins test l n i d h room ∙ ap (λ (b : Bool). b && every test (drop (i + 1) (take n l))) e) ∙ left .same
 
-pub left-all : {A : Type 0} {test : A → Bool} {l : List A} {n : ℕ} {i : ℕ} → Left test l n i → n ≤ i → n ≤ length l → true ≡ every test (take n l)
+pub left-all : {A : Type 0} {test : A → Bool} {l : List A} {n : ℕ} {i : ℕ} → Left test l n i → n ≤ i → n ≤ length l →
+    true ≡ every test (take n l)
 unfolding every
 left-all {test = test} {l} {n} {i} left h room =
     let long = length-take-le n l room in

@@ -28,8 +28,8 @@ use Rattle.trees.specs.Ranged.{Ranged}
 use Rattle.trees.proofs.Ranges.{nests-in-range, formula-ranged}
 use Rattle.chain.specs.Of.{chainOf}
 use Rattle.chain.proofs.Accepted as accepted
-use Rattle.question.specs.Rows.{QuestionRow, area, model, sentence, size, tuples, areaSize}
-use Rattle.question.specs.Working.{ModelRead, SentenceRead, Ready, SettingOf}
+use Rattle.question.specs.Contract.{QuestionRow, area, model, sentence, size, tuples, areaSize}
+use Rattle.question.specs.Working.{FileOfModel, TextOfSentence, Ready, SettingOf}
 use Rattle.question.proofs.Numbers.{least-model}
 use Rattle.question.proofs.Early.{file-read, text-read}
 use Rattle.question.proofs.Pair.{states-few, letters-few}
@@ -56,10 +56,10 @@ module _ {file text : List ℕ} {room : ℕ} (none : (n : ℕ) → QuestionRow f
   text-free said = ap numberIn (right-of (λ n row. none n (sentence row)) (said .ensured) .1)
 
   -- the readers' answers, where no row applies
-  pub model-of : {m : Loaded.ModelRead} → Reads file m → ModelRead file (m .model)
+  pub model-of : {m : Loaded.ModelRead} → Reads file m → FileOfModel file (m .model)
   model-of reads = file-read reads file-free
 
-  pub sentence-of : {s : Parsed.SentenceRead} → ReadAnswer text s → SentenceRead text (s .sentence)
+  pub sentence-of : {s : Parsed.SentenceRead} → ReadAnswer text s → TextOfSentence text (s .sentence)
   sentence-of said = text-read said (text-free said)
 
   pub ready-of : {m : Loaded.ModelRead} {s : Parsed.SentenceRead} → Reads file m → ReadAnswer text s → Ready (m .model) (s .sentence)
@@ -69,10 +69,10 @@ module _ {file text : List ℕ} {room : ℕ} (none : (n : ℕ) → QuestionRow f
     few = few (decLt 1024 (m .model .n ^ s .sentence .letters));
   }
     where
-      a : ModelRead file (m .model)
+      a : FileOfModel file (m .model)
       a = model-of reads
 
-      b : SentenceRead text (s .sentence)
+      b : TextOfSentence text (s .sentence)
       b = sentence-of said
 
       fits : (t : Bool) → exceeds (b .body) (fieldsOf file .d) (length (b .prefix)) ≡ t → t ≡ false
@@ -84,7 +84,7 @@ module _ {file text : List ℕ} {room : ℕ} (none : (n : ℕ) → QuestionRow f
       few (no h) = omega arith
 
 -- the body's numbers are in their ranges
-pub body-ranged : {text : List ℕ} {s : Sentence} (b : SentenceRead text s) → Ranged (s .letters) (b .body)
+pub body-ranged : {text : List ℕ} {s : Sentence} (b : TextOfSentence text s) → Ranged (s .letters) (b .body)
 unfolding recordOf
 body-ranged {s = s} b =
     subst (λ (x : Sentence). Ranged (x .letters) (b .body)) (sym (b .fields))

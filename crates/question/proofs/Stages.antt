@@ -24,8 +24,8 @@ use Rattle.meaning.specs.Size.{exceeds}
 use Rattle.trees.specs.Listed.{formulaNodes}
 use Rattle.trees.proofs.Once.{sentence-once}
 use Rattle.chain.specs.Of.{chainOf}
-use Rattle.question.specs.Rows.{labelRight, QuestionRow, area, model, sentence, labels, size, tuples, areaSize}
-use Rattle.question.specs.Working.{ModelRead, SentenceRead}
+use Rattle.question.specs.Contract.{labelRight, QuestionRow, area, model, sentence, labels, size, tuples, areaSize}
+use Rattle.question.specs.Working.{FileOfModel, TextOfSentence}
 use Rattle.question.proofs.Numbers.{file-number}
 use Rattle.question.proofs.Pair.{letters-length}
 
@@ -43,8 +43,9 @@ unfolding every
 every-places test [] = refl
 every-places test (x ∷ xs) = ap (λ (b : Bool). test (x .node) && b) (every-places test xs)
 
-module _ {file text : List ℕ} {m : Model} {s : Sentence} (a : ModelRead file m) (b : SentenceRead text s) where
-  pub labels-same : every (λ (x : Slot). labelRight (m .a) (x .node)) (take (s .count) (s .nodes)) ≡ every (labelRight (fieldsOf file .a)) (formulaNodes (b .body))
+module _ {file text : List ℕ} {m : Model} {s : Sentence} (a : FileOfModel file m) (b : TextOfSentence text s) where
+  pub labels-same : every (λ (x : Slot). labelRight (m .a) (x .node)) (take (s .count) (s .nodes)) ≡ every (labelRight (fieldsOf file .a))
+      (formulaNodes (b .body))
   labels-same =
       every-places (labelRight (m .a)) (take (s .count) (s .nodes)) ∙
       ap (λ (x : Sentence). every (labelRight (m .a)) (nodesOf x)) (b .fields) ∙

@@ -10,7 +10,8 @@ use Rattle.refusal.specs.Rows.{Applies}
 use Rattle.model.specs.Layout.{fieldsOf}
 use Rattle.model.specs.Rows.{fileRows}
 use Rattle.sentence.specs.declared.Node.{Node}
-use Rattle.sentence.specs.declared.Node.the-variants.{True, Label, Not, And, Compare, Probability, Constant, Sum, Difference, Product, Next, Until}
+use Rattle.sentence.specs.declared.Node.the-variants.{True, Label, Not, And, Compare, Probability}
+use Rattle.sentence.specs.declared.Node.the-variants.{Constant, Sum, Difference, Product, Next, Until}
 use Rattle.sentence.specs.Grammar.{Spells}
 use Rattle.sentence.specs.Calls.{ReadRow}
 use Rattle.meaning.specs.Lists.{every}
@@ -46,7 +47,8 @@ pub data QuestionRow (file text : List ℕ) (room : ℕ) : ℕ → Type 0 where
   area : room < areaSize → QuestionRow file text room 1
   model : {n : ℕ} → Applies n (fileRows file) → QuestionRow file text room n
   sentence : {n : ℕ} → ReadRow text n → QuestionRow file text room n
-  labels : {ps : List Bool} (f : Formula) → Spells ps (formulaNodes f) text → every (labelRight (fieldsOf file .a)) (formulaNodes f) ≡ false →
+  labels : {ps : List Bool} (f : Formula) → Spells ps (formulaNodes f) text →
+      every (labelRight (fieldsOf file .a)) (formulaNodes f) ≡ false →
       QuestionRow file text room 9
   size : {ps : List Bool} (f : Formula) → Spells ps (formulaNodes f) text → exceeds f (fieldsOf file .d) (length ps) ≡ true →
       QuestionRow file text room 10

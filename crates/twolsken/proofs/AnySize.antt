@@ -12,13 +12,13 @@ use Rattle.refusal.specs.Rows.{Decided, refused}
 use Rattle.model.specs.Rows.{lengthRight, fileNumber}
 use Rattle.model.proofs.Answer.{number-2}
 use Rattle.sentence.specs.Calls.{long}
-use Rattle.question.specs.Rows.{QuestionRow, area, model, sentence, labels, size, tuples, areaSize}
+use Rattle.question.specs.Contract.{QuestionRow, area, model, sentence, labels, size, tuples, areaSize}
 use Rattle.question.proofs.Numbers.{text-number}
 use Rattle.question.proofs.Stages.{none-of-file}
 use Rattle.question.proofs.Early.{gives-file}
 use Rattle.verdict.specs.declared.Answer.{Answer}
 use Rattle.verdict.specs.declared.Answer.the-variants.{Refused}
-use Rattle.verdict.specs.Calls.{VerdictAnswer}
+use Rattle.verdict.specs.Contract.{VerdictEnsures}
 use Rattle.verdict.proofs.Answering.{refused-so}
 use Rattle.verdict.proofs.Single.{one-verdict}
 use Rattle.twolsken.specs.Texts.{withoutNewline, AnswersFiles, AnswersBuffers}
@@ -36,7 +36,8 @@ module _ {room : ℕ} (space : areaSize ≤ room) where
   unfolding lengthRight
   over-model file text h =
       gives-file space
-      (number-2 file (last-fails (eqb (length file % 512) 0) (leb 512 (length file)) (leb (length file) 3072) (lt-leb (length file) 3072 h)))
+      (number-2 file (last-fails (eqb (length file % 512) 0) (leb 512 (length file)) (leb (length file) 3072)
+      (lt-leb (length file) 3072 h)))
       (omega arith)
 
   -- a text of over 400 bytes is refused 6, unless the model is refused
@@ -62,25 +63,29 @@ module _ {room : ℕ} (space : areaSize ≤ room) where
 
 -- two questions that give the same number have the same answer
 alike : {file text file′ text′ before after : List ℕ} {r : Answer} {n : ℕ} → 0 < n → Decided (QuestionRow file text (length before)) n →
-    Decided (QuestionRow file′ text′ (length before)) n → VerdictAnswer file text before r after → VerdictAnswer file′ text′ before r after
+    Decided (QuestionRow file′ text′ (length before)) n → VerdictEnsures file text before r after →
+    VerdictEnsures file′ text′ before r after
 alike {file′ = file′} {text′} {before} {after} {r} {n} some d d′ a =
     let one = one-verdict (refused-so d some) a in
-    subst (λ (x : Answer). VerdictAnswer file′ text′ before x after) (one .0)
-    (subst (λ (l : List ℕ). VerdictAnswer file′ text′ before (Refused n) l) (one .1) (refused-so d′ some))
+    subst (λ (x : Answer). VerdictEnsures file′ text′ before x after) (one .0)
+    (subst (λ (l : List ℕ). VerdictEnsures file′ text′ before (Refused n) l) (one .1) (refused-so d′ some))
 
 -- the answer on the first bytes is the answer on the whole files
 pub any-size : (file said : List ℕ) {before after : List ℕ} {r : Answer} → areaSize ≤ length before →
-    VerdictAnswer (take 3073 file) (withoutNewline (take 402 said)) before r after → VerdictAnswer file (withoutNewline said) before r after
+    VerdictEnsures (take 3073 file) (withoutNewline (take 402 said)) before r after →
+    VerdictEnsures file (withoutNewline said) before r after
 any-size file said {before} {after} {r} space = by (model-enough file) (text-enough said)
   where
     by : Alike 3072 (take 3073 file) file → Alike 400 (withoutNewline (take 402 said)) (withoutNewline said) →
-        VerdictAnswer (take 3073 file) (withoutNewline (take 402 said)) before r after → VerdictAnswer file (withoutNewline said) before r after
-    by (over g h) t a = alike (omega arith) (over-model space (take 3073 file) (withoutNewline (take 402 said)) g) (over-model space file (withoutNewline said) h) a
+        VerdictEnsures (take 3073 file) (withoutNewline (take 402 said)) before r after →
+        VerdictEnsures file (withoutNewline said) before r after
+    by (over g h) t a = alike (omega arith) (over-model space (take 3073 file) (withoutNewline (take 402 said)) g)
+        (over-model space file (withoutNewline said) h) a
     by (same e) (same f) a =
-        subst (λ (x : List ℕ). VerdictAnswer x (withoutNewline said) before r after) e
-        (subst (λ (x : List ℕ). VerdictAnswer (take 3073 file) x before r after) f a)
+        subst (λ (x : List ℕ). VerdictEnsures x (withoutNewline said) before r after) e
+        (subst (λ (x : List ℕ). VerdictEnsures (take 3073 file) x before r after) f a)
     by (same e) (over g h) a =
-        let b = subst (λ (x : List ℕ). VerdictAnswer x (withoutNewline (take 402 said)) before r after) e a in
+        let b = subst (λ (x : List ℕ). VerdictEnsures x (withoutNewline (take 402 said)) before r after) e a in
         let n = both-over space file (withoutNewline (take 402 said)) (withoutNewline said) g h in
         alike (n .1) (n .2) (n .3) b
 
@@ -97,7 +102,8 @@ buffers-so {model} {sentence} {m} {s} {r} whole-model whole-text own = record {
         enough = own .enough;
         answer =
             any-size file said (le-of-eq (sym (own .enough)))
-            (subst (λ (x : List ℕ). VerdictAnswer x (withoutNewline (take 402 said)) (own .before) r (own .after)) model-first
-            (subst (λ (x : List ℕ). VerdictAnswer (take m model) (withoutNewline x) (own .before) r (own .after)) text-first (own .answer)));
+            (subst (λ (x : List ℕ). VerdictEnsures x (withoutNewline (take 402 said)) (own .before) r (own .after)) model-first
+            (subst (λ (x : List ℕ). VerdictEnsures (take m model) (withoutNewline x) (own .before) r (own .after)) text-first
+            (own .answer)));
       };
 }

@@ -1,4 +1,4 @@
 -- The program's line, and the text in its file.
 pub mod Lines
 pub mod Texts
-pub mod Reads
+pub mod Working

@@ -6,8 +6,8 @@ use mathlib.Core.Path.{_≡_}
 use lib.Dec.{eqb}
 use lib.ListN.{length, getD, take}
 use Rattle.verdict.specs.declared.Answer.{Answer}
-use Rattle.verdict.specs.Calls.{VerdictAnswer}
-use Rattle.question.specs.Rows.{areaSize}
+use Rattle.verdict.specs.Contract.{VerdictEnsures}
+use Rattle.question.specs.Contract.{areaSize}
 
 -- a file's bytes without their last one, where that is a newline
 unfoldable pub withoutNewline : List ℕ → List ℕ
@@ -18,7 +18,7 @@ pub record AnswersFiles (model sentence : List ℕ) (r : Answer) : Type 0 where
   pub before : List ℕ
   pub after : List ℕ
   pub enough : length before ≡ areaSize
-  pub answer : VerdictAnswer model (withoutNewline sentence) before r after
+  pub answer : VerdictEnsures model (withoutNewline sentence) before r after
 
 -- the first n bytes of a buffer are the first of a file: all that it has, or as many as the buffer has room for
 abbrev pub FirstOf : (file buf : List ℕ) → ℕ → Type 0

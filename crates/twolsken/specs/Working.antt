@@ -1,4 +1,5 @@
--- What reading a file promises. What the bytes are, no contract can say.
+-- Working: what the functions of this crate promise one another. Nothing here has to be believed.
+-- What the bytes of a file are, no contract can say.
 use mathlib.Core.List.{List}
 use Prim.Native.Nat.{ℕ}
 use Rattle.io.specs.Counts.{Counts}

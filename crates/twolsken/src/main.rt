@@ -1,7 +1,6 @@
 // The program: it reads the files `model.blk` and `sentence.txt` of the folder that it is run in, and prints the verdict as
 // one line: `holds`, `fails`, or `refused` with a blank and the number. A missing file is empty, and one final newline of
-// the sentence is dropped. A file that is there and cannot be read is no model and no sentence: then the reason goes to
-// standard error, and no verdict is printed.
+// the sentence is dropped. If a file exists and cannot be read, the program prints the reason to standard error and no verdict.
 mod file;
 mod line;
 mod text;

@@ -15,22 +15,22 @@ use Rattle.sentence.specs.Calls.{ReadAnswer}
 use Rattle.meaning.specs.Tree.{letterOf}
 use Rattle.meaning.specs.Meaning.{verdict}
 use Rattle.chain.specs.Of.{chainOf}
-use Rattle.question.specs.Rows.{QuestionRow, cleared, areaSize}
+use Rattle.question.specs.Contract.{QuestionRow, cleared, areaSize}
 use Rattle.question.proofs.Settled.{model-of, sentence-of}
 use Rattle.verdict.specs.declared.Answer.{Answer}
 use Rattle.verdict.specs.declared.Answer.the-variants.{Refused}
-use Rattle.verdict.specs.Calls.{replyOf, VerdictAnswer}
+use Rattle.verdict.specs.Contract.{verdictReply, VerdictEnsures}
 use Rattle.verdict.specs.Working.{Judged}
 
 -- a refusal with the number that the rows give
 pub refused-so : {file text before : List ℕ} {n : ℕ} → Decided (QuestionRow file text (length before)) n → 0 < n →
-    VerdictAnswer file text before (Refused n) before
+    VerdictEnsures file text before (Refused n) before
 refused-so number some = record { ensured = refused-as number some refl refl }
 
 -- the verdict, where no row applies
 pub answered-so : {file text before after : List ℕ} {m : Loaded.ModelRead} {s : Parsed.SentenceRead} {t : Bool} {r : Answer} →
     ((k : ℕ) → QuestionRow file text (length before) k → ⊥) → Reads file m → ReadAnswer text s → Judged (m .model) (s .sentence) t →
-    replyOf r ≡ gives t → after ≡ cleared areaSize before → VerdictAnswer file text before r after
+    verdictReply r ≡ gives t → after ≡ cleared areaSize before → VerdictEnsures file text before r after
 answered-so {text = text} none reads said judged e clear =
     let b = sentence-of none said in
     let true-word = ap (λ (x : Model). verdict (chainOf x) (map letterOf (b .prefix)) (b .body)) (model-of none reads .fields) in

@@ -9,15 +9,15 @@ use Rattle.model.specs.Layout.{fieldsOf}
 use Rattle.meaning.specs.Tree.{letterOf}
 use Rattle.meaning.specs.Meaning.{verdict}
 use Rattle.chain.specs.Of.{chainOf}
-use Rattle.question.specs.Rows.{QuestionRow, SentenceOf, cleared, areaSize}
+use Rattle.question.specs.Contract.{QuestionRow, SentenceOf, cleared, areaSize}
 use Rattle.verdict.specs.declared.Answer.{Answer}
 use Rattle.verdict.specs.declared.Answer.the-variants.{Holds, Fails, Refused}
 
 -- the document's words for an answer: that the sentence holds, or does not, or the number of a refusal
-abbrev pub replyOf : Answer → Reply Bool
-replyOf Holds = gives true
-replyOf Fails = gives false
-replyOf (Refused number) = refuses number
+abbrev pub verdictReply : Answer → Reply Bool
+verdictReply Holds = gives true
+verdictReply Fails = gives false
+verdictReply (Refused number) = refuses number
 
 -- the correct result of verdict: 'holds' exactly if the sentence holds; the first `areaSize` numbers of the area are zero afterwards
 pub record Judges (file text before : List ℕ) (holds : Bool) (after : List ℕ) : Type 0 where
@@ -26,5 +26,5 @@ pub record Judges (file text before : List ℕ) (holds : Bool) (after : List ℕ
   pub left : after ≡ cleared areaSize before
 
 -- what verdict ensures of the model file, the sentence text, the work area before and after, and what it answers
-pub record VerdictAnswer (file text before : List ℕ) (answer : Answer) (after : List ℕ) : Type 0 where
-  pub ensured : Ensured (QuestionRow file text (length before)) (Judges file text before) before (replyOf answer) after
+pub record VerdictEnsures (file text before : List ℕ) (answer : Answer) (after : List ℕ) : Type 0 where
+  pub ensured : Ensured (QuestionRow file text (length before)) (Judges file text before) before (verdictReply answer) after

@@ -2,9 +2,9 @@
 ghost use mathlib.Core.Path.{_≡_};
 ghost use lib.ListN.{length};
 ghost use Rattle.refusal.specs.Answers.{gives};
-ghost use Rattle.question.specs.Rows.{areaSize};
+ghost use Rattle.question.specs.Contract.{areaSize};
 ghost use Rattle.question.specs.Working.{Ready};
-ghost use Rattle.verdict.specs.Calls.{replyOf, VerdictAnswer};
+ghost use Rattle.verdict.specs.Contract.{verdictReply, VerdictEnsures};
 ghost use Rattle.verdict.specs.Working.{Judged};
 use descent::holds_from;
 use evaluate::nodes::state_formula;
@@ -41,14 +41,14 @@ fn judged(m: Model, s: Sentence, area: &mut [u64]) -> bool
 
 // The document's word for a sentence that holds, or does not.
 fn answer_of(holds: bool) -> Answer
-    ensures { λ r. ⌜ replyOf r ≡ gives holds ⌝ }
+    ensures { λ r. ⌜ verdictReply r ≡ gives holds ⌝ }
 {
     if holds { Answer::Holds } else { Answer::Fails }
 }
 
 // Verdict: whether the sentence holds on the model, or the smallest number of a row that applies.
 pub fn verdict(file: &[u8], text: &[u8], work: &mut [u64]) -> Answer
-    ensures { λ r. ⌜ VerdictAnswer (now (file .entry)) (now (text .entry)) (now (work .entry)) r (now (work .exit)) ⌝ }
+    ensures { λ r. ⌜ VerdictEnsures (now (file .entry)) (now (text .entry)) (now (work .entry)) r (now (work .exit)) ⌝ }
 {
     let read = read_model(file);
     let said = read_sentence(text);

@@ -12,10 +12,18 @@ use Rattle.codes.proofs.label_of.Statement.{statement}
 use Rattle.codes.proofs.label_of.Tie as tie
 
 cast-t7 : tie.Need-cast-t7
-cast-t7 c = omega (arith, leb-true (c .before .args .label) 255 (left-of (leb (c .before .args .label) 255) (leb (c .before .args .variable) 255) (c .if1 .taken)))
+cast-t7 c = omega (
+  arith,
+  leb-true (c .before .args .label) 255
+      (left-of (leb (c .before .args .label) 255) (leb (c .before .args .variable) 255) (c .if1 .taken)),
+)
 
 cast-t8 : tie.Need-cast-t8
-cast-t8 c = omega (arith, leb-true (c .before .args .variable) 255 (right-of (leb (c .before .args .label) 255) (leb (c .before .args .variable) 255) (c .if1 .taken)))
+cast-t8 c = omega (
+  arith,
+  leb-true (c .before .args .variable) 255
+      (right-of (leb (c .before .args .label) 255) (leb (c .before .args .variable) 255) (c .if1 .taken)),
+)
 
 returns : tie.Need-returns
 returns c =

@@ -12,7 +12,8 @@ returns : tie.Need-returns
 returns c =
     let w = c .before .before .before in
     let a = w .before .before .before .before .before .before .before .before .before .args in
-    subst (λ (rows : List (List ℕ)). ExportedWriteModel (modelOfParts (a .head .now) (a .masks .now) rows) (a .out .now) (w .write-model .last .1 .0) (c .written-code .result))
+    subst (λ (rows : List (List ℕ)). ExportedWriteModel (modelOfParts (a .head .now) (a .masks .now) rows) (a .out .now)
+    (w .write-model .last .1 .0) (c .written-code .result))
     (w .before .before .holding .ensures)
     (record { answer = w .write-model .result; ensures = w .write-model .ensures; coded = c .written-code .ensures })
 

@@ -6,7 +6,7 @@ use borrow.Author.Needs.{needs}
 use borrow.Author.Tests.{not-true, not-false}
 use lib.ListN.{length, take}
 use lib.Seq.{length-take-le}
-use Rattle.question.specs.Rows.{QuestionRow, areaSize}
+use Rattle.question.specs.Contract.{QuestionRow, areaSize}
 use Rattle.question.proofs.Numbers.{none-of}
 use Rattle.question.proofs.Settled.{space, sentence-of, ready-of}
 use Rattle.question.proofs.Cleared.{back-long, cleared-so}
@@ -49,7 +49,8 @@ slice-relend-prefix-counted : tie.Need-slice-relend-prefix-counted
 slice-relend-prefix-counted c = space (none (c .before .before .before .before))
 
 -- the front of the area that is lent has the numbers that a call uses
-lent : (c : tie.Else1) → length (take areaSize (c .before .before .before .before .before .before .before .before .args .work .now)) ≡ areaSize
+lent : (c : tie.Else1) →
+    length (take areaSize (c .before .before .before .before .before .before .before .before .args .work .now)) ≡ areaSize
 lent c = length-take-le areaSize (c .before .before .before .before .before .before .before .before .args .work .now) (space (none c))
 
 slice-aggregate-counted : tie.Need-slice-aggregate-counted
@@ -68,7 +69,7 @@ counted-requires c κs =
       lent free,
     )
 
--- and so it is when it comes back
+-- its length is unchanged on return
 back : (c : tie.After-counted) → length (c .counted .last .1 .1 .1 .1 .0) ≡ areaSize
 back c = c .counted .kept .1 .1 .1 .1 .0 ∙ lent (c .before .before .before .before .before .before)
 
@@ -90,7 +91,8 @@ returns-3 c =
     let work = asked .before .before .before .before .before .before .before .args .work .now in
     let b = sentence-of (none free) (asked .before .read-sentence .ensures) in
     answered-so work (none free) (asked .before .before .read-model .ensures) b
-    (right-parts _ _ _ _ _ (sym (tested .before .asks-right .ensures .each _ b) ∙ not-false _ (tested .if2 .left))) (counted .counted .ensures)
+    (right-parts _ _ _ _ _ (sym (tested .before .asks-right .ensures .each _ b) ∙ not-false _ (tested .if2 .left)))
+    (counted .counted .ensures)
     (cleared-so work (counted .counted .last .1 .1 .1 .1 .0) (space (none free)) (back counted) (c .before .before .zero .ensures))
 
 pub numerator-spec : {M : Type 1} → statement M

@@ -8,7 +8,7 @@ use Rattle.model.specs.Rows.{fileNumber, Reads}
 use Rattle.model.proofs.Answer.{reads-number}
 use Rattle.refusal.specs.Answers.{numberIn, replyOf}
 use Rattle.refusal.specs.Rows.{Decided}
-use Rattle.question.specs.Rows.{QuestionRow}
+use Rattle.question.specs.Contract.{QuestionRow}
 use Rattle.question.proofs.Early.{gives-1, gives-file, file-read, gives-text, text-read}
 use Rattle.question.proofs.first_number.Statement.{statement}
 use Rattle.question.proofs.first_number.Tie as tie
@@ -38,7 +38,8 @@ returns-3 c = record {
   each = λ file text reads said.
       let e = c .before .number-of2 .ensures in
       subst (Decided (QuestionRow file text _)) (sym e)
-      (gives-text (c .before .before .before .before .if1 .left) (free (c .before .before) file reads) said (omega (arith, e, c .if3 .taken)));
+      (gives-text (c .before .before .before .before .if1 .left) (free (c .before .before) file reads) said
+      (omega (arith, e, c .if3 .taken)));
 }
 
 late-number-requires : tie.Need-late-number-requires

@@ -23,7 +23,12 @@ sentence c =
     counts-read (at-read .read-file2 .last .1 .0) (c .before .s .given .1) (at-read .read-file2 .ensures)
 
 judged-requires : tie.Need-judged-requires
-judged-requires c κs = (search needs, model (c .before .before .before .before .before .before .before .before .before), search needs, sentence (c .before .before))
+judged-requires c κs = (
+  search needs,
+  model (c .before .before .before .before .before .before .before .before .before),
+  search needs,
+  sentence (c .before .before),
+)
 
 pub main-spec : {M : Type 1} → statement M
 main-spec =

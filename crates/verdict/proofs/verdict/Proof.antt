@@ -5,7 +5,7 @@ use native.Mathlib.Omega.{arith}
 use borrow.Author.Needs.{needs}
 use lib.ListN.{length, take}
 use lib.Seq.{length-take-le}
-use Rattle.question.specs.Rows.{QuestionRow, areaSize}
+use Rattle.question.specs.Contract.{QuestionRow, areaSize}
 use Rattle.question.proofs.Numbers.{none-of}
 use Rattle.question.proofs.Settled.{space, ready-of}
 use Rattle.question.proofs.Cleared.{back-long, cleared-so}
@@ -44,7 +44,7 @@ judged-requires c κs =
     let asked = free .before in
     (ready-of (none free) (asked .before .before .read-model .ensures) (asked .before .read-sentence .ensures), lent free)
 
--- and so it is when it comes back
+-- its length is unchanged on return
 back : (c : tie.After-judged) → length (c .judged .last .1 .1 .0) ≡ areaSize
 back c = c .judged .kept .1 .1 .0 ∙ lent (c .before .before .before .before)
 

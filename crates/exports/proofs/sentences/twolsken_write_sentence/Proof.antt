@@ -14,7 +14,8 @@ returns : tie.Need-returns
 returns c =
     let w = c .before .before .before in
     let a = w .before .before .before .before .before .before .before .args in
-    let same = ap₂ {C = Sentence} (λ (exists : List Bool) (nodes : List Slot). record { letters = a .letters; exists = exists; count = a .count; nodes = nodes })
+    let same = ap₂ {C = Sentence}
+    (λ (exists : List Bool) (nodes : List Slot). record { letters = a .letters; exists = exists; count = a .count; nodes = nodes })
     (w .before .before .before .before .letters-of .ensures) (w .before .before .places-of .ensures) in
     subst (λ (s : Sentence). ExportedWriteSentence s (a .out .now) (w .write-sentence .last .1 .0) (c .written-code .result)) same
     (record { answer = w .write-sentence .result; ensures = w .write-sentence .ensures; coded = c .written-code .ensures })

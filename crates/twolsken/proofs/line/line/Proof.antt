@@ -2,20 +2,22 @@
 use mathlib.Core.Path.{refl, sym, ap, _∙_}
 use lib.Dec.{lit≤}
 use borrow.Author.Needs.{needs}
+use Rattle.counting.specs.Ascii.{ascii}
+use Rattle.counting.specs.Below.{table}
 use Rattle.twolsken.specs.Lines.{lineOf}
 use Rattle.twolsken.proofs.line.line.Statement.{statement}
 use Rattle.twolsken.proofs.line.line.Tie as tie
 
 returns : tie.Need-returns
-unfolding lineOf
+unfolding lineOf ascii table
 returns c = ((lit≤ tt, refl), sym (ap lineOf (c .before .before .enum-told .given .1)))
 
 returns-2 : tie.Need-returns-2
-unfolding lineOf
+unfolding lineOf ascii table
 returns-2 c = ((lit≤ tt, refl), sym (ap lineOf (c .before .before .enum-told2 .given .1)))
 
 returns-3 : tie.Need-returns-3
-unfolding lineOf
+unfolding lineOf ascii table
 returns-3 c =
     (c .refused-line .ensures .0, c .refused-line .ensures .1 ∙ sym (ap lineOf (c .before .before .before .answer .given .1)))
 

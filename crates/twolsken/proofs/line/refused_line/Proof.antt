@@ -7,6 +7,8 @@ use native.Mathlib.Omega.{arith}
 use borrow.Author.Needs.{needs}
 use Rattle.sentence.specs.Grammar.{numberText}
 use Rattle.sentence.proofs.Numbers.{one-digit, digit-more}
+use Rattle.counting.specs.Ascii.{ascii}
+use Rattle.counting.specs.Below.{table}
 use Rattle.twolsken.specs.Lines.{refusedLine}
 use Rattle.twolsken.proofs.line.refused_line.Statement.{statement}
 use Rattle.twolsken.proofs.line.refused_line.Tie as tie
@@ -38,20 +40,20 @@ three n low high =
     ap (λ (k : ℕ). (48 + k) ∷ (48 + n / 10 % 10) ∷ (48 + n % 10) ∷ []) (omega arith)
 
 returns : tie.Need-returns
-unfolding refusedLine
+unfolding refusedLine ascii table
 returns c =
     let at-if1 = c .before .before in
     ((omega arith, refl), ap framed (sym (one (at-if1 .before .args .number) (at-if1 .if1 .taken))))
 
 returns-2 : tie.Need-returns-2
-unfolding refusedLine
+unfolding refusedLine ascii table
 returns-2 c =
     let at-if2 = c .before .before in
     let at-if1 = at-if2 .before in
     ((omega arith, refl), ap framed (sym (two (at-if1 .before .args .number) (at-if1 .if1 .left) (at-if2 .if2 .taken))))
 
 returns-3 : tie.Need-returns-3
-unfolding refusedLine
+unfolding refusedLine ascii table
 returns-3 c =
     let at-if2 = c .before .before in
     ((omega arith, refl), ap framed (sym (three (at-if2 .before .before .args .number) (at-if2 .if2 .left) (omega arith))))
