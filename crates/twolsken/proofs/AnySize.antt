@@ -21,7 +21,8 @@ use Rattle.verdict.specs.declared.Answer.the-variants.{Refused}
 use Rattle.verdict.specs.Contract.{VerdictEnsures}
 use Rattle.verdict.proofs.Answering.{refused-so}
 use Rattle.verdict.proofs.Single.{one-verdict}
-use Rattle.twolsken.specs.Texts.{withoutNewline, AnswersFiles, AnswersBuffers}
+use Rattle.lines.specs.Texts.{withoutNewline}
+use Rattle.twolsken.specs.Contract.{AnswersFiles, AnswersBuffers}
 use Rattle.twolsken.proofs.Enough.{Alike, same, over, model-enough, text-enough}
 
 -- a conjunction whose last part fails

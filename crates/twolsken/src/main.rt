@@ -2,19 +2,17 @@
 // one line: `holds`, `fails`, or `refused` with a blank and the number. A missing file is empty, and one final newline of
 // the sentence is dropped. If a file exists and cannot be read, the program prints the reason to standard error and no verdict.
 mod file;
-mod line;
-mod text;
 
 ghost use mathlib.Core.Path.{_≡_};
 ghost use lib.ListN.{length};
 ghost use Rattle.io.specs.Counts.{Counts};
-ghost use Rattle.twolsken.specs.Texts.{AnswersFiles, AnswersBuffers};
+ghost use Rattle.twolsken.specs.Contract.{AnswersFiles, AnswersBuffers};
 use file::Contents;
 use file::read_file;
 use libc::STDOUT_FILENO;
-use line::line;
+use lines::line::line;
+use lines::text::without_newline;
 use question::AREA;
-use text::without_newline;
 use verdict::Answer;
 
 // The verdict on the bytes of the two files, with a work area of the size that row 1 asks for.

@@ -1,17 +1,12 @@
--- Document 01: 'one final newline of the sentence is dropped'.
-use Prim.Native.Nat.{ℕ, _-_}
-use mathlib.Core.Bool.{cond}
+-- The contract of the program: its answer on two files of any size.
+use Prim.Native.Nat.{ℕ}
 use mathlib.Core.List.{List}
 use mathlib.Core.Path.{_≡_}
-use lib.Dec.{eqb}
-use lib.ListN.{length, getD, take}
+use lib.ListN.{length, take}
+use Rattle.question.specs.Contract.{areaSize}
 use Rattle.verdict.specs.declared.Answer.{Answer}
 use Rattle.verdict.specs.Contract.{VerdictEnsures}
-use Rattle.question.specs.Contract.{areaSize}
-
--- a file's bytes without their last one, where that is a newline
-unfoldable pub withoutNewline : List ℕ → List ℕ
-withoutNewline file = cond (eqb (getD file (length file - 1) 0) 10) (take (length file - 1) file) file
+use Rattle.lines.specs.Texts.{withoutNewline}
 
 -- the answer on the bytes of the two files: verdict's, for some work area of the size that row 1 asks for
 pub record AnswersFiles (model sentence : List ℕ) (r : Answer) : Type 0 where

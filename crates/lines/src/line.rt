@@ -2,7 +2,7 @@
 ghost use mathlib.Core.Path.{_≡_};
 ghost use lib.ListN.{take};
 ghost use Rattle.io.specs.Counts.{Counts};
-ghost use Rattle.twolsken.specs.Lines.{lineOf, refusedLine};
+ghost use Rattle.lines.specs.Lines.{lineOf, refusedLine};
 use verdict::Answer;
 
 // Puts the line of an answer at the front of out, and answers its length.

@@ -9,9 +9,9 @@ use Rattle.sentence.specs.Grammar.{numberText}
 use Rattle.sentence.proofs.Numbers.{one-digit, digit-more}
 use Rattle.counting.specs.Ascii.{ascii}
 use Rattle.counting.specs.Below.{table}
-use Rattle.twolsken.specs.Lines.{refusedLine}
-use Rattle.twolsken.proofs.line.refused_line.Statement.{statement}
-use Rattle.twolsken.proofs.line.refused_line.Tie as tie
+use Rattle.lines.specs.Lines.{refusedLine}
+use Rattle.lines.proofs.line.refused_line.Statement.{statement}
+use Rattle.lines.proofs.line.refused_line.Tie as tie
 
 -- the line of a number with the text t
 abbrev framed : List ℕ → List ℕ

@@ -7,9 +7,9 @@ use lib.ListN.{length, getD, take}
 use lib.Seq.{length-take-le}
 use borrow.Author.Needs.{needs}
 use borrow.Author.Tests.{eq-eqb, ne-eqb}
-use Rattle.twolsken.specs.Texts.{withoutNewline}
-use Rattle.twolsken.proofs.text.without_newline.Statement.{statement}
-use Rattle.twolsken.proofs.text.without_newline.Tie as tie
+use Rattle.lines.specs.Texts.{withoutNewline}
+use Rattle.lines.proofs.text.without_newline.Statement.{statement}
+use Rattle.lines.proofs.text.without_newline.Tie as tie
 
 -- an empty file has no newline
 empty : (s : List ℕ) → length s ≡ 0 → s ≡ withoutNewline s

@@ -1,6 +1,6 @@
 // The sentence's text in its file.
 ghost use mathlib.Core.Path.{_≡_};
-ghost use Rattle.twolsken.specs.Texts.{withoutNewline};
+ghost use Rattle.lines.specs.Texts.{withoutNewline};
 
 // The bytes of a file without one final newline.
 pub fn without_newline(file: &[u8]) -> &[u8]

@@ -4,9 +4,9 @@ use lib.Dec.{lit≤}
 use borrow.Author.Needs.{needs}
 use Rattle.counting.specs.Ascii.{ascii}
 use Rattle.counting.specs.Below.{table}
-use Rattle.twolsken.specs.Lines.{lineOf}
-use Rattle.twolsken.proofs.line.line.Statement.{statement}
-use Rattle.twolsken.proofs.line.line.Tie as tie
+use Rattle.lines.specs.Lines.{lineOf}
+use Rattle.lines.proofs.line.line.Statement.{statement}
+use Rattle.lines.proofs.line.line.Tie as tie
 
 returns : tie.Need-returns
 unfolding lineOf ascii table

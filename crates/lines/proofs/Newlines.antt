@@ -6,7 +6,7 @@ use native.Mathlib.Omega.{arith}
 use borrow.Author.Tests.{ne-eqb}
 use lib.ListN.{length, getD, take, length-append}
 use lib.Seq.{take-at, getD-append-add}
-use Rattle.twolsken.specs.Texts.{withoutNewline}
+use Rattle.lines.specs.Texts.{withoutNewline}
 
 -- an empty file stays empty
 pub of-empty : withoutNewline [] ≡ []
