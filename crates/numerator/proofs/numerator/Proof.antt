@@ -3,14 +3,13 @@ use Prim.Native.Nat.{ℕ}
 use mathlib.Core.Path.{_≡_, sym, _∙_}
 use native.Mathlib.Omega.{arith}
 use borrow.Author.Needs.{needs}
-use borrow.Author.Tests.{not-true, not-false}
 use lib.ListN.{length, take}
 use lib.Seq.{length-take-le}
 use Rattle.question.specs.Contract.{QuestionRow, areaSize}
 use Rattle.question.proofs.Numbers.{none-of}
 use Rattle.question.proofs.Settled.{space, sentence-of, ready-of}
 use Rattle.question.proofs.Cleared.{back-long, cleared-so}
-use Rattle.numerator.proofs.Asking.{right-parts}
+use Rattle.numerator.proofs.Asking.{right-parts, asks-wrong, asks-so}
 use Rattle.numerator.proofs.Answering.{refused-so, refused-15, answered-so}
 use Rattle.numerator.proofs.numerator.Statement.{statement}
 use Rattle.numerator.proofs.numerator.Tie as tie
@@ -43,7 +42,7 @@ returns-2 c =
     let b = sentence-of (none free) (asked .before .read-sentence .ensures) in
     let work = asked .before .before .before .before .before .before .before .args .work .now in
     refused-15 work (none free) (asked .before .before .read-model .ensures) b
-    (sym (c .before .asks-right .ensures .each _ b) ∙ not-true _ (c .if2 .taken))
+    (asks-wrong (c .before .asks-right .ensures) b (c .if2 .taken))
 
 slice-relend-prefix-counted : tie.Need-slice-relend-prefix-counted
 slice-relend-prefix-counted c = space (none (c .before .before .before .before))
@@ -64,7 +63,7 @@ counted-requires c κs =
     let ready = ready-of (none free) (asked .before .before .read-model .ensures) (asked .before .read-sentence .ensures) in (
       record {
         ready = ready;
-        right = sym (tested .before .asks-right .ensures .each _ (ready .read .sentence)) ∙ not-false _ (tested .if2 .left);
+        right = asks-so (tested .before .asks-right .ensures) (ready .read .sentence) (tested .if2 .left);
       },
       lent free,
     )
@@ -91,7 +90,7 @@ returns-3 c =
     let work = asked .before .before .before .before .before .before .before .args .work .now in
     let b = sentence-of (none free) (asked .before .read-sentence .ensures) in
     answered-so work (none free) (asked .before .before .read-model .ensures) b
-    (right-parts _ _ _ _ _ (sym (tested .before .asks-right .ensures .each _ b) ∙ not-false _ (tested .if2 .left)))
+    (right-parts _ _ _ _ _ (asks-so (tested .before .asks-right .ensures) b (tested .if2 .left)))
     (counted .counted .ensures)
     (cleared-so work (counted .counted .last .1 .1 .1 .1 .0) (space (none free)) (back counted) (c .before .before .zero .ensures))
 
