@@ -1,27 +1,18 @@
--- What the exported contracts leave: one result and one content of all that is lent; a node's code stands for that node, and
--- a verdict's code for that verdict.
+-- What the exported contracts leave: one result and one content of all that is lent; unchanged memory on a refusal. A verdict's code tells
+-- the verdict (`verdict-told`), and a code that is no node's is refused as 6 (`no-node-refused`).
 use Prim.Native.Nat.{ℕ, _≤_, _<_}
-use mathlib.Core.Bool.{Bool, true, false, not, cond}
 use mathlib.Core.List.{List, [], _∷_, _++_}
 use mathlib.Core.Path.{_≡_, refl, sym, ap, subst, _∙_}
 use native.Mathlib.Omega.{arith}
-use lib.Dec.{eqb}
-use lib.ListN.{length, getD}
-use borrow.Author.Tests.{le-leb}
-use Rattle.counting.proofs.Laws.{and-true, table-at, table-is}
 use Rattle.refusal.specs.Answers.{Reply, gives, refuses, numberIn, filled, replyOf}
 use Rattle.refusal.proofs.Listed.{one-writing}
 use Rattle.model.specs.declared.Model.{Model}
 use Rattle.model.specs.declared.ModelRead.{ModelRead}
 use Rattle.model.proofs.Theorems.{one-reading}
-use Rattle.sentence.specs.Calls.{slot, nodesOf, WriteRow}
+use Rattle.sentence.specs.Calls.{nodesOf, WriteRow}
 use Rattle.sentence.specs.Grammar.{Writable}
 use Rattle.sentence.specs.Writing.{AllWritable}
-use Rattle.sentence.specs.declared.Slot.{Slot}
-use Rattle.sentence.specs.declared.Relation.the-variants.{Less, AtMost, Equal, AtLeast, Greater}
 use Rattle.sentence.specs.declared.Node.{Node}
-use Rattle.sentence.specs.declared.Node.the-variants.{True, Label, Not, And, Compare, Probability}
-use Rattle.sentence.specs.declared.Node.the-variants.{Constant, Sum, Difference, Product, Next, Until}
 use Rattle.sentence.specs.declared.Sentence.{Sentence}
 use Rattle.sentence.specs.declared.SentenceRead.{SentenceRead}
 use Rattle.sentence.proofs.ReadAll.{one-answer}

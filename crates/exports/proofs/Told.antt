@@ -10,7 +10,7 @@ use lib.ListN.{length}
 use Rattle.refusal.specs.declared.Written.{Written}
 use Rattle.refusal.specs.declared.Written.the-variants.{Wrote, Refused}
 use Rattle.refusal.specs.Rows.{Row, first, Ascending}
-use Rattle.refusal.specs.Answers.{Reply, gives, refuses, Ensured, refused, answered, TextAtFront, Writes}
+use Rattle.refusal.specs.Answers.{gives, Ensured, refused, answered, TextAtFront, Writes}
 use Rattle.refusal.proofs.Ensuring.{right-of}
 use Rattle.refusal.proofs.Listed.{list-number, none-applies}
 use Rattle.model.specs.declared.Model.{Model}
