@@ -1,34 +1,28 @@
 /*
- * The calls of Twolsken for C, and for every language that calls C. Link the archive of the crate `exports`.
+ * Twolsken's calls for C, and for every language that calls C.
  *
- * Memory is lent for the length of a call. A slice is a pointer and then its length in elements; an array of a fixed size
- * is a pointer to its first element, and has at least as many as are named. No pointer may be null, not even that of a slice
- * of length 0. What a call may write overlaps nothing else that is lent to it. The calls allocate nothing, and keep no pointer.
+ * Link. `rt staticlib exports` makes the archive target/staticlib/libexports.a, which needs no other library:
  *
- * Refusals. Of the rows that belong to a call the smallest number that applies is given. A refusal carries only its number:
- * all lent memory is as it was.
+ *     cc -std=c11 -I include program.c target/staticlib/libexports.a -o program
  *
- *    1  the work area is under 8,192 numbers of 64 bits
- *    2  the model file's length is not a multiple of 512 in 512..3,072
- *    3  some block's check is wrong
- *    4  a byte, a field or the number of blocks breaks the layout of the model file
- *    5  the row of some state below N does not add up to D
- *    6  a text that is not in the grammar or is over 400 bytes; a prefix and a list of nodes that no text of the grammar
- *       within 400 bytes spells, or a count over 64
- *    7  a constant's top over 65,535, its bottom 0 or over 65,535; a window k1..k2 with k1 > k2 or k2 > 60; a variable above
- *       the number of letters
- *    8  a text of over 64 nodes
- *    9  a label letter of the text is not below A
- *   10  the size rule: some expression's denominator d or bound m, or some comparison's m1 x d2 or m2 x d1, is above 2^62
- *   11  T, which is N to the power of the number of letters, is over 1,024
- *   12  the grouping's length is not N, or its numbers are not exactly 0..M-1, each used
- *   13  two states of a group differ in mask or in weight into some group
- *   14  the output is shorter than what is to be written
- *   15  the tuple's length is not the number of letters, a member is not below N, or there is no such path formula
+ * Memory. All memory is lent for the length of a call. A slice is a pointer and then its length in elements; an array of a
+ * fixed size is a pointer to its first element, and has at least as many as are named. No pointer may be null, not even that
+ * of a slice of length 0. What a call may write overlaps nothing else that is lent to it. The calls allocate nothing and keep
+ * no pointer.
  *
- * Answers. A reader returns 0, or the refusal's number. A writer, or merge, returns the number of bytes that it wrote at the
- * front of the output, with what is beyond as it was; or TWOLSKEN_REFUSED plus the refusal's number. Verdict returns
- * TWOLSKEN_HOLDS, TWOLSKEN_FAILS, or the refusal's number. Numerator returns 0, or the refusal's number.
+ * Threads. The calls share nothing, and may run on several threads at once.
+ *
+ * Stack. A call takes at most 256 KiB of stack (TWOLSKEN_STACK), tested on the deepest texts and sentences.
+ *
+ * Refusals. A call that refuses gives the smallest number that applies (enum twolsken_refusal), and all lent memory is as
+ * it was.
+ *
+ * Answers. Readers and numerator return 0, or the refusal's number. Writers and merge return the number of bytes that they
+ * wrote at the front of the output, and leave those past them unchanged; or TWOLSKEN_REFUSED plus the refusal's number:
+ * twolsken_writer_refusal tells. Verdict returns TWOLSKEN_HOLDS or TWOLSKEN_FAILS, or the refusal's number:
+ * twolsken_verdict_refusal tells.
+ *
+ * An example that reads two files, asks and prints is include/ask.c.
  */
 #ifndef TWOLSKEN_H
 #define TWOLSKEN_H
@@ -40,17 +34,71 @@
 extern "C" {
 #endif
 
+/* Sizes of lent arrays. */
+#define TWOLSKEN_STATES 32       /* masks, rows of weights, and weights in a row */
+#define TWOLSKEN_LETTERS 4       /* letters of a sentence's prefix */
+#define TWOLSKEN_NODES 64        /* nodes of a sentence */
+#define TWOLSKEN_WORK_AREA 8192  /* numbers of 64 bits that a work area has at least */
+
+/* Lengths in bytes: an output of this length has room for whatever a writer or merge writes. */
+#define TWOLSKEN_LONGEST_FILE 3072 /* a model file */
+#define TWOLSKEN_LONGEST_TEXT 400  /* a sentence's text */
+
+/* Bytes of stack that a call takes at most. */
+#define TWOLSKEN_STACK 262144
+
 /* 2^32: a writer's answer from here on is a refusal, and the rest of it the refusal's number. */
 #define TWOLSKEN_REFUSED UINT64_C(4294967296)
 
-/* What verdict returns where no row applies: no refusal has such a number. */
+/* What verdict returns if it does not refuse: no refusal has such a number. */
 #define TWOLSKEN_HOLDS 256
 #define TWOLSKEN_FAILS 257
 
-/* The sizes of lent arrays. */
-#define TWOLSKEN_STATES 32 /* masks, rows of weights, and weights in a row */
-#define TWOLSKEN_LETTERS 4 /* letters of a sentence's prefix */
-#define TWOLSKEN_NODES 64  /* nodes of a sentence */
+/* Why a call refuses. */
+enum twolsken_refusal {
+    /* the work area is shorter than TWOLSKEN_WORK_AREA */
+    TWOLSKEN_REFUSAL_WORK_AREA = 1,
+    /* the model file's length is not a multiple of 512 in 512..TWOLSKEN_LONGEST_FILE */
+    TWOLSKEN_REFUSAL_FILE_LENGTH = 2,
+    /* some block's check is wrong */
+    TWOLSKEN_REFUSAL_CHECK = 3,
+    /* a byte, a field or the number of blocks breaks the layout of the model file */
+    TWOLSKEN_REFUSAL_LAYOUT = 4,
+    /* the row of some state below N does not add up to D */
+    TWOLSKEN_REFUSAL_ROW_SUM = 5,
+    /* a text that is not in the grammar or over TWOLSKEN_LONGEST_TEXT; a prefix and nodes that no such text spells, or a
+     * count over TWOLSKEN_NODES */
+    TWOLSKEN_REFUSAL_GRAMMAR = 6,
+    /* a constant's top over 65,535, its bottom 0 or over 65,535; a window k1..k2 with k1 > k2 or k2 > 60; a variable above
+     * the number of letters */
+    TWOLSKEN_REFUSAL_RANGE = 7,
+    /* a text of over TWOLSKEN_NODES nodes */
+    TWOLSKEN_REFUSAL_TOO_MANY_NODES = 8,
+    /* a label letter of the text is not below A */
+    TWOLSKEN_REFUSAL_NO_SUCH_LABEL = 9,
+    /* the size rule: some expression's denominator d or bound m, or some comparison's m1 x d2 or m2 x d1, is above 2^62 */
+    TWOLSKEN_REFUSAL_SIZE_RULE = 10,
+    /* T, which is N to the power of the number of letters, is over 1,024 */
+    TWOLSKEN_REFUSAL_TOO_MANY_TUPLES = 11,
+    /* the grouping's length is not N, or its numbers are not exactly 0..M-1, each used */
+    TWOLSKEN_REFUSAL_GROUPING = 12,
+    /* two states of a group differ in mask or in weight into some group */
+    TWOLSKEN_REFUSAL_NOT_ALIKE = 13,
+    /* the output is shorter than what is to be written */
+    TWOLSKEN_REFUSAL_OUTPUT_SHORT = 14,
+    /* the tuple's length is not the number of letters, a member is not below N, or there is no such path formula */
+    TWOLSKEN_REFUSAL_TUPLE_OR_PATH = 15
+};
+
+/* The refusal in a writer's or merge's answer, or 0 if it wrote: then the answer is the number of bytes. */
+static inline uint32_t twolsken_writer_refusal(uint64_t answer) {
+    return answer < TWOLSKEN_REFUSED ? 0 : (uint32_t)(answer - TWOLSKEN_REFUSED);
+}
+
+/* The refusal in verdict's answer, or 0 if it judged: then the answer is TWOLSKEN_HOLDS or TWOLSKEN_FAILS. */
+static inline uint32_t twolsken_verdict_refusal(uint32_t answer) {
+    return answer == TWOLSKEN_HOLDS || answer == TWOLSKEN_FAILS ? 0 : answer;
+}
 
 /*
  * A node of a sentence is three numbers: its tag, x and y. A number that the node does not have is read back as 0, and is
@@ -89,11 +137,12 @@ uint32_t twolsken_read_model(const uint8_t *file, size_t file_length, uint32_t h
                              uint16_t rows[TWOLSKEN_STATES][TWOLSKEN_STATES]);
 
 /*
- * Write model. Returns the length of the model's file, which it wrote at the front of out; or TWOLSKEN_REFUSED plus 4, 5
- * or 14.
+ * Write model. Takes N, A and D in head, the masks and the rows as read model leaves them. rows is only read: it has no
+ * const because C before C23 warns where an array without const is passed for one with it. Returns the length of the model's
+ * file, which it wrote at the front of out; or TWOLSKEN_REFUSED plus 4, 5 or 14.
  */
-uint64_t twolsken_write_model(uint8_t n, uint8_t a, uint32_t d, const uint16_t masks[TWOLSKEN_STATES],
-                              const uint16_t rows[TWOLSKEN_STATES][TWOLSKEN_STATES], uint8_t *out,
+uint64_t twolsken_write_model(const uint32_t head[3], const uint16_t masks[TWOLSKEN_STATES],
+                              uint16_t rows[TWOLSKEN_STATES][TWOLSKEN_STATES], uint8_t *out,
                               size_t out_length);
 
 /*
@@ -108,13 +157,12 @@ uint32_t twolsken_read_sentence(const uint8_t *text, size_t text_length, uint64_
 /*
  * Write sentence. In exists 0 is `A` and every other number `E`; places past the letters and past the count are no part of
  * the sentence. A code that is no node's (a tag above 11, a relation above 4, a label or a variable above 255) stands for a
- * node that no text spells: where it counts it is refused as 6. Returns the length of the text, which it wrote at the front
- * of out; or TWOLSKEN_REFUSED plus 6, 7 or 14.
+ * node that no text spells: where it counts it is refused as 6. codes is only read, as rows at write model. Returns the
+ * length of the text, which it wrote at the front of out; or TWOLSKEN_REFUSED plus 6, 7 or 14.
  */
 uint64_t twolsken_write_sentence(uint64_t letters, uint64_t count,
                                  const uint8_t exists[TWOLSKEN_LETTERS],
-                                 const uint32_t codes[TWOLSKEN_NODES][3], uint8_t *out,
-                                 size_t out_length);
+                                 uint32_t codes[TWOLSKEN_NODES][3], uint8_t *out, size_t out_length);
 
 /*
  * Merge. grouping has one byte a state, the number of its group. Returns the length of the merged model's file, which it
@@ -124,9 +172,9 @@ uint64_t twolsken_merge(const uint8_t *file, size_t file_length, const uint8_t *
                         size_t grouping_length, uint8_t *out, size_t out_length);
 
 /*
- * Verdict. text is the sentence's; work is the work area, of 8,192 numbers or more, with any contents. Returns
- * TWOLSKEN_HOLDS if the sentence holds on the model and TWOLSKEN_FAILS if it does not, and then the first 8,192 numbers of
- * the work area are zero, the others as they were; or a refusal of 1..11, and then the work area is as it was.
+ * Verdict. text is the sentence's; work is the work area, of TWOLSKEN_WORK_AREA numbers or more, with any contents. Returns
+ * TWOLSKEN_HOLDS if the sentence holds on the model and TWOLSKEN_FAILS if it does not, and then the first
+ * TWOLSKEN_WORK_AREA numbers of the work area are zero and the others unchanged; or a refusal of 1..11.
  */
 uint32_t twolsken_verdict(const uint8_t *file, size_t file_length, const uint8_t *text,
                           size_t text_length, uint64_t *work, size_t work_length);
@@ -134,8 +182,7 @@ uint32_t twolsken_verdict(const uint8_t *file, size_t file_length, const uint8_t
 /*
  * Numerator. tuple has one byte a letter of the prefix, a state; path is the number of a path formula, counted from 0 in
  * written order; work is as at verdict. Returns 0, with the numerator of that path formula at the tuple in value[0] and its
- * denominator in value[1], and then the first 8,192 numbers of the work area are zero, the others as they were; or a refusal
- * of 1..11 or 15, and then value and the work area are as they were.
+ * denominator in value[1], and the work area as after a verdict; or a refusal of 1..11 or 15.
  */
 uint32_t twolsken_numerator(const uint8_t *file, size_t file_length, const uint8_t *text,
                             size_t text_length, const uint8_t *tuple, size_t tuple_length, size_t path,

@@ -8,8 +8,8 @@ use std::panic::{catch_unwind, AssertUnwindSafe};
 use std::process::exit;
 use std::time::{Duration, Instant};
 use twolsken_host::compare::{Area, Tally};
-use twolsken_host::ffi::Proved;
-use twolsken_host::gen::Rng;
+use twolsken_host::inputs::Rng;
+use twolsken_host::proved::Proved;
 
 /// Cases of each call in a round: fewer of those that take longer.
 fn round_of(area: Area) -> usize {

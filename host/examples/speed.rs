@@ -4,8 +4,8 @@
 use std::hint::black_box;
 use std::time::{Duration, Instant};
 use twolsken_host::compare::{Merges, Models, Second, Sentences};
-use twolsken_host::ffi::Proved;
-use twolsken_host::gen::{grouping, model, sentence, Rng};
+use twolsken_host::inputs::{grouping, model, sentence, Rng};
+use twolsken_host::proved::Proved;
 use twolsken_host::second;
 
 /// How many inputs each call gets in a turn.

@@ -4,9 +4,9 @@
 //!     cargo run --release --example stack
 
 use std::process::Command;
-use twolsken_host::ffi::{numerator, read_sentence, verdict, WORK};
-use twolsken_host::gen::model::{file_of, model_with};
-use twolsken_host::gen::{extreme, Rng};
+use twolsken::{numerator, read_sentence, verdict, Refusal, Verdict, WORK_AREA};
+use twolsken_host::inputs::model::{file_of, model_with};
+use twolsken_host::inputs::{extreme, Rng};
 
 /// The calls that are measured.
 const CALLS: [&str; 4] = ["nothing", "read sentence", "verdict", "numerator"];
@@ -27,20 +27,25 @@ fn texts(call: &str) -> Vec<Vec<u8>> {
     }
 }
 
+/// The number of a refusal.
+fn number(refusal: Refusal) -> u64 {
+    refusal.number().into()
+}
+
 /// One call on one text, with a model of three states that is lent beforehand.
 fn answer(call: &str, file: &[u8], text: &[u8], work: &mut [u64]) -> u64 {
     match call {
         "nothing" => 0,
-        "read sentence" => read_sentence(text).map_or_else(u64::from, |sentence| sentence.count as u64),
-        "verdict" => verdict(file, text, work).map_or_else(u64::from, u64::from),
-        _ => numerator(file, text, &[0], 0, work).map_or_else(u64::from, |value| value.0),
+        "read sentence" => read_sentence(text).map_or_else(number, |sentence| sentence.nodes.len() as u64),
+        "verdict" => verdict(file, text, work).map_or_else(number, |said| u64::from(said == Verdict::Holds)),
+        _ => numerator(file, text, &[0], 0, work).map_or_else(number, |fraction| fraction.numerator),
     }
 }
 
 /// Runs one call on a thread with a stack of so many KiB, in this process.
 fn run(call: &'static str, text: Vec<u8>, kib: usize) {
     let file = file_of(&model_with(&mut Rng::new(1), 3, 1, 2));
-    let mut work = vec![0; WORK];
+    let mut work = vec![0; WORK_AREA];
     let ask = move || answer(call, &file, &text, &mut work);
     let thread = std::thread::Builder::new().stack_size(kib << 10).spawn(ask);
     println!("{}", thread.expect("a thread").join().expect("an answer"));

@@ -6,14 +6,16 @@
 
 use std::hint::black_box;
 use std::time::Instant;
-use twolsken_host::ffi::{verdict, WORK};
-use twolsken_host::gen::model::{file_of, model_with};
-use twolsken_host::gen::Rng;
+use twolsken_host::compare::Questions;
+use twolsken_host::inputs::model::{file_of, model_with};
+use twolsken_host::inputs::Rng;
 use twolsken_host::plain::{Plain, Step};
+use twolsken_host::proved::Proved;
 use twolsken_host::second;
+use twolsken_host::second::meaning::WORK;
 
 /// N, n, D and k2 of each question.
-const QUESTIONS: [(u8, usize, u32, u32); 4] = [(32, 1, 4, 15), (32, 2, 2, 15), (10, 3, 2, 10), (5, 4, 2, 7)];
+const QUESTIONS: [(u32, usize, u32, u32); 4] = [(32, 1, 4, 15), (32, 2, 2, 15), (10, 3, 2, 10), (5, 4, 2, 7)];
 /// The goals: the library's time over (b)'s at most, and (a)'s over the library's at least, at 32 states and two letters.
 const GOALS: (f64, f64) = (1.25, 8.0);
 /// About how many seconds the runs of one row take.
@@ -45,7 +47,7 @@ impl Bench {
     fn answer(&mut self, program: usize) -> Result<bool, u8> {
         let (file, text) = (black_box(&self.file[..]), black_box(&self.text[..]));
         match program {
-            0 => verdict(file, text, &mut self.work),
+            0 => Proved.verdict(file, text, &mut self.work),
             _ => self.plain[program - 1].verdict(file, text, &mut self.work),
         }
     }

@@ -17,12 +17,12 @@ mod reach;
 mod sentences;
 mod ways;
 
-use crate::gen::Rng;
+use crate::inputs::Rng;
 use crate::second::meaning::WORK;
 use crate::second::{self, Model, Sentence};
 use std::fmt::{self, Debug, Display};
 
-pub use examples::{compare_examples, compare_model_examples, compare_question_examples};
+pub use examples::compare_examples;
 pub use meaning::{
     compare_extreme, compare_full, compare_numerator, compare_rooms, compare_row_15, compare_verdict, ROOMS,
 };
@@ -74,8 +74,7 @@ pub trait Library: Models + Sentences + Questions + Merges {}
 
 impl<L: Models + Sentences + Questions + Merges> Library for L {}
 
-/// The second program as a library: compared with itself it shows that the
-/// cases reach every answer.
+/// The second program as a library: held to the document's examples, and timed beside the proved library.
 #[derive(Clone, Copy, Debug)]
 pub struct Second;
 
@@ -240,21 +239,6 @@ impl Area {
     }
 }
 
-/// Every comparison at its full size.
-pub fn full_run<L: Library>(lib: &L, seed: u64) -> Vec<Tally> {
-    compare_examples(lib);
-    vec![
-        compare_model_reader(lib, 120_000, seed),
-        compare_model_writer(lib, 80_000, seed + 1),
-        compare_sentence_reader(lib, 200_000, seed + 2),
-        compare_sentence_writer(lib, 100_000, seed + 3),
-        compare_verdict(lib, 200_000, seed + 4),
-        compare_numerator(lib, 20_000, seed + 5),
-        compare_merge(lib, 100_000, seed + 6),
-        compare_kept(lib, 20_000, seed + 7),
-    ]
-}
-
 /// Stops with a report unless two values are equal. `expected` is the second program's.
 fn agree<T: PartialEq + Debug>(what: &str, expected: &T, got: &T, input: impl FnOnce() -> String) {
     if expected != got {
@@ -341,25 +325,5 @@ mod tests {
     #[test]
     fn the_examples_hold_of_second() {
         compare_examples(&Second);
-    }
-
-    #[test]
-    fn every_area_reaches_every_answer() {
-        println!("{}", compare_model_reader(&Second, 2_000, 1));
-        println!("{}", compare_model_writer(&Second, 2_000, 2));
-        println!("{}", compare_sentence_reader(&Second, 5_000, 3));
-        println!("{}", compare_sentence_writer(&Second, 5_000, 4));
-        println!("{}", compare_verdict(&Second, 4_000, 5));
-        println!("{}", compare_numerator(&Second, 2_000, 6));
-        println!("{}", compare_merge(&Second, 2_000, 7));
-        println!("{}", compare_kept(&Second, 500, 8));
-    }
-
-    #[test]
-    #[ignore = "the full size, for measuring"]
-    fn the_full_run_of_second() {
-        for tally in full_run(&Second, 1) {
-            println!("{tally}");
-        }
     }
 }

@@ -218,7 +218,7 @@ fn quantified(exists: &[bool], n: usize, truth: &[u64]) -> bool {
 mod tests {
     use super::*;
     use crate::compare::{compare_extreme, compare_verdict, Questions, Second};
-    use crate::gen::extreme::Kind;
+    use crate::inputs::extreme::Kind;
     use std::cell::RefCell;
 
     /// A plain program beside the second one; its numerators are the second one's.

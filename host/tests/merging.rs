@@ -1,13 +1,14 @@
 //! Merge of the proved library beside the second program.
 
 use twolsken_host::compare::{compare_kept, compare_merge};
-use twolsken_host::ffi::Proved;
+use twolsken_host::proved::Proved;
 
 #[test]
 fn merge_agrees_with_second() {
     let tally = compare_merge(&Proved, 100_000, 31);
     println!("{tally}");
-    assert!(tally.cases() >= 100_000);
+    tally.require_each(400, &[2, 3, 4, 5]);
+    tally.require_each(5_000, &[12, 13, 14]);
 }
 
 /// A random sentence on the full and on the merged model: equal verdicts, numerators and denominators, by the second program

@@ -1,23 +1,18 @@
 //! Read model and write model of the proved library beside the second program.
 
-use twolsken_host::compare::{compare_model_examples, compare_model_reader, compare_model_writer};
-use twolsken_host::ffi::Proved;
-
-#[test]
-fn the_documents_models_and_checks() {
-    compare_model_examples(&Proved);
-}
+use twolsken_host::compare::{compare_model_reader, compare_model_writer};
+use twolsken_host::proved::Proved;
 
 #[test]
 fn the_reader_agrees_with_second() {
     let tally = compare_model_reader(&Proved, 130_000, 11);
     println!("{tally}");
-    assert!(tally.cases() >= 130_000);
+    tally.require_each(14_000, &[2, 3, 4, 5]);
 }
 
 #[test]
 fn the_writer_agrees_with_second() {
     let tally = compare_model_writer(&Proved, 80_000, 12);
     println!("{tally}");
-    assert!(tally.cases() >= 80_000);
+    tally.require_each(2_500, &[4, 5, 14]);
 }

@@ -1,44 +1,30 @@
 //! The program, as the gate has built it, beside the second program: one line for the two files of a folder.
 
-use std::fs::{create_dir, remove_dir_all, write, OpenOptions};
+use std::fs::{create_dir, read, write, OpenOptions};
 use std::io::Write;
-use std::path::{Path, PathBuf};
+use std::path::Path;
 use std::process::{Command, Output};
 use std::thread::{sleep, spawn};
 use std::time::Duration;
-use twolsken_host::gen::model::{file_of, model_with};
-use twolsken_host::gen::Rng;
-use twolsken_host::samples::samples;
+use twolsken_host::files::{at, samples, Folder};
+use twolsken_host::inputs::model::{file_of, model_with};
+use twolsken_host::inputs::Rng;
 use twolsken_host::second::meaning::{verdict, WORK};
 use twolsken_host::second::model::examples::m1;
 
-/// An empty folder of its own for a test.
-struct Folder(PathBuf);
-
-impl Folder {
-    fn new(name: &str) -> Folder {
-        let folder = std::env::temp_dir().join(format!("twolsken-{}-{name}", std::process::id()));
-        create_dir(&folder).expect("a folder");
-        Folder(folder)
-    }
-
-    fn put(&self, name: &str, bytes: Option<&[u8]>) {
-        if let Some(bytes) = bytes {
-            write(self.0.join(name), bytes).expect("a file");
-        }
-    }
-}
-
-impl Drop for Folder {
-    fn drop(&mut self) {
-        remove_dir_all(&self.0).expect("the folder goes");
+/// Puts a file into a folder, if there is to be one.
+fn put(folder: &Folder, name: &str, bytes: Option<&[u8]>) {
+    if let Some(bytes) = bytes {
+        write(folder.0.join(name), bytes).expect("a file");
     }
 }
 
 /// A run of the program in a folder.
 fn run(folder: &Path) -> Output {
-    let program = PathBuf::from(env!("CARGO_MANIFEST_DIR")).join("../target/bin/twolsken");
-    Command::new(program).current_dir(folder).output().expect("the program, built by rt check twolsken")
+    Command::new(at("target/bin/twolsken"))
+        .current_dir(folder)
+        .output()
+        .expect("the program, built by rt check twolsken")
 }
 
 /// The line that document 01 asks for, by the second program on the whole files.
@@ -55,8 +41,8 @@ fn line(model: Option<&[u8]>, sentence: Option<&[u8]>) -> String {
 /// Runs the program on two files, each of which may be missing.
 fn agrees(name: &str, model: Option<&[u8]>, sentence: Option<&[u8]>) {
     let folder = Folder::new(name);
-    folder.put("model.blk", model);
-    folder.put("sentence.txt", sentence);
+    put(&folder, "model.blk", model);
+    put(&folder, "sentence.txt", sentence);
     let output = run(&folder.0);
     assert_eq!(String::from_utf8_lossy(&output.stdout), line(model, sentence), "{name}");
     assert!(output.status.success() && output.stderr.is_empty(), "{name}");
@@ -65,8 +51,10 @@ fn agrees(name: &str, model: Option<&[u8]>, sentence: Option<&[u8]>) {
 #[test]
 fn the_samples() {
     for sample in samples() {
-        let sentence = format!("{}\n", sample.sentence);
-        agrees(sample.folder, Some(&file_of(&sample.model)), Some(sentence.as_bytes()));
+        let [model, sentence] =
+            ["model.blk", "sentence.txt"].map(|name| read(sample.join(name)).expect(name));
+        let name = sample.file_name().expect("a name").to_string_lossy();
+        agrees(&name, Some(&model), Some(&sentence));
     }
 }
 
@@ -109,7 +97,7 @@ fn texts_of_every_length_near_the_limit_and_far_beyond() {
 #[test]
 fn a_file_that_comes_in_parts_is_read_to_its_end() {
     let folder = Folder::new("parts");
-    folder.put("model.blk", Some(&file_of(&m1())));
+    put(&folder, "model.blk", Some(&file_of(&m1())));
     let pipe = folder.0.join("sentence.txt");
     assert!(Command::new("mkfifo").arg(&pipe).status().expect("mkfifo").success());
     let writer = spawn(move || {
@@ -123,14 +111,28 @@ fn a_file_that_comes_in_parts_is_read_to_its_end() {
     writer.join().expect("the writer");
 }
 
-/// No verdict on what could not be read: the reason goes to standard error.
+/// No verdict on what could not be read: the reason goes to standard error. The exit status is 0 all the same.
 #[test]
 fn a_file_that_cannot_be_read_gets_no_verdict() {
     for name in ["model.blk", "sentence.txt"] {
         let folder = Folder::new(name);
         create_dir(folder.0.join(name)).expect("a folder in a file's place");
         let output = run(&folder.0);
-        assert!(output.stdout.is_empty());
+        assert!(output.stdout.is_empty() && output.status.success());
         assert_eq!(String::from_utf8_lossy(&output.stderr), format!("{name}: Is a directory\n"));
+    }
+}
+
+/// The script that starts the program: no line where there is nothing to judge, and 2 as its exit status.
+#[test]
+fn the_script_says_what_is_missing() {
+    for (words, said) in [
+        (&["no-such-folder"][..], "twolsken: there is no folder no-such-folder\n"),
+        (&["one", "two"][..], "twolsken: usage: ./twolsken [FOLDER]\n"),
+    ] {
+        let output = Command::new(at("twolsken")).args(words).output().expect("the script");
+        assert_eq!(output.status.code(), Some(2));
+        assert!(output.stdout.is_empty());
+        assert_eq!(String::from_utf8_lossy(&output.stderr), said);
     }
 }

@@ -1,27 +1,22 @@
 //! Verdict and numerator of the proved library beside the second program.
 
+use twolsken::{numerator, verdict, Refusal, WORK_AREA};
 use twolsken_host::compare::{
-    compare_extreme, compare_full, compare_numerator, compare_question_examples, compare_rooms,
-    compare_row_15, compare_verdict, compare_ways, Tally,
+    compare_extreme, compare_full, compare_numerator, compare_rooms, compare_row_15, compare_verdict,
+    compare_ways, Tally,
 };
-use twolsken_host::ffi::{numerator, verdict, Proved, WORK};
-use twolsken_host::gen::extreme::{deepest, Kind};
-use twolsken_host::gen::model::{file_of, model_with};
-use twolsken_host::gen::Rng;
+use twolsken_host::inputs::extreme::{deepest, Kind};
+use twolsken_host::inputs::model::{file_of, model_with};
+use twolsken_host::inputs::Rng;
+use twolsken_host::proved::Proved;
 
 /// The rows of verdict.
 const ROWS: [usize; 11] = [1, 2, 3, 4, 5, 6, 7, 8, 9, 10, 11];
-
-#[test]
-fn the_documents_lines() {
-    compare_question_examples(&Proved);
-}
 
 /// Half of the random verdicts: every refusal and both verdicts often, every number of letters, every N.
 fn random_verdicts(seed: u64) {
     let tally = compare_verdict(&Proved, 105_000, seed);
     println!("{tally}\n  {:?}", tally.reach);
-    assert!(tally.cases() >= 105_000);
     tally.require_each(900, &ROWS);
     assert!(tally.holds >= 20_000 && tally.fails >= 20_000, "{tally}");
     assert!(tally.reach.letters[1..].iter().all(|&count| count >= 5_000), "{tally}");
@@ -170,12 +165,16 @@ fn the_deepest_sentences_need_little_stack() {
     for (place, text) in deepest().into_iter().enumerate() {
         let ask = move || {
             let file = file_of(&model_with(&mut Rng::new(1), 3, 1, 2));
-            let mut work = vec![0; WORK];
+            let mut work = vec![0; WORK_AREA];
             (verdict(&file, &text, &mut work), numerator(&file, &text, &[0], 0, &mut work))
         };
         let thread = std::thread::Builder::new().stack_size(256 << 10).spawn(ask);
         let (said, asked) = thread.expect("a thread").join().expect("an answer");
         assert!(said.is_ok(), "sentence {place}: {said:?}");
-        assert_eq!(asked.err(), if place == 0 { Some(15) } else { None }, "sentence {place}");
+        assert_eq!(
+            asked.err(),
+            if place == 0 { Some(Refusal::TupleOrPath) } else { None },
+            "sentence {place}"
+        );
     }
 }

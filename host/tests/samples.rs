@@ -1,31 +1,39 @@
-//! The files of `samples/` are those of the tables, and their verdicts those of the second program.
+//! The samples: what each README says of the verdict is what the second program answers. That a sample's file is its
+//! table's is a test of the package `twolsken`; that the program prints the verdict is one of `program.rs`.
 
-use std::fs::read;
-use std::path::PathBuf;
-use twolsken_host::gen::model::file_of;
-use twolsken_host::samples::samples;
+use std::fs::{read, read_to_string};
+use std::path::Path;
+use twolsken_host::files::{at, samples};
 use twolsken_host::second::meaning::{verdict, WORK};
 
-/// A file of the repository.
-fn file(name: &str) -> Vec<u8> {
-    read(PathBuf::from(env!("CARGO_MANIFEST_DIR")).join("..").join(name)).expect(name)
+/// The verdict that a sample's README ends with.
+fn told(sample: &Path) -> String {
+    let readme = read_to_string(sample.join("README.md")).expect("a README");
+    let last = readme.trim_end().lines().last().expect("a line").to_string();
+    let verdict = last.strip_prefix("Verdict: `").and_then(|rest| rest.strip_suffix("`."));
+    verdict.unwrap_or_else(|| panic!("{}: the last line is '{last}'", sample.display())).to_string()
 }
 
 #[test]
-fn the_files_are_those_of_the_tables() {
-    let stored = ("crates/twolsken/data".to_string(), &samples()[0]);
-    let all = samples();
-    let shipped = all.iter().map(|sample| (format!("samples/{}", sample.folder), sample));
-    for (folder, sample) in shipped.chain([stored]) {
-        assert_eq!(file(&format!("{folder}/model.blk")), file_of(&sample.model), "{folder}");
-        assert_eq!(file(&format!("{folder}/sentence.txt")), format!("{}\n", sample.sentence).into_bytes());
-    }
-}
-
-#[test]
-fn the_verdicts_are_those_of_second() {
+fn each_readme_tells_the_verdict() {
+    let mut said = Vec::new();
     for sample in samples() {
-        let answer = verdict(&file_of(&sample.model), sample.sentence.as_bytes(), &mut [0; WORK]);
-        assert_eq!(answer, Ok(sample.holds), "{}", sample.folder);
+        let line = read_to_string(sample.join("sentence.txt")).expect("a sentence");
+        let text = line.strip_suffix('\n').expect("a newline at the end");
+        let file = read(sample.join("model.blk")).expect("a model file");
+        let holds = verdict(&file, text.as_bytes(), &mut [0; WORK]).expect("a verdict");
+        assert_eq!(told(&sample), if holds { "holds" } else { "fails" }, "{}", sample.display());
+        let readme = read_to_string(sample.join("README.md")).expect("a README");
+        assert!(readme.contains(&format!("`{text}`")), "{}: the README has the sentence", sample.display());
+        said.push(holds);
+    }
+    assert!(said.contains(&true) && said.contains(&false), "both verdicts are shown");
+}
+
+#[test]
+fn the_stored_run_of_the_program_is_m1() {
+    for name in ["model.blk", "sentence.txt"] {
+        let stored = read(at("crates/twolsken/data").join(name)).expect(name);
+        assert_eq!(stored, read(at("samples/m1").join(name)).expect(name), "{name}");
     }
 }

@@ -4,7 +4,7 @@ use mathlib.Core.Bool.{Bool, _&&_}
 use mathlib.Core.List.{List}
 use lib.Dec.{eqb}
 use lib.ListN.{length, getD}
-use Rattle.counting.specs.Below.{sum, every}
+use Rattle.counting.specs.Below.{sumBelow, everyBelow}
 
 -- byte j of block i, j below 512; past the end of the file it is 0
 abbrev pub byteOf : List ℕ → ℕ → ℕ → ℕ
@@ -28,7 +28,7 @@ four a b c d = two a b + 65536 * two c d
 
 -- the check of a block: the sum over i = 0..509 of (i + 1) × byte i, modulo 65,521
 unfoldable pub checkOf : (ℕ → ℕ) → ℕ
-checkOf byte = sum 510 (λ i. (i + 1) * byte i) % 65521
+checkOf byte = sumBelow 510 (λ i. (i + 1) * byte i) % 65521
 
 -- bytes 510 and 511 hold the block's check, low byte first
 abbrev pub checkRight : (ℕ → ℕ) → Bool
@@ -40,4 +40,4 @@ blocksIn file = length file / 512
 
 -- every block's check is right
 abbrev pub checksRight : List ℕ → Bool
-checksRight file = every (blocksIn file) (λ i. checkRight (byteOf file i))
+checksRight file = everyBelow (blocksIn file) (λ i. checkRight (byteOf file i))

@@ -3,7 +3,19 @@ ghost use mathlib.Core.Path.{_≡_};
 ghost use Prim.Native.Nat.{_+_, _*_, _%_, _<_, _≤_};
 ghost use lib.ListN.{getD, length};
 ghost use Rattle.block.specs.Block.{byteOf, two, checkOf, checkRight, checksRight};
-ghost use Rattle.counting.specs.Below.{sum};
+ghost use Rattle.counting.specs.Below.{sumBelow};
+
+// The bytes of a block.
+pub const BLOCK: usize = 512;
+
+// The bytes of a block that its check is of; the check stands after them.
+pub const CHECKED: usize = 510;
+
+// The place of the check's high byte in a block.
+pub const CHECK_HIGH: usize = 511;
+
+// The check is a sum modulo this number.
+const MODULUS: u32 = 65521;
 
 // A byte as a wider number.
 pub fn wide(b: u8) -> u32
@@ -25,10 +37,10 @@ fn byte_in(file: &[u8], block: usize, j: usize) -> u8
     ensures { λ r. ⌜ r ≡ byteOf (now (file .entry)) block j ⌝ }
 {
     let length = file.len();
-    if length / 512 < block {
+    if length / BLOCK < block {
         return 0;
     }
-    let at = 512 * block;
+    let at = BLOCK * block;
     if j < length - at { file[at + j] } else { 0 }
 }
 
@@ -78,11 +90,11 @@ fn term(i: usize, b: u8) -> u32
 
 // The sum of the check over a block of the file.
 fn weighed(file: &[u8], block: usize) -> u32
-    ensures { λ r. ⌜ r ≡ sum 510 (λ i. (i + 1) * byteOf (now (file .entry)) block i) ⌝ }
+    ensures { λ r. ⌜ r ≡ sumBelow 510 (λ i. (i + 1) * byteOf (now (file .entry)) block i) ⌝ }
 {
     let mut total: u32 = 0;
     let mut i: usize = 0;
-    while i < 510 {
+    while i < CHECKED {
         total += term(i, block_byte(file, block, i));
         i += 1;
     }
@@ -93,7 +105,7 @@ fn weighed(file: &[u8], block: usize) -> u32
 pub fn check_of(file: &[u8], block: usize) -> u32
     ensures { λ r. ⌜ r ≡ checkOf (byteOf (now (file .entry)) block) ⌝ }
 {
-    weighed(file, block) % 65521
+    weighed(file, block) % MODULUS
 }
 
 // Whether bytes 510 and 511 of a block hold its check.
@@ -101,8 +113,8 @@ pub fn check_right(file: &[u8], block: usize) -> bool
     ensures { λ r. ⌜ r ≡ checkRight (byteOf (now (file .entry)) block) ⌝ }
 {
     let check = check_of(file, block);
-    let low = wide(block_byte(file, block, 510)) == check % 256;
-    let high = wide(block_byte(file, block, 511)) == check / 256 % 256;
+    let low = wide(block_byte(file, block, CHECKED)) == check % 256;
+    let high = wide(block_byte(file, block, CHECK_HIGH)) == check / 256 % 256;
     low & high
 }
 
@@ -110,7 +122,7 @@ pub fn check_right(file: &[u8], block: usize) -> bool
 pub fn checks_right(file: &[u8]) -> bool
     ensures { λ r. ⌜ r ≡ checksRight (now (file .entry)) ⌝ }
 {
-    let blocks = file.len() / 512;
+    let blocks = file.len() / BLOCK;
     let mut i: usize = 0;
     while i < blocks {
         if !check_right(file, i) {

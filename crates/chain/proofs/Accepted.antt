@@ -4,7 +4,8 @@ use mathlib.Core.Bool.{true}
 use mathlib.Core.List.{List}
 use mathlib.Core.Path.{_≡_}
 use Rattle.model.specs.Layout.{fieldsOf}
-use Rattle.model.specs.Rows.{fieldsRight, rowsRight, fileNumber}
+use Rattle.model.specs.Rules.{fieldsRight, allAddUp}
+use Rattle.model.specs.Contract.{fileNumber}
 use Rattle.model.proofs.Rightness as right
 use Rattle.model.proofs.Theorems.{accepted}
 use Rattle.meaning.specs.Chain.{Sound}
@@ -17,7 +18,7 @@ module _ (file : List ℕ) (ok : fileNumber file ≡ 0) where
   fields-right = right.laid-fields file (fieldsOf file) (accepted file ok .laid)
 
   -- every state's row adds up to D
-  pub rows-right : rowsRight (fieldsOf file) ≡ true
+  pub rows-right : allAddUp (fieldsOf file) ≡ true
   rows-right = accepted file ok .sums
 
   -- N is at least 1

@@ -10,7 +10,7 @@ use native.Mathlib.Decide.{decLt}
 use borrow.Rule.Slice.PartMut.{putMid}
 use lib.ListN.{length, getD, set, take, drop, drop-of-length-le, length-drop, length-append, length-set, List·getD-append}
 use lib.Seq.{ext-getD, take-all, getD-at, drop-cons, set-at, getD-set-same, getD-set-other}
-use Rattle.counting.specs.Below.{sum, every, table}
+use Rattle.counting.specs.Below.{sumBelow, everyBelow, table}
 
 -- a number below the next is below this one, or is it
 below-next : {P : ℕ → Type 0} {n : ℕ} → ((k : ℕ) → k < n → P k) → P n → (k : ℕ) → k < suc n → P k
@@ -25,32 +25,32 @@ below-next {P} {n} h last k l = go (decLt k n)
 -- ---- sums
 
 -- a sum of no terms
-pub sum-none : (f : ℕ → ℕ) → sum 0 f ≡ 0
-unfolding sum
+pub sum-none : (f : ℕ → ℕ) → sumBelow 0 f ≡ 0
+unfolding sumBelow
 sum-none f = refl
 
 -- one term more
-pub sum-more : (n : ℕ) (f : ℕ → ℕ) → sum (n + 1) f ≡ sum n f + f n
-unfolding sum
-sum-more n f = ap (λ (k : ℕ). sum k f) (add-one n)
+pub sum-more : (n : ℕ) (f : ℕ → ℕ) → sumBelow (n + 1) f ≡ sumBelow n f + f n
+unfolding sumBelow
+sum-more n f = ap (λ (k : ℕ). sumBelow k f) (add-one n)
 
 -- sums of functions that agree below n are equal
-pub sum-same : (n : ℕ) {f g : ℕ → ℕ} → ((k : ℕ) → k < n → f k ≡ g k) → sum n f ≡ sum n g
-unfolding sum
+pub sum-same : (n : ℕ) {f g : ℕ → ℕ} → ((k : ℕ) → k < n → f k ≡ g k) → sumBelow n f ≡ sumBelow n g
+unfolding sumBelow
 sum-same zero h = refl
 sum-same (suc n) h = ap₂ (λ (a b : ℕ). a + b) (sum-same n (λ k l. h k (omega arith))) (h n (omega arith))
 
 -- a sum of zeros is zero
-pub sum-zero : (n : ℕ) {f : ℕ → ℕ} → ((k : ℕ) → k < n → f k ≡ 0) → sum n f ≡ 0
-unfolding sum
+pub sum-zero : (n : ℕ) {f : ℕ → ℕ} → ((k : ℕ) → k < n → f k ≡ 0) → sumBelow n f ≡ 0
+unfolding sumBelow
 sum-zero zero h = refl
 sum-zero (suc n) h = ap₂ (λ (a b : ℕ). a + b) (sum-zero n (λ k l. h k (omega arith))) (h n (omega arith))
 
 -- a part of a sum is at most the whole
-pub term-le-sum : (n : ℕ) (f : ℕ → ℕ) (k : ℕ) → k < n → f k ≤ sum n f
-unfolding sum
+pub term-le-sum : (n : ℕ) (f : ℕ → ℕ) (k : ℕ) → k < n → f k ≤ sumBelow n f
+unfolding sumBelow
 term-le-sum zero f k l = omega arith
-term-le-sum (suc n) f k l = below-next {P = λ k. f k ≤ sum n f + f n}
+term-le-sum (suc n) f k l = below-next {P = λ k. f k ≤ sumBelow n f + f n}
     (λ k l.
     let r = term-le-sum n f k l in
     omega arith)
@@ -59,8 +59,8 @@ term-le-sum (suc n) f k l = below-next {P = λ k. f k ≤ sum n f + f n}
 -- ---- tests
 
 -- no number fails the test where there is none
-pub every-none : (test : ℕ → Bool) → every 0 test ≡ true
-unfolding every
+pub every-none : (test : ℕ → Bool) → everyBelow 0 test ≡ true
+unfolding everyBelow
 every-none test = refl
 
 -- two tests that are met are met together
@@ -78,20 +78,20 @@ right-of true b e = e
 right-of false b e = absurd (true≢false (sym e))
 
 -- one number more meets the test
-pub every-more : (n : ℕ) (test : ℕ → Bool) → every n test ≡ true → test n ≡ true → every (n + 1) test ≡ true
-unfolding every
-every-more n test h last = ap (λ (k : ℕ). every k test) (add-one n) ∙ and-true h last
+pub every-more : (n : ℕ) (test : ℕ → Bool) → everyBelow n test ≡ true → test n ≡ true → everyBelow (n + 1) test ≡ true
+unfolding everyBelow
+every-more n test h last = ap (λ (k : ℕ). everyBelow k test) (add-one n) ∙ and-true h last
 
 -- each number below n meets the test that every one meets
-pub every-at : (n : ℕ) (test : ℕ → Bool) → every n test ≡ true → (k : ℕ) → k < n → test k ≡ true
-unfolding every
+pub every-at : (n : ℕ) (test : ℕ → Bool) → everyBelow n test ≡ true → (k : ℕ) → k < n → test k ≡ true
+unfolding everyBelow
 every-at zero test h k l = absurd (omega arith)
 every-at (suc n) test h k l =
-    below-next (every-at n test (left-of (every n test) (test n) h)) (right-of (every n test) (test n) h) k l
+    below-next (every-at n test (left-of (everyBelow n test) (test n) h)) (right-of (everyBelow n test) (test n) h) k l
 
 -- every number meets the test that each meets
-pub every-all : (n : ℕ) (test : ℕ → Bool) → ((k : ℕ) → k < n → test k ≡ true) → every n test ≡ true
-unfolding every
+pub every-all : (n : ℕ) (test : ℕ → Bool) → ((k : ℕ) → k < n → test k ≡ true) → everyBelow n test ≡ true
+unfolding everyBelow
 every-all zero test h = refl
 every-all (suc n) test h = and-true (every-all n test (λ k l. h k (omega arith))) (h n (omega arith))
 
@@ -106,12 +106,12 @@ same-truth false true f g = g refl
 same-truth false false f g = refl
 
 -- one number that does not meet the test is enough
-pub every-but : (n : ℕ) (test : ℕ → Bool) (k : ℕ) → k < n → test k ≡ false → every n test ≡ false
-every-but n test k l e = is-not-true (every n test) (λ h. true≢false (sym (every-at n test h k l) ∙ e))
+pub every-but : (n : ℕ) (test : ℕ → Bool) (k : ℕ) → k < n → test k ≡ false → everyBelow n test ≡ false
+every-but n test k l e = is-not-true (everyBelow n test) (λ h. true≢false (sym (every-at n test h k l) ∙ e))
 
 -- tests that agree below n have one answer
-pub every-same : (n : ℕ) {p q : ℕ → Bool} → ((k : ℕ) → k < n → p k ≡ q k) → every n p ≡ every n q
-unfolding every
+pub every-same : (n : ℕ) {p q : ℕ → Bool} → ((k : ℕ) → k < n → p k ≡ q k) → everyBelow n p ≡ everyBelow n q
+unfolding everyBelow
 every-same zero h = refl
 every-same (suc n) h = ap₂ (λ (a b : Bool). a && b) (every-same n (λ k l. h k (omega arith))) (h n (omega arith))
 
@@ -120,7 +120,7 @@ every-same (suc n) h = ap₂ (λ (a b : Bool). a && b) (every-same n (λ k l. h 
 -- of the numbers below n the first i meet the test
 pub record Passed (n : ℕ) (test : ℕ → Bool) (i : ℕ) : Type 0 where
   pub upTo : i ≤ n
-  pub met : every i test ≡ true
+  pub met : everyBelow i test ≡ true
 
 module _ {n : ℕ} {test : ℕ → Bool} where
   -- before the first turn
@@ -132,13 +132,13 @@ module _ {n : ℕ} {test : ℕ → Bool} where
   passed-next {i} h less e = record { upTo = omega arith; met = every-more i test (h .met) e }
 
   -- after the last turn every number has met the test
-  pub passed-all : {i : ℕ} → Passed n test i → n ≤ i → true ≡ every n test
+  pub passed-all : {i : ℕ} → Passed n test i → n ≤ i → true ≡ everyBelow n test
   passed-all {i} h done =
       let e : i ≡ n = omega arith in
       sym (rw e at (h .met))
 
   -- where one fails, not every number meets it
-  pub failed-at : {i : ℕ} → Passed n test i → i < n → test i ≡ false → false ≡ every n test
+  pub failed-at : {i : ℕ} → Passed n test i → i < n → test i ≡ false → false ≡ everyBelow n test
   failed-at {i} h less e = sym (every-but n test i less e)
 
 -- ---- tables

@@ -4,14 +4,14 @@ use mathlib.Core.Bool.{Bool, true, _&&_}
 use mathlib.Core.List.{List, [], _∷_, _++_}
 
 -- f 0 + f 1 + .. + f (n − 1)
-unfoldable pub sum : ℕ → (ℕ → ℕ) → ℕ
-sum zero f = 0
-sum (suc n) f = sum n f + f n
+unfoldable pub sumBelow : ℕ → (ℕ → ℕ) → ℕ
+sumBelow zero f = 0
+sumBelow (suc n) f = sumBelow n f + f n
 
 -- the test is met by every number below n
-unfoldable pub every : ℕ → (ℕ → Bool) → Bool
-every zero test = true
-every (suc n) test = every n test && test n
+unfoldable pub everyBelow : ℕ → (ℕ → Bool) → Bool
+everyBelow zero test = true
+everyBelow (suc n) test = everyBelow n test && test n
 
 -- the list of f 0, f 1, .., f (n − 1)
 unfoldable pub table {ℓ} : {A : Type ℓ} → ℕ → (ℕ → A) → List A

@@ -1,7 +1,9 @@
--- Demand 2, of verdict and numerator.
+-- Demand 2, of verdict and numerator (`demand-2`). The list of runs is `runs` of the meaning, whose laws say that it has just the
+-- runs from the tuple, each once.
 use Prim.Native.Nat.{ℕ, _^_}
-use mathlib.Core.List.{List, map}
-use mathlib.Core.Path.{_≡_, sym, ap, ap₂, _∙_}
+use mathlib.Core.Bool.{cond}
+use mathlib.Core.List.{List, map, Memᴰ·cast}
+use mathlib.Core.Path.{_≡_, refl, sym, ap, ap₂, _∙_}
 use native.Mathlib.Nat.{mul-one}
 use lib.ListN.{length}
 use Rattle.refusal.specs.Answers.{gives}
@@ -10,16 +12,17 @@ use Rattle.model.specs.Layout.{fieldsOf}
 use Rattle.meaning.specs.Lists.{total}
 use Rattle.meaning.specs.Chain.{Chain, Tuple, Inside, Sound, runWeight, runs}
 use Rattle.meaning.specs.Tree.{PathFormula, next, until, letterOf}
-use Rattle.meaning.specs.Meaning.{denominator, verdict}
+use Rattle.meaning.specs.Meaning.{takenWeight, value, numerator, denominator, verdict}
+use Rattle.meaning.proofs.Runs.{runs-member, runs-has, runs-distinct}
 use Rattle.meaning.proofs.Steps.{runs-total}
 use Rattle.chain.proofs.Accepted.{sound}
-use Rattle.question.specs.Rows.{QuestionRow, SentenceOf}
+use Rattle.question.specs.Contract.{QuestionRow, SentenceOf}
 use Rattle.question.proofs.Settled.{file-free}
 use Rattle.verdict.specs.declared.Answer as Judged
-use Rattle.verdict.specs.Calls.{VerdictAnswer, replyOf as replyJudged}
+use Rattle.verdict.specs.Contract.{VerdictEnsures, verdictReply}
 use Rattle.numerator.specs.declared.Answer as Counted
-use Rattle.numerator.specs.Calls.{NumeratorRow, question, NumeratorAnswer, numbered, replyOf as replyCounted}
-use Rattle.demands.specs.Demands.{stepsOf, chainIn, Probability, Demand2}
+use Rattle.numerator.specs.Contract.{NumeratorRow, question, NumeratorEnsures, numbered, numeratorReply}
+use Rattle.demands.specs.Demands.{stepsOf, chainIn, takes, Probability, Valued, Demand2}
 use Rattle.demands.proofs.Free.{one-sentence, tuple-inside}
 
 -- a denominator is the total weight of all runs that start at the tuple
@@ -29,32 +32,62 @@ unfolding denominator
 all-runs (next f) c sound n i = ap (λ (k : ℕ). c .D ^ k) (sym (mul-one n)) ∙ sym (runs-total c sound n 1 i)
 all-runs (until k1 k2 f g) c sound n i = sym (runs-total c sound n k2 i)
 
-judged : (file : List ℕ) {text before after : List ℕ} {a : Judged.Answer} → VerdictAnswer file text before a after →
+-- a numerator is the total weight of the runs that the path formula takes
+taken-runs : (p : PathFormula) (c : Chain) (n : ℕ) (s : Tuple) →
+    numerator p c n s ≡ total (λ r. cond (takes p c n r) (runWeight c r) 0) (runs c n (stepsOf p) s)
+unfolding numerator takenWeight
+taken-runs (next f) c n s = refl
+taken-runs (until k1 k2 f g) c n s = refl
+
+-- a path formula's numerator and denominator are its probability
+counted-once : (p : PathFormula) (c : Chain) → Sound c → (n : ℕ) {s : Tuple} → Inside (c .N) n s →
+    Probability c p n s (numerator p c n s) (denominator p (c .D) n)
+counted-once p c adds n {s} inside = record {
+  all = runs c n (stepsOf p) s;
+  just = λ r. (
+    λ m. let own = runs-member c n (stepsOf p) s m in record { rest = own .0; starts = own .1; steps = own .2 },
+    λ from. Memᴰ·cast (sym (from .starts)) (runs-has c n (stepsOf p) s (from .steps)),
+  );
+  once = runs-distinct c n (stepsOf p) s;
+  satisfying = taken-runs p c n s;
+  whole = all-runs p c adds n inside;
+}
+
+valued-so : (p : PathFormula) (c : Chain) → Sound c → (n : ℕ) {s : Tuple} → Inside (c .N) n s → Valued c p n s
+unfolding value
+valued-so p c adds n {s} inside = record {
+  top = numerator p c n s;
+  bottom = denominator p (c .D) n;
+  valued = refl;
+  counted = counted-once p c adds n inside;
+}
+
+judged : (file : List ℕ) {text before after : List ℕ} {a : Judged.Answer} → VerdictEnsures file text before a after →
     ((n : ℕ) → QuestionRow file text (length before) n → ⊥) →
-    (s : SentenceOf text) × (replyJudged a ≡ gives (verdict (chainIn file) (map letterOf (s .prefix)) (s .body)))
+    (s : SentenceOf text) × (verdictReply a ≡ gives (verdict (chainIn file) (map letterOf (s .prefix)) (s .body)))
 judged file x none =
     let right = right-of none (x .ensured) in
     (right .2 .sentence, right .1 ∙ ap gives (right .2 .meant))
 
-counted : (file : List ℕ) {text tuple before after : List ℕ} {path : ℕ} {a : Counted.Answer} → NumeratorAnswer file text tuple path before a after →
-    ((n : ℕ) → NumeratorRow file text tuple path (length before) n → ⊥) →
-    (s : SentenceOf text) × Probability file (numbered (s .body) path) (length (s .prefix)) tuple (replyCounted a)
-counted file {path = path} x none =
+counted : (file : List ℕ) {text tuple before after : List ℕ} {path : ℕ} {a : Counted.Answer} →
+    NumeratorEnsures file text tuple path before a after → ((n : ℕ) → NumeratorRow file text tuple path (length before) n → ⊥) →
+    (s : SentenceOf text) × (v : ℕ × ℕ) × (numeratorReply a ≡ gives v) ×
+    Probability (chainIn file) (numbered (s .body) path) (length (s .prefix)) tuple (v .0) (v .1)
+counted file {tuple = tuple} {path = path} x none =
     let right = right-of none (x .ensured) in
     let s = right .2 .sentence in
     let p = numbered (s .body) path in
     let n = length (s .prefix) in (
       s,
-      record {
-        bottom = denominator p (fieldsOf file .d) n;
-        given = right .1 ∙ ap gives (ap₂ (λ (a b : ℕ). (a, b)) (right .2 .top) (right .2 .bottom));
-        whole = all-runs p (chainIn file) (sound file (file-free (λ n r. none n (question r)))) n (tuple-inside none s);
-      },
+      (numerator p (chainIn file) n tuple, denominator p (fieldsOf file .d) n),
+      right .1 ∙ ap gives (ap₂ (λ (a b : ℕ). (a, b)) (right .2 .top) (right .2 .bottom)),
+      counted-once p (chainIn file) (sound file (file-free (λ n r. none n (question r)))) n (tuple-inside none s),
     )
 
 pub demand-2 : (file : List ℕ) → Demand2 file
 demand-2 file = record {
   one-sentence = λ s t. one-sentence s t;
   verdicts = λ x none. judged file x none;
+  in-verdicts = λ none s p inside. valued-so p (chainIn file) (sound file (file-free none)) (length (s .prefix)) inside;
   probabilities = λ x none. counted file x none;
 }

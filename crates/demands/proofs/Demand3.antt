@@ -2,7 +2,7 @@
 use Prim.Native.Nat.{ℕ, _≤_, _<_}
 use mathlib.Core.Bool.{Bool, true, false, not, true≢false}
 use mathlib.Core.List.{List, map}
-use mathlib.Core.Logic.{_↔_}
+use mathlib.Core.Logic.{_↔_, _⊎_, ⊎-elim}
 use mathlib.Core.Path.{_≡_, refl, sym, ap, ap₂, subst, _∙_}
 use native.Mathlib.Decide.{decLt}
 use native.Mathlib.Omega.{arith}
@@ -11,13 +11,13 @@ use lib.ListN.{length, take, length-map}
 use lib.Seq.{take-at}
 use Rattle.refusal.specs.declared.Written.{Written}
 use Rattle.refusal.specs.declared.Written.the-variants.{Wrote}
-use Rattle.refusal.specs.Rows.{Applies, refused as smallest-of, Given}
-use Rattle.refusal.specs.Answers.{gives, refuses, replyOfWritten, Writes}
+use Rattle.refusal.specs.Rows.{Applies, by-row as smallest-of, Given}
+use Rattle.refusal.specs.Answers.{gives, refuses, numberIn, replyOfWritten}
 use Rattle.refusal.proofs.Ensuring.{right-of, written-told}
 use Rattle.refusal.proofs.Laws.{first-later, first-none}
 use Rattle.refusal.proofs.Listed.{none-applies}
 use Rattle.model.specs.Layout.{fieldsOf}
-use Rattle.model.specs.Rows.{fileNumber}
+use Rattle.model.specs.Contract.{fileNumber}
 use Rattle.meaning.specs.Lists.{every}
 use Rattle.meaning.specs.Chain.{tupleCount}
 use Rattle.meaning.specs.Tree.{Formula, letterOf}
@@ -26,32 +26,33 @@ use Rattle.meaning.specs.Size.{exceeds}
 use Rattle.meaning.specs.Merging.{Stable}
 use Rattle.trees.specs.Listed.{formulaNodes}
 use Rattle.chain.proofs.Accepted.{fields-right}
-use Rattle.question.specs.Rows.{labelRight, QuestionRow, area, model, sentence, labels, size, tuples}
+use Rattle.question.specs.Contract.{labelRight, QuestionRow, area, model, sentence, labels, size, tuples, areaSize}
 use Rattle.question.proofs.Stages.{none-of-file}
 use Rattle.verdict.specs.declared.Answer as Judged
-use Rattle.verdict.specs.Calls.{VerdictAnswer}
+use Rattle.verdict.specs.Contract.{VerdictEnsures}
 use Rattle.verdict.proofs.Single.{reply-told as judged-told}
 use Rattle.numerator.specs.declared.Answer as Counted
-use Rattle.numerator.specs.Calls.{NumeratorRow, question, long, member, missing, NumeratorAnswer, numbered}
+use Rattle.numerator.specs.Contract.{NumeratorRow, question, long, member, missing, NumeratorEnsures, numbered}
 use Rattle.numerator.proofs.Single.{reply-told as counted-told}
 use Rattle.paths.proofs.Members.{members-inside}
 use Rattle.merge.specs.Groups.{groupOf}
-use Rattle.merge.specs.Rows.{mergeRows, mergeNumber, mergedFile}
-use Rattle.merge.specs.Kept.{Kept}
+use Rattle.merge.specs.Contract.{mergeRows, mergeNumber, mergedFile, MergeEnsures}
+use Rattle.merge.specs.Keeping.{MergingKeeps}
 use Rattle.merge.proofs.Exact.{refused-13, stable-alike}
 use Rattle.merge.proofs.Grouped.{grouping-right, count-is}
 use Rattle.merge.proofs.Numbers.{merge-rows, file-accepted}
 use Rattle.merge.proofs.Theorems.{merge-smallest, mergeable, merged-read, kept-written}
-use Rattle.demands.specs.Demands.{chainIn, MergeAsked, Keeps, MergedWritten, Demand3}
+use Rattle.demands.specs.Demands.{chainIn, MergeAsked, Differ, Keeps, MergedWritten, Demand3}
 use Rattle.demands.proofs.Free.{one-sentence, inside-members, members, tuple-inside}
 use Rattle.demands.proofs.Demand1.{demand-1}
+use Rattle.demands.proofs.Differing.{stable-differ, settled}
 
 -- ---- what merging keeps
 
 module _ (file grouping merged : List ℕ) (accepted : fileNumber merged ≡ 0)
-    (kept : Kept (fieldsOf file) (groupOf grouping) (fieldsOf merged)) where
+    (kept : MergingKeeps (fieldsOf file) (groupOf grouping) (fieldsOf merged)) where
   -- a question to which no row applies on the full model is one on the merged model
-  question-free : {text : List ℕ} {room room′ : ℕ} → 8192 ≤ room′ → ((n : ℕ) → QuestionRow file text room n → ⊥) →
+  question-free : {text : List ℕ} {room room′ : ℕ} → areaSize ≤ room′ → ((n : ℕ) → QuestionRow file text room n → ⊥) →
       (n : ℕ) → QuestionRow merged text room′ n → ⊥
   question-free space none n (area h) = omega arith
   question-free space none n (model a) = none-of-file merged accepted a
@@ -69,8 +70,9 @@ module _ (file grouping merged : List ℕ) (accepted : fileNumber merged ≡ 0)
       by (yes h) = none 11 (tuples f s h)
       by (no h) = let few = kept .tuples (length ps) (omega arith) in omega (arith, few, e)
 
-  verdicts : {text before before′ after after′ : List ℕ} {a b : Judged.Answer} → 8192 ≤ length before′ → VerdictAnswer file text before a after →
-      ((n : ℕ) → QuestionRow file text (length before) n → ⊥) → VerdictAnswer merged text before′ b after′ → a ≡ b
+  verdicts : {text before before′ after after′ : List ℕ} {a b : Judged.Answer} → areaSize ≤ length before′ →
+      VerdictEnsures file text before a after →
+      ((n : ℕ) → QuestionRow file text (length before) n → ⊥) → VerdictEnsures merged text before′ b after′ → a ≡ b
   verdicts {a = a} {b} space x none y =
       let full = right-of none (x .ensured) in
       let less = right-of (question-free space none) (y .ensured) in
@@ -83,7 +85,7 @@ module _ (file grouping merged : List ℕ) (accepted : fileNumber merged ≡ 0)
       judged-told a b (full .1 ∙ ap gives same ∙ sym (less .1))
 
   -- so is a question about a path formula at a tuple, at the tuple of the groups
-  asked-free : {text tuple : List ℕ} {path room room′ : ℕ} → 8192 ≤ room′ → ((n : ℕ) → NumeratorRow file text tuple path room n → ⊥) →
+  asked-free : {text tuple : List ℕ} {path room room′ : ℕ} → areaSize ≤ room′ → ((n : ℕ) → NumeratorRow file text tuple path room n → ⊥) →
       (n : ℕ) → NumeratorRow merged text (map (groupOf grouping) tuple) path room′ n → ⊥
   asked-free space none n (question r) = question-free space (λ n r. none n (question r)) n r
   asked-free {tuple = tuple} space none n (long f s e) = none 15 (long f s (λ x. e (length-map tuple (groupOf grouping) ∙ x)))
@@ -92,9 +94,9 @@ module _ (file grouping merged : List ℕ) (accepted : fileNumber merged ≡ 0)
       true≢false (sym (inside-members (kept .inside (length tuple) tuple inside)) ∙ e)
   asked-free space none n (missing f s e) = none 15 (missing f s e)
 
-  numerators : {text tuple before before′ after after′ : List ℕ} {path : ℕ} {a b : Counted.Answer} → 8192 ≤ length before′ →
-      NumeratorAnswer file text tuple path before a after → ((n : ℕ) → NumeratorRow file text tuple path (length before) n → ⊥) →
-      NumeratorAnswer merged text (map (groupOf grouping) tuple) path before′ b after′ → a ≡ b
+  numerators : {text tuple before before′ after after′ : List ℕ} {path : ℕ} {a b : Counted.Answer} → areaSize ≤ length before′ →
+      NumeratorEnsures file text tuple path before a after → ((n : ℕ) → NumeratorRow file text tuple path (length before) n → ⊥) →
+      NumeratorEnsures merged text (map (groupOf grouping) tuple) path before′ b after′ → a ≡ b
   numerators {tuple = tuple} {path = path} {a} {b} space x none y =
       let full = right-of none (x .ensured) in
       let less = right-of (asked-free space none) (y .ensured) in
@@ -105,7 +107,8 @@ module _ (file grouping merged : List ℕ) (accepted : fileNumber merged ≡ 0)
       let top =
       full .2 .top ∙
       kept .numerators p n tuple (tuple-inside none s) ∙
-      ap₂ (λ (ps : List Bool) (f : Formula). numerator (numbered f path) (chainIn merged) (length ps) (map (groupOf grouping) tuple)) (one .0) (one .1) ∙
+      ap₂ (λ (ps : List Bool) (f : Formula). numerator (numbered f path) (chainIn merged) (length ps) (map (groupOf grouping) tuple))
+      (one .0) (one .1) ∙
       sym (less .2 .top) in
       let bottom =
       full .2 .bottom ∙
@@ -133,26 +136,42 @@ module _ {file grouping : List ℕ} {M room : ℕ} (asked : MergeAsked file grou
       first-none
 
 module _ (file grouping : List ℕ) (M : ℕ) {before after : List ℕ} {w : Written} (asked : MergeAsked file grouping M (length before))
-    (writes : Writes (mergeRows file grouping (length before)) (mergedFile file grouping) before after w) where
-  -- it is refused exactly if the grouping is not stable
-  refused-so : ((n : ℕ) × (replyOfWritten w ≡ refuses n)) ↔ (Stable (chainIn file) (groupOf grouping) M → ⊥)
+    (writes : MergeEnsures file grouping before after w) where
+  -- a stable grouping is not refused
+  stable-unrefused : Stable (chainIn file) (groupOf grouping) M → (n : ℕ) → replyOfWritten w ≡ refuses n → ⊥
   unfolding mergeNumber
-  refused-so = (
-    λ e st. none-applies (merge-rows file grouping (length before)) (stable-free asked st) (e .0)
-        (demand-1 .merge-call file grouping writes .refusal (e .0) .0 (e .1) .0),
-    λ differ.
-        let here = refused-13 file grouping (length before) (asked .accepted) M (asked .long) (asked .grouped) .1 differ in
-        let ends = demand-1 .merge-call file grouping writes .refusal 13 in
-        (13, ends .1 (given-13 here)),
-  )
+  stable-unrefused st n e =
+      none-applies (merge-rows file grouping (length before)) (stable-free asked st) n
+      (demand-1 .merge-call file grouping writes .refusal n .0 e .0)
+
+  -- one in which two states of a group differ is refused, with the number 13
+  differ-refused : Differ (chainIn file) (groupOf grouping) M → replyOfWritten w ≡ refuses 13
+  unfolding mergeNumber
+  differ-refused differ =
+      let here = refused-13 file grouping (length before) (asked .accepted) M (asked .long) (asked .grouped) .1
+      (λ st. stable-differ st differ) in
+      demand-1 .merge-call file grouping writes .refusal 13 .1 (given-13 here)
     where
       given-13 : mergeNumber file grouping (length before) ≡ 13 →
           Applies 13 (mergeRows file grouping (length before)) × ((m : ℕ) → Applies m (mergeRows file grouping (length before)) → 13 ≤ m)
       given-13 e = by (subst (Given (mergeRows file grouping (length before))) e (merge-smallest file grouping (length before)))
         where
           by : Given (mergeRows file grouping (length before)) 13 →
-              Applies 13 (mergeRows file grouping (length before)) × ((m : ℕ) → Applies m (mergeRows file grouping (length before)) → 13 ≤ m)
+              Applies 13 (mergeRows file grouping (length before)) × ((m : ℕ) → Applies m (mergeRows file grouping (length before)) →
+              13 ≤ m)
           by (smallest-of row least) = (row, least)
+
+  -- there is no third
+  either : Stable (chainIn file) (groupOf grouping) M ⊎ Differ (chainIn file) (groupOf grouping) M
+  either =
+      settled (fieldsOf file) grouping (fields-right file (asked .accepted)) M
+      (count-is (chainIn file) grouping M (asked .long) (asked .grouped))
+
+  refused-so : (replyOfWritten w ≡ refuses 13) ↔ Differ (chainIn file) (groupOf grouping) M
+  refused-so = (λ e. ⊎-elim (λ st. absurd (stable-unrefused st 13 e)) (λ differ. differ) either, differ-refused)
+
+  number-so : (n : ℕ) → replyOfWritten w ≡ refuses n → n ≡ 13
+  number-so n e = ⊎-elim (λ st. absurd (stable-unrefused st n e)) (λ differ. ap numberIn (sym e ∙ differ-refused differ)) either
 
   -- otherwise the merged model is written
   written-so : Stable (chainIn file) (groupOf grouping) M → MergedWritten file grouping w after
@@ -161,8 +180,8 @@ module _ (file grouping : List ℕ) (M : ℕ) {before after : List ℕ} {w : Wri
       let free = none-applies (merge-rows file grouping (length before)) (stable-free asked st) in
       let right = right-of free (writes .ensured) in
       let size = right .0 in
-      let wrote : Writes (mergeRows file grouping (length before)) (mergedFile file grouping) before after (Wrote size) =
-      subst (λ (x : Written). Writes (mergeRows file grouping (length before)) (mergedFile file grouping) before after x)
+      let wrote : MergeEnsures file grouping before after (Wrote size) =
+      subst (λ (x : Written). MergeEnsures file grouping before after x)
       (written-told w (Wrote size) (right .1)) writes in
       let kept = kept-written file grouping before after size wrote in
       let m = mergeable file grouping (length before) (stable-free asked st) in
@@ -180,5 +199,7 @@ module _ (file grouping : List ℕ) (M : ℕ) {before after : List ℕ} {w : Wri
 pub demand-3 : Demand3
 demand-3 = record {
   refused = λ file grouping M asked writes. refused-so file grouping M asked writes;
-  written = λ file grouping M asked writes. written-so file grouping M asked writes;
+  number = λ file grouping M asked writes. number-so file grouping M asked writes;
+  written = λ file grouping M asked writes none.
+      ⊎-elim (λ st. written-so file grouping M asked writes st) (λ differ. absurd (none differ)) (either file grouping M asked writes);
 }

@@ -1,31 +1,32 @@
--- Document 01's starred lines hold of the definitions.
-use Prim.Native.Nat.{_≤_}
+-- Document 01's starred lines hold: the one statement over the one table. Assumes nothing.
+use Prim.Native.Nat.{ℕ, _≤_}
 use Prim.Native.String.{String}
 use mathlib.Core.Bool.{Bool, true, false, _&&_, false≢true}
 use mathlib.Core.List.{List, [], _∷_, _++_, map}
 use mathlib.Core.Path.{_≡_, refl}
 use native.Mathlib.Omega.{arith}
 use lib.ListN.{length}
+use Rattle.counting.specs.Ascii.{ascii}
+use Rattle.counting.specs.Below.{table}
+use Rattle.numerals.specs.Numeral.{digits, numberText}
 use Rattle.sentence.specs.declared.Kind.{Kind}
 use Rattle.sentence.specs.declared.Kind.the-variants.{State, Expression}
 use Rattle.sentence.specs.declared.Node.{Node}
-use Rattle.numerals.specs.Numeral.{digits, numberText}
-use Rattle.sentence.specs.Grammar.{kindOf, wants, Nests, bodyText, sentenceText, writable}
+use Rattle.sentence.specs.Grammar.{writable, kindOf, wants, Nests, bodyText, sentenceText}
 use Rattle.sentence.specs.Grammar.Nests.{end, node}
 use Rattle.sentence.specs.Working.{sameKind}
 use Rattle.sentence.proofs.Suiting.{same-eq}
-use Rattle.counting.specs.Below.{table}
-use Rattle.meaning.specs.Lists.{below, every, total, Each, nothing, further}
-use Rattle.meaning.specs.Merging.{weightInto, member, merged as merged-chain}
+use Rattle.meaning.specs.Lists.{below, every, Each, nothing, further}
 use Rattle.meaning.specs.Tree.{Formula, letterOf}
-use Rattle.meaning.specs.Examples.{M1, M2 as chainM2, M2merged as chainM2merged, Claim as Meant, met, claims as onSentences}
+use Rattle.meaning.specs.Examples.{M1, M2, M2merged, sketched, sameChain, Line, met, lines}
 use Rattle.meaning.proofs.Tests.{and-left, and-right}
 use Rattle.meaning.proofs.Examples.{examples as meant}
 use Rattle.trees.specs.Listed.{formulaNodes, expressionNodes}
-use Rattle.chain.specs.Of.{chainOf}
-use Rattle.merge.specs.Examples.{modelWith, M2, M2merged, Claim as Merging, Met as MetMerging, claims as onMerging}
+use Rattle.merge.specs.Examples.{modelOfSketch, MergeMet}
 use Rattle.merge.proofs.Examples.{examples as merged}
-use Rattle.demands.specs.Examples.{ascii, TextOf, SentenceText, Texted, modelM1, sameChain, Claim, means, merging, Met, claims}
+use Rattle.demands.specs.Examples.{TextOf, SentenceText, Texted, modelOfLine, drawn, Met}
+
+-- ---- the document's texts are those of the trees
 
 -- whether nodes are just what is wanted: of a list that is written out, by computing
 abbrev nesting : List Kind → List Node → Bool
@@ -45,11 +46,13 @@ nested (k ∷ ks) (n ∷ ns) e =
     (nested (wants n ++ ks) ns (and-right (writable n) (nesting (wants n ++ ks) ns) rest))
 
 -- the text of an expression, and of a sentence
-expression : (nodes : List Node) (text : String) → nesting (Expression ∷ []) nodes ≡ true → ascii text ≡ bodyText nodes → TextOf Expression nodes text
+expression : (nodes : List Node) (text : String) → nesting (Expression ∷ []) nodes ≡ true → ascii text ≡ bodyText nodes
+    → TextOf Expression nodes text
 expression nodes text n e = record { nests = nested (Expression ∷ []) nodes n; spelled = e }
 
 sentence : (ps : List Bool) (body : Formula) (text : String) → 1 ≤ length ps → length ps ≤ 4 →
-    nesting (State ∷ []) (formulaNodes body) ≡ true → ascii text ≡ sentenceText ps (formulaNodes body) → SentenceText text (map letterOf ps) body
+    nesting (State ∷ []) (formulaNodes body) ≡ true → ascii text ≡ sentenceText ps (formulaNodes body)
+    → SentenceText text (map letterOf ps) body
 sentence ps body text some few n e =
     record {
       sentence = record {
@@ -61,9 +64,8 @@ sentence ps body text some few n e =
       body-is = refl;
     }
 
--- the document's texts are those of the trees
-texts : Each Texted (length onSentences) onSentences
-unfolding Texted onSentences ascii below formulaNodes expressionNodes numberText digits
+texts : Each Texted (length lines) lines
+unfolding Texted lines formulaNodes expressionNodes numberText digits
 texts =
     further (expression _ "PXa1" refl refl)
     (further (expression _ "PXa1" refl refl)
@@ -82,38 +84,42 @@ texts =
     (further (sentence (false ∷ []) _ "A.=PU0,0:TT#1/1;" (omega arith) (omega arith) refl refl)
     (further tt
     (further (expression _ "PU0,2:Ta1" refl refl)
-    (further (expression _ "PU0,2:Ta1" refl refl) nothing)))))))))))))))))
+    (further (expression _ "PU0,2:Ta1" refl refl)
+    (further tt (further tt (further tt nothing))))))))))))))))))))
 
--- the claims of the two crates, in the one table
-on-merging : (l : List Merging) → Each MetMerging (length l) l → Each Met (length (map merging l)) (map merging l)
-unfolding Met
-on-merging [] nothing = nothing
-on-merging (x ∷ xs) (further m rest) = further m (on-merging xs rest)
+-- ---- the chains of the lines are those of the models
 
-on-sentences : (l : List Meant) (after : List Claim) → every met l ≡ true → Each Texted (length l) l → Each Met (length after) after →
-    Each Met (length (map means l ++ after)) (map means l ++ after)
-unfolding every Met
-on-sentences [] after e nothing r = r
-on-sentences (x ∷ xs) after e (further w rest) r =
-    let both : (met x ≡ true) × Texted x = (and-left (met x) (every met xs) e, w) in
-    further both (on-sentences xs after (and-right (met x) (every met xs) e) rest r)
+drawn-M1 : drawn M1 ≡ true
+unfolding drawn sketched sameChain modelOfSketch M1 every below table
+drawn-M1 = refl
 
--- the chains of the lines are those of the models
-same-M1 : sameChain 1 (chainOf modelM1) M1 ≡ true
-unfolding sameChain modelM1 modelWith M1 every below table
-same-M1 = refl
+drawn-M2 : drawn M2 ≡ true
+unfolding drawn sketched sameChain modelOfSketch M2 every below table
+drawn-M2 = refl
 
-same-M2 : sameChain 1 (chainOf M2) chainM2 ≡ true
-unfolding sameChain M2 chainM2 modelWith every below table
-same-M2 = refl
+drawn-merged : drawn M2merged ≡ true
+unfolding drawn sketched sameChain modelOfSketch M2merged every below table
+drawn-merged = refl
 
-same-merged : sameChain 1 (chainOf M2merged) chainM2merged ≡ true
-unfolding sameChain M2merged chainM2merged chainM2 modelWith every below table merged-chain weightInto member total
-same-merged = refl
+models : Each (λ (l : Line). drawn (modelOfLine l) ≡ true) (length lines) lines
+unfolding lines
+models =
+    further drawn-M1 (further drawn-M1 (further drawn-M1 (further drawn-M1 (further drawn-M1 (further drawn-M1 (further drawn-M1
+    (further drawn-M1 (further drawn-M1 (further drawn-M1 (further drawn-M1 (further drawn-M1 (further drawn-M1 (further drawn-M1
+    (further drawn-M1
+    (further drawn-M2 (further drawn-M2
+    (further drawn-merged (further drawn-M2 (further drawn-M2 (further drawn-M2 nothing))))))))))))))))))))
+
+-- ---- all of it
+
+together : (l : List Line) → every met l ≡ true → Each Texted (length l) l → Each MergeMet (length l) l
+    → Each (λ (x : Line). drawn (modelOfLine x) ≡ true) (length l) l → Each Met (length l) l
+unfolding every
+together [] e nothing nothing nothing = nothing
+together (x ∷ xs) e (further t ts) (further m ms) (further d ds) =
+    further (record { means = and-left (met x) (every met xs) e; texted = t; merging = m; model = d })
+    (together xs (and-right (met x) (every met xs) e) ts ms ds)
 
 -- every line marked * agrees with the definitions
-pub examples : Each Met (length claims) claims
-unfolding claims Met modelM1 M2 M2merged modelWith
-examples =
-    further same-M1 (further same-M2 (further same-merged
-    (on-sentences onSentences (map merging onMerging) meant texts (on-merging onMerging merged))))
+pub examples : Each Met (length lines) lines
+examples = together lines meant texts merged models

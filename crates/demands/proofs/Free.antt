@@ -13,8 +13,8 @@ use Rattle.meaning.specs.Chain.{Inside}
 use Rattle.trees.proofs.Once.{sentence-once}
 use Rattle.paths.specs.Tuples.{membersBelow}
 use Rattle.paths.proofs.Members.{members-inside}
-use Rattle.question.specs.Rows.{SentenceOf}
-use Rattle.numerator.specs.Calls.{NumeratorRow, long, member}
+use Rattle.question.specs.Contract.{SentenceOf}
+use Rattle.numerator.specs.Contract.{NumeratorRow, long, member}
 
 -- a text has one sentence
 pub one-sentence : {text : List ℕ} (s t : SentenceOf text) → (s .prefix ≡ t .prefix) × (s .body ≡ t .body)

@@ -3,5 +3,7 @@ pub mod Free
 pub mod Demand1
 pub mod Demand2
 pub mod RoundTrips
+pub mod Exported
+pub mod Differing
 pub mod Demand3
 pub mod Examples

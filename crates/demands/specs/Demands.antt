@@ -1,36 +1,41 @@
 -- The three demands of document 00, said of whatever the calls' contracts allow: of every reply, and of all that is left.
-use Prim.Native.Nat.{ℕ, _≤_}
-use mathlib.Core.List.{List, [], map}
+use Prim.Native.Nat.{ℕ, _≤_, _<_}
+use mathlib.Core.Bool.{Bool, cond}
+use mathlib.Core.List.{List, [], _∷_, map, List·Memᴰ}
 use mathlib.Core.Logic.{_↔_}
 use mathlib.Core.Path.{_≡_}
-use lib.ListN.{length, take}
+use lib.IntN.{pos}
+use lib.ListN.{length, take, getD}
 use Rattle.refusal.specs.declared.Outcome.the-variants.{Done}
 use Rattle.refusal.specs.declared.Written.{Written}
 use Rattle.refusal.specs.declared.Written.the-variants.{Wrote}
 use Rattle.refusal.specs.Rows.{Applies}
-use Rattle.refusal.specs.Answers.{Reply, gives, refuses, replyOf, replyOfWritten, atFront, Writes}
+use Rattle.refusal.specs.Answers.{Reply, gives, refuses, replyOf, replyOfWritten, atFront}
 use Rattle.model.specs.declared.Model.{Model}
 use Rattle.model.specs.declared.ModelRead.{ModelRead}
-use Rattle.model.specs.Layout.{Shaped, fieldsOf, fileOf}
-use Rattle.model.specs.Rows.{fileRows, fileNumber, emptyModel, Reads, recordRows}
+use Rattle.model.specs.Layout.{Shaped, fieldsOf}
+use Rattle.model.specs.Contract.{fileRows, fileNumber, emptyModel, ReadModelEnsures, recordRows, WriteModelEnsures}
 use Rattle.sentence.specs.declared.Sentence.{Sentence}
 use Rattle.sentence_reader.specs.declared.SentenceRead.{SentenceRead}
 use Rattle.sentence_reader.specs.Contract.{ReadRow, ReadSentenceEnsures}
 use Rattle.sentence.specs.Record.{recordOf, prefixOf, nodesOf}
 use Rattle.sentence_writer.specs.Contract.{WriteRow, WriteSentenceEnsures}
-use Rattle.meaning.specs.Lists.{total}
-use Rattle.meaning.specs.Chain.{Chain, runWeight, runs}
-use Rattle.meaning.specs.Tree.{PathFormula, next, until, letterOf}
-use Rattle.meaning.specs.Meaning.{numerator, verdict}
-use Rattle.meaning.specs.Merging.{Grouping, Stable}
+use Rattle.meaning.specs.Lists.{total, Each, Distinct}
+use Rattle.meaning.specs.Chain.{Chain, Tuple, Inside, Run, runWeight}
+use Rattle.meaning.specs.Tree.{probability, PathFormula, next, until, letterOf}
+use Rattle.meaning.specs.Meaning.{nextTakes, untilTakes, holds, value, verdict}
+use Rattle.meaning.specs.Merging.{weightInto, Grouping}
 use Rattle.chain.specs.Of.{chainOf}
-use Rattle.question.specs.Rows.{QuestionRow, SentenceOf}
+use Rattle.question.specs.Contract.{QuestionRow, SentenceOf, areaSize}
 use Rattle.verdict.specs.declared.Answer as Judged
-use Rattle.verdict.specs.Calls.{VerdictAnswer, replyOf as replyJudged}
+use Rattle.verdict.specs.Contract.{VerdictEnsures, verdictReply}
 use Rattle.numerator.specs.declared.Answer as Counted
-use Rattle.numerator.specs.Calls.{NumeratorRow, NumeratorAnswer, numbered, replyOf as replyCounted}
+use Rattle.numerator.specs.Contract.{NumeratorRow, NumeratorEnsures, numbered, numeratorReply}
 use Rattle.merge.specs.Groups.{groupOf, mergedModel}
-use Rattle.merge.specs.Rows.{mergeRows, mergedFile}
+use Rattle.merge.specs.Contract.{mergeRows, mergedFile, MergeEnsures}
+use Rattle.codes.specs.Codes.{sentenceOf}
+use Rattle.exports.specs.Models.{modelOfParts, ExportedReadModel, ExportedWriteModel}
+use Rattle.exports.specs.Sentences.{ExportedReadSentence, ExportedWriteSentence}
 
 -- ---- Demand 1
 
@@ -46,20 +51,21 @@ pub record Ends {A L : Type 0} (R : ℕ → Type 0) (before : L) (reply : Reply 
 -- Every model file, sentence and grouping of any length ends so, in each of the seven calls. A reader is lent nothing: what it
 -- returns beside a refusal is an empty record.
 pub record Demand1 : Type 0 where
-  pub read-model : {file : List ℕ} {r : ModelRead} → Reads file r →
+  pub read-model : {file : List ℕ} {r : ModelRead} → ReadModelEnsures file r →
       Ends (λ n. Applies n (fileRows file)) emptyModel (replyOf (r .outcome)) (r .model)
-  pub write-model : (m : Model) {before after : List ℕ} {w : Written} → Writes (recordRows m (length before)) (fileOf m) before after w →
+  pub write-model : (m : Model) {before after : List ℕ} {w : Written} → WriteModelEnsures m before after w →
       Ends (λ n. Applies n (recordRows m (length before))) before (replyOfWritten w) after
   pub read-sentence : {text : List ℕ} {r : SentenceRead} → ReadSentenceEnsures text r →
       Ends (ReadRow text) (recordOf [] []) (replyOf (r .outcome)) (r .sentence)
   pub write-sentence : {s : Sentence} {before after : List ℕ} {w : Written} → WriteSentenceEnsures s before w after →
       Ends (WriteRow s (length before)) before (replyOfWritten w) after
-  pub verdict-call : {file text before after : List ℕ} {a : Judged.Answer} → VerdictAnswer file text before a after →
-      Ends (QuestionRow file text (length before)) before (replyJudged a) after
-  pub numerator-call : {file text tuple before after : List ℕ} {path : ℕ} {a : Counted.Answer} → NumeratorAnswer file text tuple path before a after →
-      Ends (NumeratorRow file text tuple path (length before)) before (replyCounted a) after
+  pub verdict-call : {file text before after : List ℕ} {a : Judged.Answer} → VerdictEnsures file text before a after →
+      Ends (QuestionRow file text (length before)) before (verdictReply a) after
+  pub numerator-call : {file text tuple before after : List ℕ} {path : ℕ} {a : Counted.Answer} →
+      NumeratorEnsures file text tuple path before a after →
+      Ends (NumeratorRow file text tuple path (length before)) before (numeratorReply a) after
   pub merge-call : (file grouping : List ℕ) {before after : List ℕ} {w : Written} →
-      Writes (mergeRows file grouping (length before)) (mergedFile file grouping) before after w →
+      MergeEnsures file grouping before after w →
       Ends (λ n. Applies n (mergeRows file grouping (length before))) before (replyOfWritten w) after
 
 -- ---- Demand 2
@@ -73,42 +79,96 @@ stepsOf (until k1 k2 f g) = k2
 abbrev pub chainIn : List ℕ → Chain
 chainIn file = chainOf (fieldsOf file)
 
--- what numerator gives of a path formula at a tuple: the total weight of the satisfying runs, each run once, over the total weight
--- of all
-pub record Probability (file : List ℕ) (p : PathFormula) (n : ℕ) (tuple : List ℕ) (reply : Reply (ℕ × ℕ)) : Type 0 where
+-- whether the path formula takes the run
+abbrev pub takes : PathFormula → Chain → ℕ → Run → Bool
+takes (next f) c n r = nextTakes (λ t. holds f c n t) r
+takes (until k1 k2 f g) c n r = untilTakes (λ t. holds f c n t) (λ t. holds g c n t) k1 k2 r
+
+-- a run of k steps from a tuple: the tuple, followed by any k tuples of n states
+pub record RunFrom (c : Chain) (n k : ℕ) (tuple : Tuple) (r : Run) : Type 0 where
+  pub rest : Run
+  pub starts : tuple ∷ rest ≡ r
+  pub steps : Each (Inside (c .N) n) k rest
+
+-- A path formula's numerator and denominator at a tuple. There is a list
+pub record Probability (c : Chain) (p : PathFormula) (n : ℕ) (tuple : Tuple) (top bottom : ℕ) : Type 0 where
+  pub all : List Run
+  -- in which just the runs from the tuple stand that have as many steps as the path formula speaks of,
+  pub just : (r : Run) → List·Memᴰ r all ↔ RunFrom c n (stepsOf p) tuple r
+  -- each run once.
+  pub once : Distinct all
+  -- The numerator is the total weight of those that the path formula takes,
+  pub satisfying : top ≡ total (λ r. cond (takes p c n r) (runWeight c r) 0) all
+  -- the denominator the total weight of all.
+  pub whole : bottom ≡ total (runWeight c) all
+
+-- the value that a probability has in an expression, at a tuple
+pub record Valued (c : Chain) (p : PathFormula) (n : ℕ) (tuple : Tuple) : Type 0 where
+  pub top : ℕ
   pub bottom : ℕ
-  pub given : reply ≡ gives (numerator p (chainIn file) n tuple, bottom)
-  pub whole : bottom ≡ total (runWeight (chainIn file)) (runs (chainIn file) n (stepsOf p) tuple)
+  pub valued : value (probability p) c n tuple ≡ record { top = pos top; bottom = bottom }
+  pub counted : Probability c p n tuple top bottom
 
 -- Demand 2, of verdict and numerator on a file, where no row applies: the text has a sentence, and one only;
 pub record Demand2 (file : List ℕ) : Type 0 where
   pub one-sentence : {text : List ℕ} (s t : SentenceOf text) → (s .prefix ≡ t .prefix) × (s .body ≡ t .body)
   -- the verdict is 'holds' exactly if it holds;
-  pub verdicts : {text before after : List ℕ} {a : Judged.Answer} → VerdictAnswer file text before a after →
+  pub verdicts : {text before after : List ℕ} {a : Judged.Answer} → VerdictEnsures file text before a after →
       ((n : ℕ) → QuestionRow file text (length before) n → ⊥) →
-      (s : SentenceOf text) × (replyJudged a ≡ gives (verdict (chainIn file) (map letterOf (s .prefix)) (s .body)))
-  -- and each probability is the total weight of the satisfying runs over the total weight of all.
-  pub probabilities : {text tuple before after : List ℕ} {path : ℕ} {a : Counted.Answer} → NumeratorAnswer file text tuple path before a after →
-      ((n : ℕ) → NumeratorRow file text tuple path (length before) n → ⊥) →
-      (s : SentenceOf text) × Probability file (numbered (s .body) path) (length (s .prefix)) tuple (replyCounted a)
+      (s : SentenceOf text) × (verdictReply a ≡ gives (verdict (chainIn file) (map letterOf (s .prefix)) (s .body)))
+  -- each probability in it is, at every tuple of states, the total weight of the satisfying runs over the total weight of all;
+  pub in-verdicts : {text : List ℕ} {room : ℕ} → ((n : ℕ) → QuestionRow file text room n → ⊥) → (s : SentenceOf text) (p : PathFormula)
+      {tuple : Tuple} → Inside (chainIn file .N) (length (s .prefix)) tuple → Valued (chainIn file) p (length (s .prefix)) tuple
+  -- and so are the two numbers that numerator gives.
+  pub probabilities : {text tuple before after : List ℕ} {path : ℕ} {a : Counted.Answer} →
+      NumeratorEnsures file text tuple path before a after → ((n : ℕ) → NumeratorRow file text tuple path (length before) n → ⊥) →
+      (s : SentenceOf text) × (v : ℕ × ℕ) × (numeratorReply a ≡ gives v) ×
+      Probability (chainIn file) (numbered (s .body) path) (length (s .prefix)) tuple (v .0) (v .1)
 
 -- Demand 2, of the readers and writers.
 pub record RoundTrips : Type 0 where
   -- Writing what was read gives the same file
-  pub files : {file before after : List ℕ} {r : ModelRead} {w : Written} → Reads file r → r .outcome ≡ Done → length file ≤ length before →
-      Writes (recordRows (r .model) (length before)) (fileOf (r .model)) before after w →
+  pub files : {file before after : List ℕ} {r : ModelRead} {w : Written} → ReadModelEnsures file r → r .outcome ≡ Done
+      → length file ≤ length before →
+      WriteModelEnsures (r .model) before after w →
       (w ≡ Wrote (length file)) × (after ≡ atFront file before)
   -- or text,
   pub texts : {text before after : List ℕ} {r : SentenceRead} {w : Written} → ReadSentenceEnsures text r → r .outcome ≡ Done →
-      length text ≤ length before → WriteSentenceEnsures (r .sentence) before w after → (w ≡ Wrote (length text)) × (after ≡ atFront text before)
+      length text ≤ length before → WriteSentenceEnsures (r .sentence) before w after
+      → (w ≡ Wrote (length text)) × (after ≡ atFront text before)
   -- and reading what was written gives the same model, of a record as its type has it,
   pub models : {m : Model} {before after : List ℕ} {size : ℕ} {r : ModelRead} → Shaped m →
-      Writes (recordRows m (length before)) (fileOf m) before after (Wrote size) → Reads (take size after) r → r ≡ record { outcome = Done; model = m }
+      WriteModelEnsures m before after (Wrote size) → ReadModelEnsures (take size after) r →
+      r ≡ record { outcome = Done; model = m }
   -- or sentence, of a record with four places for letters, as its type has them: its prefix and its nodes, since places past the
   -- count are no part of it.
   pub sentences : {s : Sentence} {before after : List ℕ} {size : ℕ} {r : SentenceRead} → length (s .exists) ≡ 4 →
       WriteSentenceEnsures s before (Wrote size) after → ReadSentenceEnsures (take size after) r →
       r ≡ record { outcome = Done; sentence = recordOf (prefixOf s) (nodesOf s) }
+
+-- The same of the exported calls, on the numbers that they leave and take. A code of 0 says that a reader has read, and one below 2^32
+-- that a writer has written so many bytes.
+pub record ExportedRoundTrips : Type 0 where
+  -- Writing what was read gives the same file
+  pub files : {file head masks head′ masks′ before after : List ℕ} {rows rows′ : List (List ℕ)} {r : ℕ} →
+      ExportedReadModel file head masks rows head′ masks′ rows′ 0 → length file ≤ length before →
+      ExportedWriteModel (modelOfParts head′ masks′ rows′) before after r → (r ≡ length file) × (after ≡ atFront file before)
+  -- or text,
+  pub texts : {text head exists head′ exists′ before after : List ℕ} {codes codes′ : List (List ℕ)} {r : ℕ} →
+      ExportedReadSentence text head exists codes head′ exists′ codes′ 0 → length text ≤ length before →
+      ExportedWriteSentence (sentenceOf (getD head′ 0 0) (getD head′ 1 0) exists′ codes′) before after r →
+      (r ≡ length text) × (after ≡ atFront text before)
+  -- and reading what was written leaves the same head, masks and rows, of three parts as their types have them,
+  pub models : {head masks before after h m h′ m′ : List ℕ} {rows w w′ : List (List ℕ)} {size r : ℕ} → length head ≡ 3 →
+      Shaped (modelOfParts head masks rows) → ExportedWriteModel (modelOfParts head masks rows) before after size → size < 4294967296 →
+      ExportedReadModel (take size after) h m w h′ m′ w′ r → (r ≡ 0) × (h′ ≡ head) × (m′ ≡ masks) × (w′ ≡ rows)
+  -- or the same sentence: its prefix and its nodes.
+  pub sentences : (letters count : ℕ) (exists : List ℕ) (codes : List (List ℕ)) {before after h e h′ e′ : List ℕ}
+      {c c′ : List (List ℕ)} {size r : ℕ} →
+      ExportedWriteSentence (sentenceOf letters count exists codes) before after size → size < 4294967296 →
+      ExportedReadSentence (take size after) h e c h′ e′ c′ r →
+      (r ≡ 0) × (sentenceOf (getD h′ 0 0) (getD h′ 1 0) e′ c′ ≡
+      recordOf (prefixOf (sentenceOf letters count exists codes)) (nodesOf (sentenceOf letters count exists codes)))
 
 -- ---- Demand 3
 
@@ -120,16 +180,24 @@ pub record MergeAsked (file grouping : List ℕ) (M room : ℕ) : Type 0 where
   pub grouped : Grouping (chainIn file) (groupOf grouping) M
   pub fits : length (mergedFile file grouping) ≤ room
 
+-- two states of one group differ in labels or in their weight into some group
+pub data Differ (c : Chain) (group : ℕ → ℕ) (M : ℕ) : Type 0 where
+  inLabels : (s t : ℕ) → s < c .N → t < c .N → group s ≡ group t →
+      (((l : ℕ) → c .label l s ≡ c .label l t) → ⊥) → Differ c group M
+  inWeight : (s t : ℕ) → s < c .N → t < c .N → group s ≡ group t → (h : ℕ) → h < M →
+      (weightInto c group s h ≡ weightInto c group t h → ⊥) → Differ c group M
+
 -- What merging keeps, of the answers on a file and on the file that it is merged to (where the second work area is long enough):
 pub record Keeps (file grouping merged : List ℕ) : Type 0 where
   -- for every sentence not refused on the full model the verdicts are equal,
-  pub verdicts : {text area area′ left left′ : List ℕ} {a b : Judged.Answer} → 8192 ≤ length area′ → VerdictAnswer file text area a left →
-      ((n : ℕ) → QuestionRow file text (length area) n → ⊥) → VerdictAnswer merged text area′ b left′ → a ≡ b
+  pub verdicts : {text area area′ left left′ : List ℕ} {a b : Judged.Answer} → areaSize ≤ length area′ →
+      VerdictEnsures file text area a left →
+      ((n : ℕ) → QuestionRow file text (length area) n → ⊥) → VerdictEnsures merged text area′ b left′ → a ≡ b
   -- and each path formula's numerator and denominator, at every tuple of states, equal those on the merged model at the tuple of
   -- their groups.
-  pub numerators : {text tuple area area′ left left′ : List ℕ} {path : ℕ} {a b : Counted.Answer} → 8192 ≤ length area′ →
-      NumeratorAnswer file text tuple path area a left → ((n : ℕ) → NumeratorRow file text tuple path (length area) n → ⊥) →
-      NumeratorAnswer merged text (map (groupOf grouping) tuple) path area′ b left′ → a ≡ b
+  pub numerators : {text tuple area area′ left left′ : List ℕ} {path : ℕ} {a b : Counted.Answer} → areaSize ≤ length area′ →
+      NumeratorEnsures file text tuple path area a left → ((n : ℕ) → NumeratorRow file text tuple path (length area) n → ⊥) →
+      NumeratorEnsures merged text (map (groupOf grouping) tuple) path area′ b left′ → a ≡ b
 
 -- The merged model is written: the bytes at the front are its file, which is accepted and read as that model, and what merging
 -- keeps is kept.
@@ -143,11 +211,15 @@ pub record MergedWritten (file grouping : List ℕ) (answer : Written) (after : 
 
 -- Demand 3, of whatever merge answers and leaves.
 pub record Demand3 : Type 0 where
-  -- It is refused exactly if two states of one group differ in labels or in their weight into some group.
+  -- It is refused, with the number 13, exactly if two states of one group differ in labels or in their weight into some group;
   pub refused : (file grouping : List ℕ) (M : ℕ) {before after : List ℕ} {w : Written} → MergeAsked file grouping M (length before) →
-      Writes (mergeRows file grouping (length before)) (mergedFile file grouping) before after w →
-      ((n : ℕ) × (replyOfWritten w ≡ refuses n)) ↔ (Stable (chainIn file) (groupOf grouping) M → ⊥)
+      MergeEnsures file grouping before after w →
+      (replyOfWritten w ≡ refuses 13) ↔ Differ (chainIn file) (groupOf grouping) M
+  -- it is refused with no other number.
+  pub number : (file grouping : List ℕ) (M : ℕ) {before after : List ℕ} {w : Written} → MergeAsked file grouping M (length before) →
+      MergeEnsures file grouping before after w →
+      (n : ℕ) → replyOfWritten w ≡ refuses n → n ≡ 13
   -- Otherwise the merged model is written, and what merging keeps is kept.
   pub written : (file grouping : List ℕ) (M : ℕ) {before after : List ℕ} {w : Written} → MergeAsked file grouping M (length before) →
-      Writes (mergeRows file grouping (length before)) (mergedFile file grouping) before after w →
-      Stable (chainIn file) (groupOf grouping) M → MergedWritten file grouping w after
+      MergeEnsures file grouping before after w →
+      (Differ (chainIn file) (groupOf grouping) M → ⊥) → MergedWritten file grouping w after

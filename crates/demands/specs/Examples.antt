@@ -1,30 +1,21 @@
--- Document 01, 'Examples on both sides': the one table of the lines marked *. Those on runs and sentences are the claims of the
--- crate `meaning`, the line on merging those of the crate `merge`. Of the former it is said too that the document's text is the
--- text of the tree, and that their chains are those of the models M1 and M2.
-use Prim.Native.Nat.{ℕ}
-use Prim.Native.Char.{code}
-use Prim.Native.String.{String, len, charAt}
-use mathlib.Core.Bool.{Bool, true, _&&_, Bool·beq}
-use mathlib.Core.List.{List, [], _∷_, _++_, map}
+-- Document 01, 'Examples on both sides': what a starred line claims, of every kind. The table of the lines is specs/Examples of the crate
+-- `meaning`. A line's numbers and verdicts are claims on the definitions of `meaning`, its text is that of the tree, what it says of
+-- merging holds of files (`merge`), and the chain that it speaks of is that of the model's file.
+use Prim.Native.String.{String}
+use mathlib.Core.Bool.{Bool, true}
+use mathlib.Core.List.{List, [], _∷_, map}
 use mathlib.Core.Path.{_≡_}
-use lib.Dec.{eqb}
-use Rattle.model.specs.declared.Model.{Model}
+use Rattle.counting.specs.Ascii.{ascii}
 use Rattle.sentence.specs.declared.Kind.{Kind}
 use Rattle.sentence.specs.declared.Kind.the-variants.{Expression}
 use Rattle.sentence.specs.declared.Node.{Node}
 use Rattle.sentence.specs.Grammar.{Nests, bodyText}
-use Rattle.meaning.specs.Lists.{below, every}
-use Rattle.meaning.specs.Chain.{Chain}
 use Rattle.meaning.specs.Tree.{Letter, Formula, probability, letterOf}
-use Rattle.meaning.specs.Examples.{M1, M2 as chainM2, M2merged as chainM2merged, Claim as Meant, fraction, worth, answer, rows, met, claims as onSentences}
+use Rattle.meaning.specs.Examples.{Sketch, sketched, sameChain, Line, fraction, worth, answer, merges, refuses, met}
 use Rattle.trees.specs.Listed.{expressionNodes}
-use Rattle.question.specs.Rows.{SentenceOf}
+use Rattle.question.specs.Contract.{SentenceOf}
 use Rattle.chain.specs.Of.{chainOf}
-use Rattle.merge.specs.Examples.{modelWith, M2, M2merged, Claim as Merging, Met as MetMerging, claims as onMerging}
-
--- the bytes of a text, in ASCII
-unfoldable pub ascii : String → List ℕ
-ascii text = map (λ i. code (charAt text i)) (below (len text))
+use Rattle.merge.specs.Examples.{modelOfSketch, MergeMet}
 
 -- the text is that of the nodes, and these are one thing of the kind
 pub record TextOf (kind : Kind) (nodes : List Node) (text : String) : Type 0 where
@@ -37,37 +28,29 @@ pub record SentenceText (text : String) (letters : List Letter) (body : Formula)
   pub letters-are : map letterOf (sentence .prefix) ≡ letters
   pub body-is : sentence .body ≡ body
 
--- the text of a line is that of its tree
-unfoldable pub Texted : Meant → Type 0
-Texted (fraction c text p s top bottom) = TextOf Expression (expressionNodes (probability p)) text
-Texted (worth c text e s x) = TextOf Expression (expressionNodes e) text
-Texted (answer c text letters body said) = SentenceText text letters body
-Texted (rows c weights) = Unit
+-- the text of a line is that of its tree; a line on merging has none
+unfoldable pub Texted : Line → Type 0
+Texted (fraction m text p s top bottom) = TextOf Expression (expressionNodes (probability p)) text
+Texted (worth m text e s x) = TextOf Expression (expressionNodes e) text
+Texted (answer m text letters body said) = SentenceText text letters body
+Texted (merges m grouping result) = Unit
+Texted (refuses m grouping number) = Unit
 
--- M1: N = 2, A = 1, D = 4; masks 0 and 1; rows 3 1 and 0 4
-unfoldable pub modelM1 : Model
-modelM1 = modelWith 2 1 4 (0 ∷ 1 ∷ []) ((3 ∷ 1 ∷ []) ∷ (0 ∷ 4 ∷ []) ∷ [])
+-- the model that a line speaks of
+abbrev pub modelOfLine : Line → Sketch
+modelOfLine (fraction m text p s top bottom) = m
+modelOfLine (worth m text e s x) = m
+modelOfLine (answer m text letters body said) = m
+modelOfLine (merges m grouping result) = m
+modelOfLine (refuses m grouping number) = m
 
--- two chains are the same: N, D, the weights between states, and which of the first A labels a state has
-unfoldable pub sameChain : ℕ → Chain → Chain → Bool
-sameChain A c d =
-    eqb (c .N) (d .N) && eqb (c .D) (d .D) &&
-    every (λ s. every (λ t. eqb (c .weight s t) (d .weight s t)) (below (c .N))) (below (c .N)) &&
-    every (λ s. every (λ l. Bool·beq (c .label l s) (d .label l s)) (below A)) (below (c .N))
-
--- a line, or that a model's chain is the one that the lines speak of
-pub data Claim : Type 0 where
-  describes : Model → Chain → Claim
-  means : Meant → Claim
-  merging : Merging → Claim
+-- the chain that the definitions speak of is that of the model
+unfoldable pub drawn : Sketch → Bool
+drawn m = sameChain (chainOf (modelOfSketch m)) (sketched m)
 
 -- the definitions agree with the line
-unfoldable pub Met : Claim → Type 0
-Met (describes m c) = sameChain (m .a) (chainOf m) c ≡ true
-Met (means claim) = (met claim ≡ true) × Texted claim
-Met (merging claim) = MetMerging claim
-
--- the lines marked *
-unfoldable pub claims : List Claim
-claims =
-    describes modelM1 M1 ∷ describes M2 chainM2 ∷ describes M2merged chainM2merged ∷ (map means onSentences ++ map merging onMerging)
+pub record Met (line : Line) : Type 0 where
+  pub means : met line ≡ true
+  pub texted : Texted line
+  pub merging : MergeMet line
+  pub model : drawn (modelOfLine line) ≡ true

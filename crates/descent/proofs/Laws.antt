@@ -54,7 +54,7 @@ letters-none flags count i h room =
     let past : length (take count flags) ≤ i = omega arith in
     ap (map letterOf) (drop-of-length-le (take count flags) past)
 
--- what the descent answers where no letter is left: the truth at the place
+-- where no letter is left the descent returns the truth at the place
 pub descended-none : (N base : ℕ) (letters : List Letter) (w : List ℕ) → letters ≡ [] → descended N letters base w ≡ metAt w base
 unfolding descended
 descended-none N base letters w e = ap (λ (l : List Letter). descended N l base w) e
@@ -141,11 +141,13 @@ module _ (c : Chain) (meets : Tuple → Bool) (w : List ℕ) where
   descent-means (letter ∷ letters) {m} {p} i h = ranges-same letter _ _ (c .N)
       (λ s l.
       ap (λ (k : ℕ). descended (c .N) letters k w) (sym (number-last (c .N) p s)) ∙
-      descent-means letters (inside-last i s l) (subst (λ (k : ℕ). Layer (c .N) k (truth meets) w) (add-suc m (length letters) ∙ sym (suc-add m (length letters))) h) ∙
+      descent-means letters (inside-last i s l) (subst (λ (k : ℕ). Layer (c .N) k (truth meets) w)
+      (add-suc m (length letters) ∙ sym (suc-add m (length letters))) h) ∙
       ap (λ (f : Tuple → Bool). ranged c letters f) (fun-ext (λ ss. ap meets (append-assoc p (s ∷ []) ss))))
 
   -- from the start
   pub descent-is : (letters : List Letter) → Layer (c .N) (length letters) (truth meets) w →
       descended (c .N) letters 0 w ≡ ranged c letters meets
   unfolding numberOf
-  descent-is letters h = descent-means letters nothing (subst (λ (k : ℕ). Layer (c .N) k (truth meets) w) (sym (zero-add (length letters))) h)
+  descent-is letters h = descent-means letters nothing (subst (λ (k : ℕ). Layer (c .N) k (truth meets) w)
+      (sym (zero-add (length letters))) h)

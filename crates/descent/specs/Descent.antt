@@ -1,4 +1,6 @@
--- The quantifier descent over a layer of truths: what it asks, and what it answers.
+-- Working: what the functions of this crate promise one another. Nothing here has to be believed.
+--
+-- The quantifier descent over a layer of truths: what it asks, and what it returns.
 use Prim.Native.Nat.{ℕ, _+_, _-_, _*_, _^_, _≤_}
 use mathlib.Core.Bool.{Bool, not}
 use mathlib.Core.List.{List, [], _∷_, map}
@@ -7,6 +9,7 @@ use lib.ListN.{length, getD, take, drop}
 use Rattle.meaning.specs.Lists.{below}
 use Rattle.meaning.specs.Tree.{Letter, letterOf}
 use Rattle.meaning.specs.Meaning.{ranges}
+use Rattle.layers.specs.Held.{mostStates, mostVariables}
 
 -- the truth at a place of the layer
 abbrev pub metAt : List ℕ → ℕ → Bool
@@ -23,8 +26,8 @@ lettersFrom flags count i = map letterOf (drop i (take count flags))
 
 -- there are at most four letters, and the places of all tuples that begin with the states fixed so far lie in the layer
 pub record DescentReady (flags : List Bool) (count N i base : ℕ) (w : List ℕ) : Type 0 where
-  pub few : count ≤ 4
-  pub states : N ≤ 32
+  pub few : count ≤ mostVariables
+  pub states : N ≤ mostStates
   pub upTo : i ≤ count
   pub room : (base + 1) * N ^ (count - i) ≤ length w
   pub small : length w ≤ 65536

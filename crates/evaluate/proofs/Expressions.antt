@@ -13,14 +13,14 @@ use Rattle.sentence.specs.declared.Node.the-variants.{Probability, Constant, Su
 use Rattle.sentence.specs.declared.Node.the-variants.{Difference as DifferenceNode, Product as ProductNode}
 use Rattle.meaning.specs.Chain.{Chain}
 use Rattle.meaning.specs.Tree.{Expression, probability}
-use Rattle.meaning.specs.Size.{size, addS, mulS, exceedsIn, exceedsFrom, largeSize}
+use Rattle.meaning.specs.Size.{sizeLimit, size, addS, mulS, exceedsIn, exceedsFrom, largeSize}
 use Rattle.meaning.proofs.Bounds.{size-fits}
 use Rattle.meaning.proofs.Tests.{or-left}
-use Rattle.layers.specs.Layers.{Layer, Written}
+use Rattle.layers.specs.Layers.{Layer, WrittenFront}
 use Rattle.fractions.specs.declared.Operation.{Operation}
 use Rattle.fractions.specs.declared.Operation.the-variants.{Sum, Difference, Product}
 use Rattle.fractions.specs.Operations.{combinedAt, CombineFits}
-use Rattle.fractions.specs.Values.{numerators, expressionOf}
+use Rattle.fractions.specs.Values.{numeratorCodes, expressionOf}
 use Rattle.fractions.proofs.Values.{operands-small, combine-fits, combine-layer, constant-layer, probability-layer}
 use Rattle.trees.specs.Need.{paired, needIn}
 use Rattle.trees.specs.Ranged.{RangedIn}
@@ -157,7 +157,7 @@ module _ {op : Operation} {nodes : List Slot} {g : Setting} {masks : List ℕ} {
       (subst (λ (d : ℕ). CombineFits op (size (r .first) (c .D) n .d) d (g .tuples) mid) (sym (h .2)) m)
 
   -- the denominators' product is at most 2^62
-  pub bottoms-small : {w : List ℕ} → CombinedReady op nodes g masks rows at w → two .first * two .second ≤ 2 ^ 62
+  pub bottoms-small : {w : List ℕ} → CombinedReady op nodes g masks rows at w → two .first * two .second ≤ sizeLimit
   bottoms-small ready =
       let r = ready .two in
       let c = r .chain in
@@ -168,7 +168,7 @@ module _ {op : Operation} {nodes : List Slot} {g : Setting} {masks : List ℕ} {
       (size-fits (expressionOf op (r .first) (r .second)) (c .D) n (ready .fits) .0)
 
   -- what the operation leaves
-  pub combined-done : {after : List ℕ} → Written (g .tuples) (combinedAt op (two .first) (two .second) (g .tuples) mid)
+  pub combined-done : {after : List ℕ} → WrittenFront (g .tuples) (combinedAt op (two .first) (two .second) (g .tuples) mid)
       mid after →
       CombinedDone op nodes g masks rows at after (record { next = two .next; bottom = two .first * two .second })
   combined-done {after} written = record {
@@ -176,9 +176,9 @@ module _ {op : Operation} {nodes : List Slot} {g : Setting} {masks : List ℕ} {
         let n = g .variables in
         let small = operands-small op a b (c .D) n fits in
         let h = done .each c a b m q fixed p t (small .0) (small .1) in
-        let w₁ = subst (λ (d : ℕ). Written (g .tuples) (combinedAt op d (two .second) (g .tuples) mid) mid after) (h .1)
+        let w₁ = subst (λ (d : ℕ). WrittenFront (g .tuples) (combinedAt op d (two .second) (g .tuples) mid) mid after) (h .1)
         written in
-        let w₂ = subst (λ (d : ℕ). Written (g .tuples) (combinedAt op (size a (c .D) n .d) d (g .tuples) mid) mid after)
+        let w₂ = subst (λ (d : ℕ). WrittenFront (g .tuples) (combinedAt op (size a (c .D) n .d) d (g .tuples) mid) mid after)
         (h .2) w₁ in (
           h .0,
           ap₂ _*_ (h .1) (h .2) ∙ sym (operation-bottom op a b (c .D) n),
@@ -192,7 +192,7 @@ module _ {nodes : List Slot} {g : Setting} {masks : List ℕ} {rows : List (List
       ((c : Chain) (a : Expression) (q : ℕ) → Fixed c masks rows g → ExpressionCase nodes at n a q →
       exceedsIn a (c .D) (g .variables) ≡ false →
       (r .next ≡ q) × (r .bottom ≡ size a (c .D) (g .variables) .d) × Layer (c .N) (g .variables)
-      (numerators a c (g .variables)) after) →
+      (numeratorCodes a c (g .variables)) after) →
       ExpressionDone nodes g masks rows at after r
   expression-done n e h = record {
     each = λ c a q fixed stands fits. h c a q fixed (expression-case nodes at n e stands)
@@ -211,13 +211,13 @@ module _ {nodes : List Slot} {g : Setting} {masks : List ℕ} {rows : List (List
       (or-left (exceedsFrom (it .0) (c .D) n) (largeSize (size (probability (it .0)) (c .D) n)) small) in (
         h .0,
         h .1 ∙ ap (λ (a : Expression). size a (c .D) n .d) (sym (it .1)),
-        subst (λ (a : Expression). Layer (c .N) n (numerators a c n) after) (sym (it .1))
+        subst (λ (a : Expression). Layer (c .N) n (numeratorCodes a c n) after) (sym (it .1))
             (probability-layer (it .0) c (h .2)),
       ))
 
   -- a constant
   pub constant-done : (a b : ℕ) → nodeAt nodes at ≡ Constant a b → {before after : List ℕ} →
-      Written (g .tuples) (λ k. a) before after →
+      WrittenFront (g .tuples) (λ k. a) before after →
       ExpressionDone nodes g masks rows at after (record { next = at + 1; bottom = b })
   unfolding size
   constant-done x y e {after = after} written = expression-done (Constant x y) e
@@ -225,7 +225,7 @@ module _ {nodes : List Slot} {g : Setting} {masks : List ℕ} {rows : List (List
       let n = g .variables in (
         sym (it .1),
         ap (λ (a : Expression). size a (c .D) n .d) (sym (it .0)),
-        subst (λ (a : Expression). Layer (c .N) n (numerators a c n) after) (sym (it .0))
+        subst (λ (a : Expression). Layer (c .N) n (numeratorCodes a c n) after) (sym (it .0))
             (constant-layer (tuple-count fixed) x y c written),
       ))
 
@@ -240,7 +240,7 @@ module _ {nodes : List Slot} {g : Setting} {masks : List ℕ} {rows : List (List
       (subst (λ (a : Expression). exceedsIn a (c .D) n ≡ false) (it .3) fits) in (
         h .0,
         h .1 ∙ ap (λ (a : Expression). size a (c .D) n .d) (sym (it .3)),
-        subst (λ (a : Expression). Layer (c .N) n (numerators a c n) after) (sym (it .3)) (h .2),
+        subst (λ (a : Expression). Layer (c .N) n (numeratorCodes a c n) after) (sym (it .3)) (h .2),
       ))
 
   module _ {after : List ℕ} {r : Valued} where

@@ -15,13 +15,15 @@ use Rattle.meaning.specs.Tree.{Formula, compare}
 use Rattle.meaning.specs.Meaning.{holds}
 use Rattle.meaning.specs.Size.{size, exceeds}
 use Rattle.meaning.proofs.Tests.{or-left, or-right}
-use Rattle.layers.specs.Layers.{Layer, truth, Written, negatedAt, bothAt}
+use Rattle.layers.specs.Layers.{Layer, truth, WrittenFront, negatedAt, bothAt}
+use Rattle.layers.specs.Held.{LabelReady, LabelDone}
 use Rattle.layers.proofs.Truth.{always-layer, negated-layer, both-layer}
 use Rattle.fractions.specs.declared.Relation as Compared
-use Rattle.fractions.specs.Operations.{relationOf, comparedAt, CompareFits}
+use Rattle.fractions.specs.Operations.{meantRelation, comparedAt, CompareFits}
+use Rattle.fractions.proofs.Meant.{meant-once}
 use Rattle.fractions.proofs.Values.{sides-small, compare-fits, compare-layer}
 use Rattle.trees.specs.Listed as listed
-use Rattle.trees.specs.Listed.{unspelled}
+use Rattle.trees.specs.Listed.{relationRead}
 use Rattle.trees.specs.Need.{need, needIn}
 use Rattle.trees.specs.Ranged.{Ranged}
 use Rattle.trees.specs.Standing.{nodeAt}
@@ -29,16 +31,20 @@ use Rattle.trees.proofs.Once.{spelled-relation}
 use Rattle.trees.proofs.Cases.{FormulaCase, formula-case, formula-place}
 use Rattle.evaluate.specs.declared.Setting.{Setting}
 use Rattle.evaluate.specs.declared.ValuedTwo.{ValuedTwo}
-use Rattle.evaluate.specs.Evaluation.{Fixed, LabelReady, LabelDone}
-use Rattle.evaluate.specs.Evaluation.{FormulaReady, FormulasReady, ExpressionsReady, FormulaDone, FormulasDone}
+use Rattle.evaluate.specs.Evaluation.{Fixed, FormulaReady, FormulasReady, ExpressionsReady, FormulaDone, FormulasDone}
 use Rattle.evaluate.specs.Evaluation.{ExpressionsDone}
 use Rattle.evaluate.proofs.Needing.{need-some, needIn-some, paired-two, room-of}
 use Rattle.evaluate.proofs.Fixing.{to-chain, tuple-count}
 
+-- the contract of `relation_of` leaves one result
+pub relation-once : (r : Spelled.Relation) (x y : Compared.Relation) → meantRelation x ≡ relationRead r →
+    meantRelation y ≡ relationRead r → x ≡ y
+relation-once r x y p q = meant-once x y (p ∙ sym q)
+
 -- the relation that the code found for a comparison's node is the comparison's
-pub relation-is : (x : Compared.Relation) {r : Spelled.Relation} (e : Relation) → relationOf x ≡ unspelled r →
-    r ≡ listed.relationOf e → relationOf x ≡ e
-relation-is x e p q = p ∙ ap unspelled q ∙ spelled-relation e
+pub relation-is : (x : Compared.Relation) {r : Spelled.Relation} (e : Relation) → meantRelation x ≡ relationRead r →
+    r ≡ listed.relationSpelled e → meantRelation x ≡ e
+relation-is x e p q = p ∙ ap relationRead q ∙ spelled-relation e
 
 module _ {nodes : List Slot} {g : Setting} {masks : List ℕ} {rows : List (List ℕ)} {at : ℕ} {w : List ℕ}
     (ready : FormulaReady nodes g masks rows at w) where
@@ -53,7 +59,7 @@ module _ {nodes : List Slot} {g : Setting} {masks : List ℕ} {rows : List (List
       omega arith
 
   -- what a label asks
-  pub label-ready : (l i : ℕ) → nodeAt nodes at ≡ Label l i → LabelReady g masks l i w
+  pub label-ready : (l i : ℕ) → nodeAt nodes at ≡ Label l i → LabelReady (g .states) (g .variables) (g .tuples) l i w
   label-ready l i e =
       let it = formula-case nodes at (Label l i) e (ready .stands) in
       let range = subst (λ (f : Formula). Ranged (g .variables) f) (it .0) (ready .ranged) in
@@ -132,7 +138,7 @@ module _ {nodes : List Slot} {g : Setting} {masks : List ℕ} {rows : List (List
   -- what comparing asks, of the layers and the denominators of the two expressions
   pub comparing-ready : (r : Spelled.Relation) → nodeAt nodes at ≡ Compare r → {mid : List ℕ} {two : ValuedTwo} →
       ExpressionsDone nodes g masks rows (at + 1) mid two → length mid ≡ length w → (x : Compared.Relation) →
-      relationOf x ≡ unspelled r →
+      meantRelation x ≡ relationRead r →
       CompareFits (two .first) (two .second) (g .tuples) mid
   unfolding need
   comparing-ready r e {mid} {two} done long x spelled =
@@ -165,7 +171,7 @@ module _ {nodes : List Slot} {g : Setting} {masks : List ℕ} {rows : List (List
   }
 
   -- `true`
-  pub true-done : nodeAt nodes at ≡ True → {before after : List ℕ} → Written (g .tuples) (λ k. 1) before after →
+  pub true-done : nodeAt nodes at ≡ True → {before after : List ℕ} → WrittenFront (g .tuples) (λ k. 1) before after →
       FormulaDone nodes g masks rows at after (at + 1)
   unfolding holds
   true-done e {after = after} written = formula-done True e
@@ -176,7 +182,7 @@ module _ {nodes : List Slot} {g : Setting} {masks : List ℕ} {rows : List (List
       ))
 
   -- a label
-  pub label-done : (l i : ℕ) → nodeAt nodes at ≡ Label l i → {after : List ℕ} → LabelDone g masks l i after →
+  pub label-done : (l i : ℕ) → nodeAt nodes at ≡ Label l i → {after : List ℕ} → LabelDone (g .states) (g .variables) masks l i after →
       FormulaDone nodes g masks rows at after (at + 1)
   unfolding holds
   label-done l i e {after} done = formula-done (Label l i) e
@@ -189,7 +195,7 @@ module _ {nodes : List Slot} {g : Setting} {masks : List ℕ} {rows : List (List
 
   -- not
   pub not-done : nodeAt nodes at ≡ Not → {mid after : List ℕ} {r : ℕ} → FormulaDone nodes g masks rows (at + 1) mid r →
-      Written (g .tuples) (negatedAt mid) mid after → FormulaDone nodes g masks rows at after r
+      WrittenFront (g .tuples) (negatedAt mid) mid after → FormulaDone nodes g masks rows at after r
   unfolding holds exceeds
   not-done e {after = after} done written = formula-done Not e
       (λ c f q fixed it fits.
@@ -202,7 +208,7 @@ module _ {nodes : List Slot} {g : Setting} {masks : List ℕ} {rows : List (List
 
   -- and
   pub and-done : nodeAt nodes at ≡ And → {mid after : List ℕ} {r : ℕ} → FormulasDone nodes g masks rows (at + 1) mid r →
-      Written (g .tuples) (bothAt (g .tuples) mid) mid after → FormulaDone nodes g masks rows at after r
+      WrittenFront (g .tuples) (bothAt (g .tuples) mid) mid after → FormulaDone nodes g masks rows at after r
   unfolding holds exceeds
   and-done e {after = after} done written = formula-done And e
       (λ c f q fixed it fits.
@@ -220,8 +226,8 @@ module _ {nodes : List Slot} {g : Setting} {masks : List ℕ} {rows : List (List
   -- a comparison
   pub compare-done : (r : Spelled.Relation) → nodeAt nodes at ≡ Compare r → {mid after : List ℕ} {two : ValuedTwo} →
       ExpressionsDone nodes g masks rows (at + 1) mid two →
-      (x : Compared.Relation) → relationOf x ≡ unspelled r →
-      Written (g .tuples) (comparedAt x (two .first) (two .second) (g .tuples) mid) mid after →
+      (x : Compared.Relation) → meantRelation x ≡ relationRead r →
+      WrittenFront (g .tuples) (comparedAt x (two .first) (two .second) (g .tuples) mid) mid after →
       FormulaDone nodes g masks rows at after (two .next)
   compare-done r e {mid} {after} {two} done x spelled written = formula-done (Compare r) e
       (λ c f q fixed it fits.
@@ -229,11 +235,11 @@ module _ {nodes : List Slot} {g : Setting} {masks : List ℕ} {rows : List (List
       let small = sides-small (it .0) (it .1) (it .2) (c .D) n
       (subst (λ (f : Formula). exceeds f (c .D) n ≡ false) (it .4) fits) in
       let h = done .each c (it .1) (it .2) (it .3) q fixed (it .6) (it .7) (small .0) (small .1) in
-      let w₁ = subst (λ (d : ℕ). Written (g .tuples) (comparedAt x d (two .second) (g .tuples) mid) mid after) (h .1)
+      let w₁ = subst (λ (d : ℕ). WrittenFront (g .tuples) (comparedAt x d (two .second) (g .tuples) mid) mid after) (h .1)
       written in
-      let w₂ = subst (λ (d : ℕ). Written (g .tuples) (comparedAt x (size (it .1) (c .D) n .d) d (g .tuples) mid) mid
+      let w₂ = subst (λ (d : ℕ). WrittenFront (g .tuples) (comparedAt x (size (it .1) (c .D) n .d) d (g .tuples) mid) mid
       after) (h .2) w₁ in
-      let is : compare (relationOf x) (it .1) (it .2) ≡ f = ap (λ (e : Relation). compare e (it .1) (it .2))
+      let is : compare (meantRelation x) (it .1) (it .2) ≡ f = ap (λ (e : Relation). compare e (it .1) (it .2))
       (relation-is x (it .0) spelled (it .5)) ∙ sym (it .4) in (
         h .0,
         subst (λ (f : Formula). Layer (c .N) n (truth (λ t. holds f c n t)) after) is

@@ -3,7 +3,6 @@ pub mod Places
 pub mod Surveying
 pub mod Needing
 pub mod Fixing
-pub mod Swapping
 pub mod Operands
 pub mod Others
 pub mod Formulas

@@ -8,7 +8,7 @@ use lib.ListN.{length, take, drop}
 use lib.ListN.{length-drop}
 use Rattle.sentence.specs.declared.Slot.{Slot}
 use Rattle.meaning.specs.Chain.{Tuple}
-use Rattle.layers.specs.Layers.{Layer}
+use Rattle.layers.specs.Layers.{Layer, Swapped}
 use Rattle.layers.proofs.Tails.{Back, lent-tail}
 use Rattle.trees.specs.Need.{paired, need, needIn}
 use Rattle.trees.specs.Standing.{FormulaAt, ExpressionAt}
@@ -16,14 +16,14 @@ use Rattle.trees.proofs.Cases.{formula-place, expression-place}
 use Rattle.evaluate.specs.declared.Setting.{Setting}
 use Rattle.evaluate.specs.declared.Valued.{Valued}
 use Rattle.evaluate.specs.declared.survey.Extent.{Extent}
-use Rattle.evaluate.specs.Surveys.{Surveyed}
-use Rattle.evaluate.specs.Evaluation.{Swapped, FormulaReady, FormulasReady, ExpressionReady}
+use Rattle.evaluate.specs.Surveys.{TreeSurveyed}
+use Rattle.evaluate.specs.Evaluation.{FormulaReady, FormulasReady, ExpressionReady}
 use Rattle.evaluate.specs.Evaluation.{ExpressionsReady}
 use Rattle.evaluate.specs.Evaluation.{FormulaDone, FormulasDone, ExpressionDone, ExpressionsDone}
 use Rattle.evaluate.proofs.Needing.{need-some, needIn-some, paired-first, paired-second, paired-smaller}
 use Rattle.evaluate.proofs.Needing.{paired-smaller-first, paired-two, room-of, room-past}
 use Rattle.evaluate.proofs.Fixing.{tuple-count}
-use Rattle.evaluate.proofs.Swapping.{front-swapped, next-swapped}
+use Rattle.layers.proofs.Swapping.{front-swapped, next-swapped}
 
 -- ---- the layers
 
@@ -110,7 +110,7 @@ module _ {nodes : List Slot} {g : Setting} {masks : List ℕ} {rows : List (List
   first-formula-whole = first-formula (room-of (g .tuples) (paired-first (need (ready .first)) (need (ready .second)))
       (ready .room))
 
-  module _ {one : Extent} (s : Surveyed nodes at one) where
+  module _ {one : Extent} (s : TreeSurveyed nodes at one) where
     second-formula : {v : List ℕ} → need (ready .second) * g .tuples ≤ length v →
         FormulaReady nodes g masks rows (one .next) v
     second-formula room = record {
@@ -130,7 +130,7 @@ module _ {nodes : List Slot} {g : Setting} {masks : List ℕ} {rows : List (List
     second-formula-whole = second-formula (room-of (g .tuples)
         (paired-second (need (ready .first)) (need (ready .second))) (ready .room))
 
-    module _ {two : Extent} (s′ : Surveyed nodes (one .next) two) (mid : List ℕ) (same : length mid ≡ length w) where
+    module _ {two : Extent} (s′ : TreeSurveyed nodes (one .next) two) (mid : List ℕ) (same : length mid ≡ length w) where
       -- the second past the front layer, where it needs no more layers
       pub second-formula-past : two .layers ≤ one .layers →
           FormulaReady nodes g masks rows (one .next) (take (length mid - g .tuples) (drop (g .tuples) mid))
@@ -146,7 +146,7 @@ module _ {nodes : List Slot} {g : Setting} {masks : List ℕ} {rows : List (List
           (g .tuples) (ready .room) mid same h)
 
 module _ {nodes : List Slot} {g : Setting} {masks : List ℕ} {rows : List (List ℕ)} {at : ℕ} {one : Extent}
-    (s : Surveyed nodes at one)
+    (s : TreeSurveyed nodes at one)
     {mid lent after : List ℕ} {r1 r2 : ℕ} (back : Back (g .tuples) mid lent after) where
   -- both, where the first was evaluated first
   pub formulas-in-order : FormulaDone nodes g masks rows at mid r1 →
@@ -202,7 +202,7 @@ module _ {nodes : List Slot} {g : Setting} {masks : List ℕ} {rows : List (List
   first-expression-whole = first-expression
       (room-of (g .tuples) (paired-first (needIn (ready .first)) (needIn (ready .second))) (ready .room))
 
-  module _ {one : Extent} (s : Surveyed nodes at one) where
+  module _ {one : Extent} (s : TreeSurveyed nodes at one) where
     second-expression : {v : List ℕ} → needIn (ready .second) * g .tuples ≤ length v →
         ExpressionReady nodes g masks rows (one .next) v
     second-expression room = record {
@@ -222,7 +222,7 @@ module _ {nodes : List Slot} {g : Setting} {masks : List ℕ} {rows : List (List
     second-expression-whole = second-expression
         (room-of (g .tuples) (paired-second (needIn (ready .first)) (needIn (ready .second))) (ready .room))
 
-    module _ {two : Extent} (s′ : Surveyed nodes (one .next) two) (mid : List ℕ) (same : length mid ≡ length w) where
+    module _ {two : Extent} (s′ : TreeSurveyed nodes (one .next) two) (mid : List ℕ) (same : length mid ≡ length w) where
       -- the second past the front layer, where it needs no more layers
       pub second-expression-past : two .layers ≤ one .layers →
           ExpressionReady nodes g masks rows (one .next) (take (length mid - g .tuples) (drop (g .tuples) mid))
@@ -238,7 +238,7 @@ module _ {nodes : List Slot} {g : Setting} {masks : List ℕ} {rows : List (List
           (ready .follows) (g .tuples) (ready .room) mid same h)
 
 module _ {nodes : List Slot} {g : Setting} {masks : List ℕ} {rows : List (List ℕ)} {at : ℕ} {one : Extent}
-    (s : Surveyed nodes at one)
+    (s : TreeSurveyed nodes at one)
     {mid lent after : List ℕ} {r1 r2 : Valued} (back : Back (g .tuples) mid lent after) where
   -- both, where the first was evaluated first
   pub expressions-in-order : ExpressionDone nodes g masks rows at mid r1 →

@@ -1,5 +1,4 @@
--- A node of another kind: no tree of the kind that is asked for stands there, so that nothing is said of its evaluation.
--- Assumes nothing.
+-- A node of another kind: no tree of the kind that is asked for stands there, so that its evaluation is unspecified.
 use Prim.Native.Nat.{ℕ}
 use mathlib.Core.Bool.{not}
 use mathlib.Core.List.{List, [], _∷_}

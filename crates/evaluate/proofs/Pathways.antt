@@ -14,12 +14,12 @@ use Rattle.sentence.specs.declared.Node.the-variants.{Next, Until}
 use Rattle.meaning.specs.Chain.{Chain}
 use Rattle.meaning.specs.Tree.{PathFormula, next, until}
 use Rattle.meaning.specs.Meaning.{holds, numerator, denominator}
-use Rattle.meaning.specs.Size.{exceeds, exceedsFrom}
+use Rattle.meaning.specs.Size.{sizeLimit, exceeds, exceedsFrom}
 use Rattle.meaning.proofs.Tests.{or-left, or-right}
 use Rattle.layers.specs.Layers.{Layer}
-use Rattle.layers.specs.Steps.{StepFits, Stepped}
-use Rattle.layers.specs.Untils.{UntilFits, UntilTaken}
-use Rattle.layers.proofs.Paths.{truth-small, next-layer, until-layer}
+use Rattle.steps.specs.Steps.{StepFits, Stepped}
+use Rattle.untils.specs.Untils.{UntilFits, UntilTaken}
+use Rattle.untils.proofs.Paths.{truth-small, next-layer, until-layer}
 use Rattle.trees.specs.Need.{paired, need, needFrom}
 use Rattle.trees.specs.Ranged.{RangedFrom}
 use Rattle.trees.specs.Standing.{nodeAt}
@@ -44,10 +44,10 @@ module _ {nodes : List Slot} {g : Setting} {masks : List ℕ} {rows : List (List
       omega arith
 
   -- the chain's D is the setting's, so the path's denominator is at most 2^62 by it
-  setting-small : (p : PathFormula) → ready .path ≡ p → denominator p (g .d) (g .variables) ≤ 2 ^ 62
+  setting-small : (p : PathFormula) → ready .path ≡ p → denominator p (g .d) (g .variables) ≤ sizeLimit
   setting-small p e =
       le-trans (le-of-eq (ap (λ (D : ℕ). denominator p D (g .variables)) (sym (ready .fixed .sums))))
-      (subst (λ (p : PathFormula). denominator p (ready .chain .D) (g .variables) ≤ 2 ^ 62) e (ready .small))
+      (subst (λ (p : PathFormula). denominator p (ready .chain .D) (g .variables) ≤ sizeLimit) e (ready .small))
 
   module _ (e : nodeAt nodes at ≡ Next) where
     -- what the formula of a next asks
@@ -69,7 +69,7 @@ module _ {nodes : List Slot} {g : Setting} {masks : List ℕ} {rows : List (List
         }
 
     -- the denominator's factors
-    pub next-scales : (1 ≤ g .d) × (1 * g .d ^ g .variables ≤ 2 ^ 62)
+    pub next-scales : (1 ≤ g .d) × (1 * g .d ^ g .variables ≤ sizeLimit)
     unfolding denominator
     next-scales =
         let it = path-case nodes at Next e (ready .stands) in (
@@ -101,7 +101,7 @@ module _ {nodes : List Slot} {g : Setting} {masks : List ℕ} {rows : List (List
           bound = 1;
           small = λ k l. truth-small (λ t. holds (under .formula) c n t) (h .1) k (omega arith);
           fits = le-trans (le-of-eq (mul-one (c .D ^ n)))
-              (subst (λ (p : PathFormula). denominator p (c .D) n ≤ 2 ^ 62) (it .1) (ready .small));
+              (subst (λ (p : PathFormula). denominator p (c .D) n ≤ sizeLimit) (it .1) (ready .small));
         }
 
   module _ (k1 k2 : ℕ) (e : nodeAt nodes at ≡ Until k1 k2) where
@@ -143,7 +143,7 @@ module _ {nodes : List Slot} {g : Setting} {masks : List ℕ} {rows : List (List
     until-times = mul-le-mul (ready .few) (window .1)
 
     -- the denominator's factors
-    pub until-scales : (1 ≤ g .d) × (1 * g .d ^ (g .variables * k2) ≤ 2 ^ 62)
+    pub until-scales : (1 ≤ g .d) × (1 * g .d ^ (g .variables * k2) ≤ sizeLimit)
     unfolding denominator
     until-scales =
         let it = path-case nodes at (Until k1 k2) e (ready .stands) in (
@@ -177,7 +177,7 @@ module _ {nodes : List Slot} {g : Setting} {masks : List ℕ} {rows : List (List
           chain = c;
           holds = ready .fixed .held;
           weighed = ready .fixed .weighed;
-          sum = ready .fixed .sums;
+          sums = ready .fixed .sums;
           sizes = ready .fixed .sizes;
           room = omega arith;
           ones = λ k l. le-trans (le-of-eq (sym (getD-drop (g .tuples) mid k 0)))

@@ -5,6 +5,7 @@ use mathlib.Core.Path.{_≡_}
 use native.Mathlib.Omega.{arith}
 use mir.Syntax.{w64}
 use mir.Val.{Fits}
+use Rattle.meaning.specs.Size.{sizeLimit}
 
 -- from a node to the place after it
 module _ (at t : ℕ) (inside : at < 64) (measure : 3 * (64 - at) ≡ t) where
@@ -37,7 +38,7 @@ pub place-fits : (at : ℕ) → at < 64 → Fits w64 (at * 12)
 place-fits at h = record { fits = omega arith }
 
 -- so is what is at most 2^62
-pub small-fits : (x : ℕ) → x ≤ 2 ^ 62 → Fits w64 x
+pub small-fits : (x : ℕ) → x ≤ sizeLimit → Fits w64 x
 small-fits x h = record { fits = omega arith }
 
 -- so is n × k2

@@ -20,7 +20,7 @@ use Rattle.trees.specs.Wanted.{operandCount}
 use Rattle.trees.proofs.Cases.{FormulaCase, ExpressionCase, PathCase, formula-case, expression-case, path-case}
 use Rattle.trees.proofs.Cases.{formula-place, expression-place, path-place}
 use Rattle.evaluate.specs.declared.survey.Extent.{Extent}
-use Rattle.evaluate.specs.Surveys.{Surveyed, SurveyedTwo, layersOfTwo}
+use Rattle.evaluate.specs.Surveys.{TreeSurveyed, TreesSurveyed, layersOfTwo}
 
 -- two operands need at most one more than the larger
 paired-few : (a b : ℕ) → paired a b ≤ max a b + 1
@@ -42,7 +42,7 @@ module _ (slots : List Slot) (at : ℕ) (r : Extent) where
       ((f : Formula) (q : ℕ) → FormulaCase slots at n f q → (r .next ≡ q) × (r .layers ≡ need f)) →
       ((a : Expression) (q : ℕ) → ExpressionCase slots at n a q → (r .next ≡ q) × (r .layers ≡ needIn a)) →
       ((w : PathFormula) (q : ℕ) → PathCase slots at n w q → (r .next ≡ q) × (r .layers ≡ needFrom w)) →
-      Surveyed slots at r
+      TreeSurveyed slots at r
   by-node n e b f a w = record {
     forward = b .forward;
     within = b .within;
@@ -53,7 +53,7 @@ module _ (slots : List Slot) (at : ℕ) (r : Extent) where
   }
 
   -- past the last place no tree stands
-  pub surveyed-past : 64 ≤ at → at ≤ 64 → r .next ≡ at → r .layers ≡ 1 → Surveyed slots at r
+  pub surveyed-past : 64 ≤ at → at ≤ 64 → r .next ≡ at → r .layers ≡ 1 → TreeSurveyed slots at r
   surveyed-past h l e k = record {
     forward = omega arith;
     within = omega arith;
@@ -68,26 +68,26 @@ module _ (slots : List Slot) (at : ℕ) (r : Extent) where
       leaf : Bounded at r
       leaf = record { forward = omega arith; within = omega arith; few = omega arith }
 
-      surveyed-true : nodeAt slots at ≡ True → Surveyed slots at r
+      surveyed-true : nodeAt slots at ≡ True → TreeSurveyed slots at r
       unfolding need
       surveyed-true n = by-node True n leaf (λ f q w. (e ∙ sym (w .1), k ∙ ap need (sym (w .0)))) (λ a q w. absurd w)
           (λ a q w. absurd w)
 
-      surveyed-label : (l i : ℕ) → nodeAt slots at ≡ Label l i → Surveyed slots at r
+      surveyed-label : (l i : ℕ) → nodeAt slots at ≡ Label l i → TreeSurveyed slots at r
       unfolding need
       surveyed-label l i n = by-node (Label l i) n leaf (λ f q w. (e ∙ sym (w .1), k ∙ ap need (sym (w .0))))
           (λ a q w. absurd w) (λ a q w. absurd w)
 
-      surveyed-constant : (a b : ℕ) → nodeAt slots at ≡ Constant a b → Surveyed slots at r
+      surveyed-constant : (a b : ℕ) → nodeAt slots at ≡ Constant a b → TreeSurveyed slots at r
       unfolding needIn
       surveyed-constant a b n = by-node (Constant a b) n leaf (λ f q w. absurd w)
           (λ a q w. (e ∙ sym (w .1), k ∙ ap needIn (sym (w .0)))) (λ a q w. absurd w)
 
-    module _ (s : Surveyed slots (at + 1) r) where
+    module _ (s : TreeSurveyed slots (at + 1) r) where
       one : Bounded at r
       one = record { forward = omega arith; within = s .within; few = omega arith }
 
-      surveyed-not : nodeAt slots at ≡ Not → Surveyed slots at r
+      surveyed-not : nodeAt slots at ≡ Not → TreeSurveyed slots at r
       unfolding need
       surveyed-not n = by-node Not n one
           (λ f q w.
@@ -95,7 +95,7 @@ module _ (slots : List Slot) (at : ℕ) (r : Extent) where
           (h .0, h .1 ∙ ap need (sym (w .1))))
           (λ a q w. absurd w) (λ a q w. absurd w)
 
-      surveyed-probability : nodeAt slots at ≡ Probability → Surveyed slots at r
+      surveyed-probability : nodeAt slots at ≡ Probability → TreeSurveyed slots at r
       unfolding needIn
       surveyed-probability n = by-node Probability n one (λ f q w. absurd w)
           (λ f q w.
@@ -103,18 +103,18 @@ module _ (slots : List Slot) (at : ℕ) (r : Extent) where
           (h .0, h .1 ∙ ap needIn (sym (w .1))))
           (λ a q w. absurd w)
 
-      surveyed-next : nodeAt slots at ≡ Next → Surveyed slots at r
+      surveyed-next : nodeAt slots at ≡ Next → TreeSurveyed slots at r
       unfolding needFrom
       surveyed-next n = by-node Next n one (λ f q w. absurd w) (λ a q w. absurd w)
           (λ f q w.
           let h = s .formula (w .0) q (w .2) in
           (h .0, h .1 ∙ ap needFrom (sym (w .1))))
 
-    module _ (s : SurveyedTwo slots (at + 1) r) where
+    module _ (s : TreesSurveyed slots (at + 1) r) where
       two : Bounded at r
       two = record { forward = omega arith; within = s .within; few = omega arith }
 
-      surveyed-and : nodeAt slots at ≡ And → Surveyed slots at r
+      surveyed-and : nodeAt slots at ≡ And → TreeSurveyed slots at r
       unfolding need
       surveyed-and n = by-node And n two
           (λ f q w.
@@ -122,7 +122,7 @@ module _ (slots : List Slot) (at : ℕ) (r : Extent) where
           (h .0, h .1 ∙ ap need (sym (w .3))))
           (λ a q w. absurd w) (λ a q w. absurd w)
 
-      surveyed-compare : (rel : Spelled.Relation) → nodeAt slots at ≡ Compare rel → Surveyed slots at r
+      surveyed-compare : (rel : Spelled.Relation) → nodeAt slots at ≡ Compare rel → TreeSurveyed slots at r
       unfolding need
       surveyed-compare rel n = by-node (Compare rel) n two
           (λ f q w.
@@ -130,7 +130,7 @@ module _ (slots : List Slot) (at : ℕ) (r : Extent) where
           (h .0, h .1 ∙ ap need (sym (w .4))))
           (λ a q w. absurd w) (λ a q w. absurd w)
 
-      surveyed-sum : nodeAt slots at ≡ Sum → Surveyed slots at r
+      surveyed-sum : nodeAt slots at ≡ Sum → TreeSurveyed slots at r
       unfolding needIn
       surveyed-sum n = by-node Sum n two (λ a q w. absurd w)
           (λ f q w.
@@ -138,7 +138,7 @@ module _ (slots : List Slot) (at : ℕ) (r : Extent) where
           (h .0, h .1 ∙ ap needIn (sym (w .3))))
           (λ a q w. absurd w)
 
-      surveyed-difference : nodeAt slots at ≡ Difference → Surveyed slots at r
+      surveyed-difference : nodeAt slots at ≡ Difference → TreeSurveyed slots at r
       unfolding needIn
       surveyed-difference n = by-node Difference n two (λ a q w. absurd w)
           (λ f q w.
@@ -146,7 +146,7 @@ module _ (slots : List Slot) (at : ℕ) (r : Extent) where
           (h .0, h .1 ∙ ap needIn (sym (w .3))))
           (λ a q w. absurd w)
 
-      surveyed-product : nodeAt slots at ≡ Product → Surveyed slots at r
+      surveyed-product : nodeAt slots at ≡ Product → TreeSurveyed slots at r
       unfolding needIn
       surveyed-product n = by-node Product n two (λ a q w. absurd w)
           (λ f q w.
@@ -155,9 +155,9 @@ module _ (slots : List Slot) (at : ℕ) (r : Extent) where
           (λ a q w. absurd w)
 
 -- an until computes in a third layer
-surveyed-until : (slots : List Slot) (at : ℕ) (t r : Extent) → at < 64 → SurveyedTwo slots (at + 1) t →
+surveyed-until : (slots : List Slot) (at : ℕ) (t r : Extent) → at < 64 → TreesSurveyed slots (at + 1) t →
     r .next ≡ t .next → r .layers ≡ max 3 (t .layers) → (k1 k2 : ℕ) → nodeAt slots at ≡ Until k1 k2 →
-    Surveyed slots at r
+    TreeSurveyed slots at r
 unfolding needFrom
 surveyed-until slots at t r room s e k k1 k2 n = by-node slots at r (Until k1 k2) n
     (record { forward = omega arith; within = omega arith; few = omega arith })
@@ -169,10 +169,10 @@ surveyed-until slots at t r room s e k k1 k2 n = by-node slots at r (Until k1 k2
 -- ---- by what the node wants
 module _ (slots : List Slot) (at : ℕ) (r : Extent) (room : at < 64) where
   -- a node that wants nothing
-  pub surveyed-none : r .next ≡ at + 1 → r .layers ≡ 1 → wantsOf (nodeAt slots at) ≡ Nothing → Surveyed slots at r
+  pub surveyed-none : r .next ≡ at + 1 → r .layers ≡ 1 → wantsOf (nodeAt slots at) ≡ Nothing → TreeSurveyed slots at r
   surveyed-none e k w = by (nodeAt slots at) refl (ap operandCount w)
     where
-      by : (n : Node) → nodeAt slots at ≡ n → operandCount (wantsOf n) ≡ 0 → Surveyed slots at r
+      by : (n : Node) → nodeAt slots at ≡ n → operandCount (wantsOf n) ≡ 0 → TreeSurveyed slots at r
       by True n h = surveyed-true slots at r room e k n
       by (Label l i) n h = surveyed-label slots at r room e k l i n
       by Not n h = absurd (omega arith)
@@ -187,10 +187,10 @@ module _ (slots : List Slot) (at : ℕ) (r : Extent) (room : at < 64) where
       by (Until k1 k2) n h = absurd (omega arith)
 
   -- a node that wants one thing
-  pub surveyed-one : {k : Kind} → Surveyed slots (at + 1) r → wantsOf (nodeAt slots at) ≡ One k → Surveyed slots at r
+  pub surveyed-one : {k : Kind} → TreeSurveyed slots (at + 1) r → wantsOf (nodeAt slots at) ≡ One k → TreeSurveyed slots at r
   surveyed-one s w = by (nodeAt slots at) refl (ap operandCount w)
     where
-      by : (n : Node) → nodeAt slots at ≡ n → operandCount (wantsOf n) ≡ 1 → Surveyed slots at r
+      by : (n : Node) → nodeAt slots at ≡ n → operandCount (wantsOf n) ≡ 1 → TreeSurveyed slots at r
       by True n h = absurd (omega arith)
       by (Label l i) n h = absurd (omega arith)
       by Not n h = surveyed-not slots at r room s n
@@ -205,12 +205,12 @@ module _ (slots : List Slot) (at : ℕ) (r : Extent) (room : at < 64) where
       by (Until k1 k2) n h = absurd (omega arith)
 
   -- a node that wants two
-  pub surveyed-both : {k : Kind} {t : Extent} → SurveyedTwo slots (at + 1) t → r .next ≡ t .next →
-      r .layers ≡ layersOfTwo (nodeAt slots at) (t .layers) → wantsOf (nodeAt slots at) ≡ Two k → Surveyed slots at r
+  pub surveyed-both : {k : Kind} {t : Extent} → TreesSurveyed slots (at + 1) t → r .next ≡ t .next →
+      r .layers ≡ layersOfTwo (nodeAt slots at) (t .layers) → wantsOf (nodeAt slots at) ≡ Two k → TreeSurveyed slots at r
   surveyed-both {t = t} s e l w = by (nodeAt slots at) refl (ap operandCount w) l
     where
       -- what is found of the two is found of the node
-      same : r .layers ≡ t .layers → SurveyedTwo slots (at + 1) r
+      same : r .layers ≡ t .layers → TreesSurveyed slots (at + 1) r
       same l = record {
         forward = let h = s .forward in omega (arith, h, e);
         within = let h = s .within in omega (arith, h, e);
@@ -219,7 +219,7 @@ module _ (slots : List Slot) (at : ℕ) (r : Extent) (room : at < 64) where
         expressions = λ a b m q v w. let h = s .expressions a b m q v w in (e ∙ h .0, l ∙ h .1);
       }
 
-      by : (n : Node) → nodeAt slots at ≡ n → operandCount (wantsOf n) ≡ 2 → r .layers ≡ layersOfTwo n (t .layers) → Surveyed slots at r
+      by : (n : Node) → nodeAt slots at ≡ n → operandCount (wantsOf n) ≡ 2 → r .layers ≡ layersOfTwo n (t .layers) → TreeSurveyed slots at r
       by True n h l = absurd (omega arith)
       by (Label x i) n h l = absurd (omega arith)
       by Not n h l = absurd (omega arith)
@@ -234,8 +234,8 @@ module _ (slots : List Slot) (at : ℕ) (r : Extent) (room : at < 64) where
       by (Until k1 k2) n h l = surveyed-until slots at t r room s e l k1 k2 n
 
 -- two trees, one after another
-pub surveyed-two : (slots : List Slot) (at : ℕ) (a b r : Extent) → Surveyed slots at a → Surveyed slots (a .next) b →
-    r .next ≡ b .next → r .layers ≡ paired (a .layers) (b .layers) → SurveyedTwo slots at r
+pub surveyed-two : (slots : List Slot) (at : ℕ) (a b r : Extent) → TreeSurveyed slots at a → TreeSurveyed slots (a .next) b →
+    r .next ≡ b .next → r .layers ≡ paired (a .layers) (b .layers) → TreesSurveyed slots at r
 surveyed-two slots at a b r s t e k = record {
   forward = omega arith;
   within = omega arith;

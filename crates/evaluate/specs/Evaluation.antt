@@ -1,3 +1,5 @@
+-- Working: what the functions of this crate promise one another. Nothing here has to be believed.
+--
 -- What evaluating a tree's nodes asks and leaves: the front layer of the work area holds, at every tuple, the meaning's
 -- own function of the tree that stands at the place.
 use Prim.Native.Nat.{ℕ, _+_, _*_, _^_, _≤_, _<_}
@@ -5,15 +7,15 @@ use mathlib.Core.Bool.{false}
 use mathlib.Core.List.{List}
 use mathlib.Core.Path.{_≡_}
 use lib.Dec.{eqb}
-use lib.ListN.{length, getD, drop}
+use lib.ListN.{length, drop}
 use Rattle.sentence.specs.declared.Slot.{Slot}
 use Rattle.meaning.specs.Chain.{Chain}
 use Rattle.meaning.specs.Tree.{Formula, Expression, PathFormula}
-use Rattle.meaning.specs.Meaning.{holds, hasLabel, numerator, denominator}
-use Rattle.meaning.specs.Size.{size, exceeds, exceedsIn, exceedsFrom}
+use Rattle.meaning.specs.Meaning.{holds, numerator, denominator}
+use Rattle.meaning.specs.Size.{sizeLimit, size, exceeds, exceedsIn, exceedsFrom}
 use Rattle.layers.specs.Layers.{Layer, truth, bitAt}
-use Rattle.layers.specs.Steps.{Holds, Sizes}
-use Rattle.fractions.specs.Values.{numerators, expressionOf}
+use Rattle.layers.specs.Held.{mostVariables, Holds, LayerSizes}
+use Rattle.fractions.specs.Values.{numeratorCodes, expressionOf}
 use Rattle.fractions.specs.declared.Operation.{Operation}
 use Rattle.trees.specs.Need.{paired, need, needIn, needFrom}
 use Rattle.trees.specs.Ranged.{Ranged, RangedIn, RangedFrom}
@@ -22,34 +24,13 @@ use Rattle.evaluate.specs.declared.Setting.{Setting}
 use Rattle.evaluate.specs.declared.Valued.{Valued}
 use Rattle.evaluate.specs.declared.ValuedTwo.{ValuedTwo}
 
--- the first two layers have changed places
-pub record Swapped (T : ℕ) (before after : List ℕ) : Type 0 where
-  pub long : length after ≡ length before
-  pub first : (k : ℕ) → k < T → getD after k 0 ≡ getD before (T + k) 0
-  pub second : (k : ℕ) → k < T → getD after (T + k) 0 ≡ getD before k 0
-
 -- the chain is the one that the masks and the rows hold, in this setting
 pub record Fixed (c : Chain) (masks : List ℕ) (rows : List (List ℕ)) (g : Setting) : Type 0 where
   pub held : Holds c rows (g .states)
   pub labels : (l s : ℕ) → s < g .states → c .label l s ≡ eqb (bitAt masks l s) 1
   pub sums : c .D ≡ g .d
   pub weighed : 1 ≤ g .d
-  pub sizes : Sizes (g .states) (g .variables) (g .tuples)
-
--- ---- a label
-
--- the label letter and the variable are in their ranges, and there is room for a layer
-pub record LabelReady (g : Setting) (masks : List ℕ) (l variable : ℕ) (w : List ℕ) : Type 0 where
-  pub letter : l < 16
-  pub some : 1 ≤ variable
-  pub bound : variable ≤ g .variables
-  pub sizes : Sizes (g .states) (g .variables) (g .tuples)
-  pub room : g .tuples ≤ length w
-
--- the front layer holds the truth of the label, on whatever chain has the masks' labels
-pub record LabelDone (g : Setting) (masks : List ℕ) (l variable : ℕ) (after : List ℕ) : Type 0 where
-  pub each : (c : Chain) → ((s : ℕ) → s < g .states → c .label l s ≡ eqb (bitAt masks l s) 1) →
-      Layer (g .states) (g .variables) (truth (hasLabel c l variable)) after
+  pub sizes : LayerSizes (g .states) (g .variables) (g .tuples)
 
 -- ---- a node
 
@@ -59,7 +40,7 @@ module _ (nodes : List Slot) (g : Setting) (masks : List ℕ) (rows : List (List
   pub record FormulaReady (at : ℕ) (w : List ℕ) : Type 0 where
     pub chain : Chain
     pub fixed : Fixed chain masks rows g
-    pub few : g .variables ≤ 4
+    pub few : g .variables ≤ mostVariables
     pub formula : Formula
     pub end : ℕ
     pub stands : FormulaAt nodes at formula end
@@ -71,7 +52,7 @@ module _ (nodes : List Slot) (g : Setting) (masks : List ℕ) (rows : List (List
   pub record ExpressionReady (at : ℕ) (w : List ℕ) : Type 0 where
     pub chain : Chain
     pub fixed : Fixed chain masks rows g
-    pub few : g .variables ≤ 4
+    pub few : g .variables ≤ mostVariables
     pub expression : Expression
     pub end : ℕ
     pub stands : ExpressionAt nodes at expression end
@@ -83,20 +64,20 @@ module _ (nodes : List Slot) (g : Setting) (masks : List ℕ) (rows : List (List
   pub record PathReady (at : ℕ) (w : List ℕ) : Type 0 where
     pub chain : Chain
     pub fixed : Fixed chain masks rows g
-    pub few : g .variables ≤ 4
+    pub few : g .variables ≤ mostVariables
     pub path : PathFormula
     pub end : ℕ
     pub stands : PathAt nodes at path end
     pub ranged : RangedFrom (g .variables) path
     pub fits : exceedsFrom path (chain .D) (g .variables) ≡ false
-    pub small : denominator path (chain .D) (g .variables) ≤ 2 ^ 62
+    pub small : denominator path (chain .D) (g .variables) ≤ sizeLimit
     pub room : needFrom path * g .tuples ≤ length w
 
   -- two state formulas, one after another
   pub record FormulasReady (at : ℕ) (w : List ℕ) : Type 0 where
     pub chain : Chain
     pub fixed : Fixed chain masks rows g
-    pub few : g .variables ≤ 4
+    pub few : g .variables ≤ mostVariables
     pub first : Formula
     pub second : Formula
     pub middle : ℕ
@@ -112,7 +93,7 @@ module _ (nodes : List Slot) (g : Setting) (masks : List ℕ) (rows : List (List
   pub record ExpressionsReady (at : ℕ) (w : List ℕ) : Type 0 where
     pub chain : Chain
     pub fixed : Fixed chain masks rows g
-    pub few : g .variables ≤ 4
+    pub few : g .variables ≤ mostVariables
     pub first : Expression
     pub second : Expression
     pub middle : ℕ
@@ -136,7 +117,7 @@ module _ (nodes : List Slot) (g : Setting) (masks : List ℕ) (rows : List (List
     pub each : (c : Chain) (a : Expression) (q : ℕ) → Fixed c masks rows g → ExpressionAt nodes at a q →
         exceedsIn a (c .D) (g .variables) ≡ false →
         (r .next ≡ q) × (r .bottom ≡ size a (c .D) (g .variables) .d) ×
-        Layer (c .N) (g .variables) (numerators a c (g .variables)) after
+        Layer (c .N) (g .variables) (numeratorCodes a c (g .variables)) after
 
   -- a path, likewise
   pub record PathDone (at : ℕ) (after : List ℕ) (r : Valued) : Type 0 where
@@ -159,8 +140,8 @@ module _ (nodes : List Slot) (g : Setting) (masks : List ℕ) (rows : List (List
         ExpressionAt nodes m b q →
         exceedsIn a (c .D) (g .variables) ≡ false → exceedsIn b (c .D) (g .variables) ≡ false →
         (r .next ≡ q) × (r .first ≡ size a (c .D) (g .variables) .d) × (r .second ≡ size b (c .D) (g .variables) .d) ×
-        Layer (c .N) (g .variables) (numerators a c (g .variables)) after ×
-        Layer (c .N) (g .variables) (numerators b c (g .variables)) (drop (g .tuples) after)
+        Layer (c .N) (g .variables) (numeratorCodes a c (g .variables)) after ×
+        Layer (c .N) (g .variables) (numeratorCodes b c (g .variables)) (drop (g .tuples) after)
 
 -- ---- two expressions and what an operation makes of them
 
@@ -176,4 +157,4 @@ module _ (op : Operation) (nodes : List Slot) (g : Setting) (masks : List ℕ) (
         ExpressionAt nodes m b q →
         exceedsIn (expressionOf op a b) (c .D) (g .variables) ≡ false →
         (r .next ≡ q) × (r .bottom ≡ size (expressionOf op a b) (c .D) (g .variables) .d) ×
-        Layer (c .N) (g .variables) (numerators (expressionOf op a b) c (g .variables)) after
+        Layer (c .N) (g .variables) (numeratorCodes (expressionOf op a b) c (g .variables)) after

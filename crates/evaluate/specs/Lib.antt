@@ -1,4 +1,5 @@
--- What the functions of evaluation promise one another. None of it has to be believed: the calls' contracts stand
--- above.
+-- Working: what the functions of this crate promise one another. Nothing here has to be believed.
+--
+-- Surveying and evaluating the nodes of a sentence.
 pub mod Surveys
 pub mod Evaluation

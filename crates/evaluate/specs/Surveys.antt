@@ -1,17 +1,20 @@
+-- Working: what the functions of this crate promise one another. Nothing here has to be believed.
+--
 -- What surveying the nodes of a tree finds: its end, and how many layers its evaluation needs.
 use Prim.Native.Nat.{ℕ, _+_, _≤_, max}
 use mathlib.Core.List.{List}
 use mathlib.Core.Path.{_≡_}
 use Rattle.sentence.specs.declared.Slot.{Slot}
 use Rattle.sentence.specs.declared.Node.{Node}
-use Rattle.sentence.specs.declared.Node.the-variants.{True, Label, Not, And, Compare, Probability, Constant, Sum, Difference, Product, Next, Until}
+use Rattle.sentence.specs.declared.Node.the-variants.{True, Label, Not, And, Compare, Probability, Constant}
+use Rattle.sentence.specs.declared.Node.the-variants.{Sum, Difference, Product, Next, Until}
 use Rattle.meaning.specs.Tree.{Formula, Expression, PathFormula}
 use Rattle.trees.specs.Need.{paired, need, needIn, needFrom}
 use Rattle.trees.specs.Standing.{FormulaAt, ExpressionAt, PathAt}
 use Rattle.evaluate.specs.declared.survey.Extent.{Extent}
 
 -- of whatever tree stands at the place; and bounds that hold of any nodes
-pub record Surveyed (slots : List Slot) (at : ℕ) (r : Extent) : Type 0 where
+pub record TreeSurveyed (slots : List Slot) (at : ℕ) (r : Extent) : Type 0 where
   pub forward : at ≤ r .next
   pub within : r .next ≤ 64
   pub few : r .layers + at ≤ r .next + 3
@@ -20,7 +23,7 @@ pub record Surveyed (slots : List Slot) (at : ℕ) (r : Extent) : Type 0 where
   pub path : (w : PathFormula) (q : ℕ) → PathAt slots at w q → (r .next ≡ q) × (r .layers ≡ needFrom w)
 
 -- of two trees, one after another
-pub record SurveyedTwo (slots : List Slot) (at : ℕ) (r : Extent) : Type 0 where
+pub record TreesSurveyed (slots : List Slot) (at : ℕ) (r : Extent) : Type 0 where
   pub forward : at ≤ r .next
   pub within : r .next ≤ 64
   pub few : r .layers + at ≤ r .next + 4

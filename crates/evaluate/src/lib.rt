@@ -1,8 +1,8 @@
 // Evaluation of a sentence's nodes at all tuples at once: every node has a layer of T numbers of the lent work area, a
 // state formula its truth, an expression its coded numerator, a path its numerator.
 pub mod nodes;
-pub mod plain;
-pub mod survey;
+mod plain;
+mod survey;
 
 // What evaluation is over: N states, n variables, T tuples, and D.
 pub struct Setting {
@@ -19,8 +19,8 @@ pub struct Valued {
 }
 
 // Where the nodes of two expressions end, and their denominators.
-pub struct ValuedTwo {
-    pub next: usize,
-    pub first: u64,
-    pub second: u64,
+struct ValuedTwo {
+    next: usize,
+    first: u64,
+    second: u64,
 }

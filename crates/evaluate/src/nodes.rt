@@ -1,34 +1,36 @@
 // The nodes of a sentence, evaluated: three functions for the three kinds, which call each other with the node count
-// falling. Each evaluates the node at a place, with its own nodes, into the front layer of the work area, and answers the
+// falling. Each evaluates the node at a place, with its own nodes, into the front layer of the work area, and returns the
 // place after them.
+ghost use mathlib.Core.Path.{_≡_};
 ghost use Rattle.evaluate.specs.Evaluation.{FormulaReady, ExpressionReady, PathReady, FormulasReady, ExpressionsReady, CombinedReady};
 ghost use Rattle.evaluate.specs.Evaluation.{FormulaDone, ExpressionDone, PathDone, FormulasDone, ExpressionsDone, CombinedDone};
 use crate::Setting;
 use crate::Valued;
 use crate::ValuedTwo;
-use crate::plain::label;
 use crate::plain::relation_of;
-use crate::plain::swap;
 use crate::plain::until_within;
 use crate::survey::survey;
 use fractions::Operation;
 use fractions::codes::combine;
 use fractions::codes::compare;
 use fractions::codes::constant;
+use layers::STATES;
 use layers::plain::always;
 use layers::plain::both;
+use layers::plain::label;
 use layers::plain::negated;
-use layers::step::joint_step;
-use layers::until::scaled;
+use layers::plain::swap;
+use layers::power::scaled;
 use sentence::Node;
 use sentence::Slot;
+use steps::joint_step;
 
-// A state formula: its truth at all tuples. Of another node nothing is said.
+// A state formula: its truth at all tuples. Unspecified for other nodes.
 pub fn state_formula(
     nodes: [Slot; 64],
     g: Setting,
-    masks: &[u16; 32],
-    rows: &[[u16; 32]; 32],
+    masks: &[u16; STATES],
+    rows: &[[u16; STATES]; STATES],
     at: usize,
     work: &mut [u64],
 ) -> usize
@@ -43,7 +45,7 @@ pub fn state_formula(
             at + 1
         }
         Node::Label { label: l, variable } => {
-            label(g, masks, l, variable, work);
+            label(masks, l, variable, g.states, g.variables, g.tuples, work);
             at + 1
         }
         Node::Not => {
@@ -70,8 +72,8 @@ pub fn state_formula(
 fn two_formulas(
     nodes: [Slot; 64],
     g: Setting,
-    masks: &[u16; 32],
-    rows: &[[u16; 32]; 32],
+    masks: &[u16; STATES],
+    rows: &[[u16; STATES]; STATES],
     at: usize,
     work: &mut [u64],
 ) -> usize
@@ -91,12 +93,12 @@ fn two_formulas(
     next
 }
 
-// An expression: the code of its numerator at all tuples, and its denominator. Of another node nothing is said.
+// An expression: the code of its numerator at all tuples, and its denominator. Unspecified for other nodes.
 fn expression(
     nodes: [Slot; 64],
     g: Setting,
-    masks: &[u16; 32],
-    rows: &[[u16; 32]; 32],
+    masks: &[u16; STATES],
+    rows: &[[u16; STATES]; STATES],
     at: usize,
     work: &mut [u64],
 ) -> Valued
@@ -121,8 +123,10 @@ fn expression(
     }
 }
 
-// No expression stands here.
-fn nothing(at: usize) -> Valued {
+// What is returned for a node of another kind: the place itself, and 1.
+fn nothing(at: usize) -> Valued
+    ensures { λ r. ⌜ (r .next ≡ at) × (r .bottom ≡ 1) ⌝ }
+{
     Valued {
         next: at,
         bottom: 1,
@@ -134,8 +138,8 @@ fn combined(
     op: Operation,
     nodes: [Slot; 64],
     g: Setting,
-    masks: &[u16; 32],
-    rows: &[[u16; 32]; 32],
+    masks: &[u16; STATES],
+    rows: &[[u16; STATES]; STATES],
     at: usize,
     work: &mut [u64],
 ) -> Valued
@@ -154,8 +158,8 @@ fn combined(
 fn two_expressions(
     nodes: [Slot; 64],
     g: Setting,
-    masks: &[u16; 32],
-    rows: &[[u16; 32]; 32],
+    masks: &[u16; STATES],
+    rows: &[[u16; STATES]; STATES],
     at: usize,
     work: &mut [u64],
 ) -> ValuedTwo
@@ -184,12 +188,12 @@ fn two_expressions(
     }
 }
 
-// A path: its numerator at all tuples, and its denominator. Of another node nothing is said.
+// A path: its numerator at all tuples, and its denominator. Unspecified for other nodes.
 pub fn path(
     nodes: [Slot; 64],
     g: Setting,
-    masks: &[u16; 32],
-    rows: &[[u16; 32]; 32],
+    masks: &[u16; STATES],
+    rows: &[[u16; STATES]; STATES],
     at: usize,
     work: &mut [u64],
 ) -> Valued

@@ -3,14 +3,14 @@
 ghost use mathlib.Core.Path.{_≡_};
 ghost use Prim.Native.Nat.{_+_, _≤_, _<_, max};
 ghost use Rattle.trees.specs.Need.{paired};
-ghost use Rattle.evaluate.specs.Surveys.{Surveyed, SurveyedTwo, layersOfTwo};
+ghost use Rattle.evaluate.specs.Surveys.{TreeSurveyed, TreesSurveyed, layersOfTwo};
 use sentence::Node;
 use sentence::Slot;
 use sentence::Wants;
 use sentence::wants_of;
 
 // Where a node's own nodes end, and the layers that its evaluation needs.
-pub struct Extent {
+pub(crate) struct Extent {
     pub next: usize,
     pub layers: usize,
 }
@@ -43,7 +43,7 @@ fn leaf(at: usize) -> Extent
 // Two operands, one after another.
 fn operands(nodes: [Slot; 64], at: usize) -> Extent
     requires { ⌜ at ≤ 64 ⌝ }
-    ensures { λ r. ⌜ SurveyedTwo nodes at r ⌝ }
+    ensures { λ r. ⌜ TreesSurveyed nodes at r ⌝ }
 {
     let first = survey(nodes, at);
     let second = survey(nodes, first.next);
@@ -54,9 +54,9 @@ fn operands(nodes: [Slot; 64], at: usize) -> Extent
 }
 
 // The survey of the node at a place.
-pub fn survey(nodes: [Slot; 64], at: usize) -> Extent
+pub(crate) fn survey(nodes: [Slot; 64], at: usize) -> Extent
     requires { ⌜ at ≤ 64 ⌝ }
-    ensures { λ r. ⌜ Surveyed nodes at r ⌝ }
+    ensures { λ r. ⌜ TreeSurveyed nodes at r ⌝ }
 {
     if 64 <= at {
         return Extent {

@@ -1,3 +1,3 @@
 -- The laws that the proofs of the exported calls share.
-pub mod Arms
 pub mod Theorems
+pub mod Told

@@ -1,4 +1,4 @@
--- The calls as other languages see them.
+-- The contracts of the exported calls: of those on models, on sentences, and on both.
+pub mod Models
 pub mod Questions
-pub mod Records
 pub mod Sentences

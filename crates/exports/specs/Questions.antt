@@ -1,14 +1,14 @@
--- Verdict and numerator as other languages see them: the code of an answer, and what the lent memory is afterwards.
+-- Verdict and numerator as other languages see them: the contracts of both calls, with the code of a verdict.
 use Prim.Native.Nat.{ℕ}
 use mathlib.Core.List.{List, [], _∷_}
 use mathlib.Core.Path.{_≡_}
 use Rattle.refusal.specs.Answers.{Reply, gives, refuses, numberIn}
 use Rattle.verdict.specs.declared.Answer as Judged
 use Rattle.verdict.specs.declared.Answer.the-variants.{Holds, Fails, Refused}
-use Rattle.verdict.specs.Calls.{VerdictAnswer}
+use Rattle.verdict.specs.Contract.{VerdictEnsures}
 use Rattle.numerator.specs.declared.Answer as Counted
-use Rattle.numerator.specs.Calls.{replyOf, NumeratorAnswer}
-use Rattle.exports.specs.Records.{Coded}
+use Rattle.numerator.specs.Contract.{numeratorReply, NumeratorEnsures}
+use Rattle.codes.specs.Codes.{Coded}
 
 -- the code of what verdict answers: 256 for 'holds', 257 for 'fails', or the refusal's number, which is below both
 unfoldable pub verdictCode : Judged.Answer → ℕ
@@ -17,8 +17,8 @@ verdictCode Fails = 257
 verdictCode (Refused number) = number
 
 -- verdict, exported
-abbrev pub GivesVerdict : (file text before after : List ℕ) → ℕ → Type 0
-GivesVerdict file text before = Coded verdictCode (VerdictAnswer file text before)
+abbrev pub ExportedVerdict : (file text before after : List ℕ) → ℕ → Type 0
+ExportedVerdict file text before = Coded verdictCode (VerdictEnsures file text before)
 
 -- what the two numbers that are lent for the values hold after a reply: the numerator and the denominator, or what they held
 abbrev pub valuesLeft : Reply (ℕ × ℕ) → List ℕ → List ℕ
@@ -28,8 +28,8 @@ valuesLeft (refuses number) before = before
 -- numerator, exported: what numerator ensures of the file, the text, the tuple, the path formula's number and the work area
 -- before and after, of its answer's number, which is 0 where it is no refusal; and the two numbers that are lent for the
 -- values, before and after
-pub record GivesNumerator (file text tuple : List ℕ) (path : ℕ) (before value after value′ : List ℕ) (r : ℕ) : Type 0 where
+pub record ExportedNumerator (file text tuple : List ℕ) (path : ℕ) (before value after value′ : List ℕ) (r : ℕ) : Type 0 where
   pub counted : Counted.Answer
-  pub answer : NumeratorAnswer file text tuple path before counted after
-  pub answered : r ≡ numberIn (replyOf counted)
-  pub value-left : value′ ≡ valuesLeft (replyOf counted) value
+  pub answer : NumeratorEnsures file text tuple path before counted after
+  pub answered : r ≡ numberIn (numeratorReply counted)
+  pub value-left : value′ ≡ valuesLeft (numeratorReply counted) value

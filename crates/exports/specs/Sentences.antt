@@ -1,72 +1,17 @@
--- Sentences as other languages see them: the three numbers that stand for a node, and the record that lent numbers stand for.
+-- Read sentence and write sentence as other languages see them: the contracts of both calls.
 use Prim.Native.Nat.{ℕ}
-use mathlib.Core.Bool.{Bool, true, false, _&&_, not, cond}
-use mathlib.Core.List.{List, [], _∷_}
+use mathlib.Core.List.{List}
 use mathlib.Core.Path.{_≡_}
-use lib.Dec.{leb, eqb}
-use lib.ListN.{getD}
-use Rattle.counting.specs.Below.{table}
 use Rattle.refusal.specs.Answers.{numberIn, filled, replyOf}
-use Rattle.sentence.specs.Record.{slot}
 use Rattle.sentence_reader.specs.Contract.{ReadSentenceEnsures}
 use Rattle.sentence_writer.specs.Contract.{WriteSentenceEnsures}
-use Rattle.sentence.specs.declared.Relation.{Relation}
-use Rattle.sentence.specs.declared.Relation.the-variants.{Less, AtMost, Equal, AtLeast, Greater}
-use Rattle.sentence.specs.declared.Node.{Node}
-use Rattle.sentence.specs.declared.Node.the-variants.{True, Label, Not, And, Compare, Probability, Constant, Sum, Difference, Product, Next, Until}
-use Rattle.sentence.specs.declared.Slot.{Slot}
 use Rattle.sentence.specs.declared.Sentence.{Sentence}
 use Rattle.sentence_reader.specs.declared.SentenceRead.{SentenceRead}
-use Rattle.exports.specs.Records.{Coded, codeOf}
-
--- ---- what read sentence leaves
-
--- the five comparisons: 0 less, 1 at most, 2 equal, 3 at least, 4 greater
-abbrev pub relationCode : Relation → ℕ
-relationCode Less = 0
-relationCode AtMost = 1
-relationCode Equal = 2
-relationCode AtLeast = 3
-relationCode Greater = 4
-
--- a code: a tag and two numbers
-abbrev pub code : ℕ → ℕ → ℕ → List ℕ
-code tag x y = tag ∷ x ∷ y ∷ []
-
--- the code of a node: the node's tag and its numbers, 0 for each that it does not have
-abbrev pub codeOfNode : Node → List ℕ
-codeOfNode True = code 0 0 0
-codeOfNode (Label label variable) = code 1 label variable
-codeOfNode Not = code 2 0 0
-codeOfNode And = code 3 0 0
-codeOfNode (Compare relation) = code 4 (relationCode relation) 0
-codeOfNode Probability = code 5 0 0
-codeOfNode (Constant top bottom) = code 6 top bottom
-codeOfNode Sum = code 7 0 0
-codeOfNode Difference = code 8 0 0
-codeOfNode Product = code 9 0 0
-codeOfNode Next = code 10 0 0
-codeOfNode (Until from to) = code 11 from to
-
--- the codes of a record's 64 places
-abbrev pub codesOf : List Slot → List (List ℕ)
-codesOf nodes = table 64 (λ i. codeOfNode (getD nodes i (slot True) .node))
-
--- the number of letters and the count, in this order
-abbrev pub sentenceHead : Sentence → List ℕ
-sentenceHead s = s .letters ∷ s .count ∷ []
-
--- 1 for a letter that is `E`, else 0
-abbrev pub letterCode : Bool → ℕ
-letterCode true = 1
-letterCode false = 0
-
--- the codes of a record's four letters
-abbrev pub letterCodes : List Bool → List ℕ
-letterCodes exists = table 4 (λ i. letterCode (getD exists i false))
+use Rattle.codes.specs.Codes.{Coded, codeOf, sentenceHead, letterCodes, codesOf}
 
 -- read sentence, exported: the number of what read sentence answers, and the parts of its record
-pub record ReadsSentence (text : List ℕ) (head exists : List ℕ) (codes : List (List ℕ)) (head′ exists′ : List ℕ) (codes′ : List (List ℕ)) (r : ℕ) : Type 0 where
+pub record ExportedReadSentence (text : List ℕ) (head exists : List ℕ) (codes : List (List ℕ)) (head′ exists′ : List ℕ)
+    (codes′ : List (List ℕ)) (r : ℕ) : Type 0 where
   pub read : SentenceRead
   pub answer : ReadSentenceEnsures text read
   pub answered : r ≡ numberIn (replyOf (read .outcome))
@@ -74,50 +19,6 @@ pub record ReadsSentence (text : List ℕ) (head exists : List ℕ) (codes : Lis
   pub exists-left : exists′ ≡ filled (replyOf (read .outcome)) (letterCodes (read .sentence .exists)) exists
   pub codes-left : codes′ ≡ filled (replyOf (read .outcome)) (codesOf (read .sentence .nodes)) codes
 
--- ---- what write sentence takes
-
--- a node that no text spells: there is neither such a letter nor such a digit
-abbrev pub unspelled : Node
-unspelled = Label 255 255
-
--- a label's node; none has a label or a variable above 255
-abbrev pub labelOf : ℕ → ℕ → Node
-labelOf label variable = cond (leb label 255 && leb variable 255) (Label label variable) unspelled
-
--- the comparisons' nodes, in the order of their numbers
-abbrev pub comparisons : List Node
-comparisons = Compare Less ∷ Compare AtMost ∷ Compare Equal ∷ Compare AtLeast ∷ Compare Greater ∷ []
-
--- a comparison's node, by its number; none has a number above 4
-abbrev pub comparisonOf : ℕ → Node
-comparisonOf x = getD comparisons x unspelled
-
--- the nodes of the numbers x and y, in the order of their tags
-abbrev pub nodesByTag : ℕ → ℕ → List Node
-nodesByTag x y =
-    True ∷ labelOf x y ∷ Not ∷ And ∷ comparisonOf x ∷ Probability ∷ Constant x y ∷ Sum ∷ Difference ∷ Product ∷ Next ∷ Until x y ∷ []
-
--- the node of a tag and two numbers; none has a tag above 11
-unfoldable pub nodeOf : ℕ → ℕ → ℕ → Node
-nodeOf tag x y = getD (nodesByTag x y) tag unspelled
-
--- the node that a code stands for
-abbrev pub nodeOfCode : List ℕ → Node
-nodeOfCode c = nodeOf (getD c 0 0) (getD c 1 0) (getD c 2 0)
-
--- the places that 64 codes stand for
-abbrev pub placesOf : List (List ℕ) → List Slot
-placesOf codes = table 64 (λ i. slot (nodeOfCode (getD codes i [])))
-
--- the letters that four numbers stand for: every number but 0 is an `E`
-abbrev pub lettersOf : List ℕ → List Bool
-lettersOf exists = table 4 (λ i. not (eqb (getD exists i 0) 0))
-
--- the record that lent numbers stand for
-abbrev pub sentenceOf : ℕ → ℕ → List ℕ → List (List ℕ) → Sentence
-sentenceOf letters count exists codes =
-    record { letters = letters; exists = lettersOf exists; count = count; nodes = placesOf codes }
-
 -- write sentence, exported
-abbrev pub WritesSentence : Sentence → (before after : List ℕ) → ℕ → Type 0
-WritesSentence s before = Coded codeOf (WriteSentenceEnsures s before)
+abbrev pub ExportedWriteSentence : Sentence → (before after : List ℕ) → ℕ → Type 0
+ExportedWriteSentence s before = Coded codeOf (WriteSentenceEnsures s before)

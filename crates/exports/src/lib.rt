@@ -4,26 +4,14 @@ mod merging;
 mod questions;
 mod sentences;
 
-ghost use mathlib.Core.Path.{_≡_};
-ghost use Rattle.model.specs.Layout.{modelOf};
-ghost use Rattle.exports.specs.Records.{codeOf, ReadsModel, WritesModel};
+ghost use Rattle.exports.specs.Models.{ExportedReadModel, modelOfParts, ExportedWriteModel};
+use codes::written_code;
 use model::Model;
 use model::matrix;
 use refusal::Outcome;
-use refusal::Written;
 
-// The code of a writer's answer: the number of bytes written, or 2^32 plus the refusal's number.
-fn written_code(written: Written) -> u64
-    ensures { λ r. ⌜ r ≡ codeOf written ⌝ }
-{
-    match written {
-        Written::Wrote(size) => size as u64,
-        Written::Refused(number) => 4294967296 + number as u64,
-    }
-}
-
-// Read model: 0, and the model in the three lent parts (N, A and D; the masks; the weights), or the refusal's number
-// with the lent memory as it was.
+// Read model: returns 0 and leaves the model in the three lent parts (N, A and D; the masks; the weights), or returns the
+// refusal's number and leaves the lent memory unchanged.
 #[no_mangle]
 pub extern "C" fn twolsken_read_model(
     file: &[u8],
@@ -31,7 +19,8 @@ pub extern "C" fn twolsken_read_model(
     masks: &mut [u16; 32],
     rows: &mut [[u16; 32]; 32],
 ) -> u32
-    ensures { λ r. ⌜ ReadsModel (now (file .entry)) (now (head .entry)) (now (masks .entry)) (now (rows .entry)) (now (head .exit)) (now (masks .exit)) (now (rows .exit)) r ⌝ }
+    ensures { λ r. ⌜ ExportedReadModel (now (file .entry)) (now (head .entry)) (now (masks .entry)) (now (rows .entry)) (now (head .exit))
+        (now (masks .exit)) (now (rows .exit)) r ⌝ }
 {
     let read = model::reader::read_model(file);
     let outcome = read.outcome;
@@ -40,7 +29,7 @@ pub extern "C" fn twolsken_read_model(
         Outcome::Done => {
             let m = read.model;
             let lent = m.masks;
-            *head = [m.n as u32, m.a as u32, m.d];
+            *head = [m.n, m.a, m.d];
             *masks = lent;
             *rows = matrix::rows_of(m.weights);
             0
@@ -48,23 +37,22 @@ pub extern "C" fn twolsken_read_model(
     }
 }
 
-// Write model: the number of bytes written at the front of the output, or 2^32 plus the refusal's number with the output
-// as it was.
+// Write model, of the three parts that read model leaves (N, A and D; the masks; the weights): returns the number of bytes
+// written at the front of the output, or 2^32 plus the refusal's number, with the output unchanged.
 #[no_mangle]
 pub extern "C" fn twolsken_write_model(
-    n: u8,
-    a: u8,
-    d: u32,
+    head: &[u32; 3],
     masks: &[u16; 32],
     rows: &[[u16; 32]; 32],
     out: &mut [u8],
 ) -> u64
-    ensures { λ r. ⌜ WritesModel (modelOf n a d (now (masks .entry)) (now (rows .entry))) (now (out .entry)) (now (out .exit)) r ⌝ }
+    ensures { λ r. ⌜ ExportedWriteModel (modelOfParts (now (head .entry)) (now (masks .entry)) (now (rows .entry))) (now (out .entry))
+        (now (out .exit)) r ⌝ }
 {
     let m = Model {
-        n: n,
-        a: a,
-        d: d,
+        n: head[0],
+        a: head[1],
+        d: head[2],
         masks: *masks,
         weights: matrix::holding(*rows),
     };

@@ -1,81 +1,17 @@
-// Read sentence and write sentence for other languages: a node is a code of three numbers, a tag and what the node holds
-// (specs/Sentences). Each call is thin over the library's own.
-ghost use mathlib.Core.Path.{_≡_};
-ghost use Rattle.exports.specs.Sentences.{relationCode, codeOfNode, codesOf, letterCode, letterCodes, ReadsSentence, labelOf, comparisonOf, nodeOf, nodeOfCode, placesOf, lettersOf, sentenceOf, unspelled, WritesSentence};
-use crate::written_code;
+// Read sentence and write sentence for other languages: a node is a code of three numbers (the crate `codes`). Each call is thin
+// over the library's own.
+ghost use Rattle.codes.specs.Codes.{sentenceOf};
+ghost use Rattle.exports.specs.Sentences.{ExportedReadSentence, ExportedWriteSentence};
+use codes::codes_of;
+use codes::letter_codes;
+use codes::letters_of;
+use codes::places_of;
+use codes::written_code;
 use refusal::Outcome;
-use sentence::Node;
-use sentence::Relation;
 use sentence::Sentence;
-use sentence::Slot;
 
-// The number of a comparison.
-fn relation_code(relation: Relation) -> u32
-    ensures { λ r. ⌜ r ≡ relationCode relation ⌝ }
-{
-    match relation {
-        Relation::Less => 0,
-        Relation::AtMost => 1,
-        Relation::Equal => 2,
-        Relation::AtLeast => 3,
-        Relation::Greater => 4,
-    }
-}
-
-// The code of a node.
-fn code_of(node: Node) -> [u32; 3]
-    ensures { λ r. ⌜ r ≡ codeOfNode node ⌝ }
-{
-    match node {
-        Node::True => [0, 0, 0],
-        Node::Label { label, variable } => [1, label as u32, variable as u32],
-        Node::Not => [2, 0, 0],
-        Node::And => [3, 0, 0],
-        Node::Compare(relation) => [4, relation_code(relation), 0],
-        Node::Probability => [5, 0, 0],
-        Node::Constant { top, bottom } => [6, top, bottom],
-        Node::Sum => [7, 0, 0],
-        Node::Difference => [8, 0, 0],
-        Node::Product => [9, 0, 0],
-        Node::Next => [10, 0, 0],
-        Node::Until { from, to } => [11, from, to],
-    }
-}
-
-// The codes of a record's places.
-fn codes_of(nodes: [Slot; 64]) -> [[u32; 3]; 64]
-    ensures { λ r. ⌜ r ≡ codesOf nodes ⌝ }
-{
-    let mut codes = [[0; 3]; 64];
-    for i in 0..64 {
-        let slot = nodes[i];
-        let node = slot.node;
-        codes[i] = code_of(node);
-    }
-    codes
-}
-
-// 1 for a letter that is `E`, else 0.
-fn letter_code(exists: bool) -> u8
-    ensures { λ r. ⌜ r ≡ letterCode exists ⌝ }
-{
-    if exists { 1 } else { 0 }
-}
-
-// The codes of a record's letters.
-fn letter_codes(exists: [bool; 4]) -> [u8; 4]
-    ensures { λ r. ⌜ r ≡ letterCodes exists ⌝ }
-{
-    [
-        letter_code(exists[0]),
-        letter_code(exists[1]),
-        letter_code(exists[2]),
-        letter_code(exists[3]),
-    ]
-}
-
-// Read sentence: 0, and the sentence in the three lent parts (the number of letters and the count; the letters; the
-// codes), or the refusal's number with the lent memory as it was.
+// Read sentence: returns 0 and leaves the sentence in the three lent parts (the number of letters and the count; the
+// letters; the codes), or returns the refusal's number and leaves the lent memory unchanged.
 #[no_mangle]
 pub extern "C" fn twolsken_read_sentence(
     text: &[u8],
@@ -83,7 +19,8 @@ pub extern "C" fn twolsken_read_sentence(
     exists: &mut [u8; 4],
     codes: &mut [[u32; 3]; 64],
 ) -> u32
-    ensures { λ r. ⌜ ReadsSentence (now (text .entry)) (now (head .entry)) (now (exists .entry)) (now (codes .entry)) (now (head .exit)) (now (exists .exit)) (now (codes .exit)) r ⌝ }
+    ensures { λ r. ⌜ ExportedReadSentence (now (text .entry)) (now (head .entry)) (now (exists .entry)) (now (codes .entry))
+        (now (head .exit)) (now (exists .exit)) (now (codes .exit)) r ⌝ }
 {
     let read = sentence_reader::read_sentence(text);
     let outcome = read.outcome;
@@ -101,102 +38,8 @@ pub extern "C" fn twolsken_read_sentence(
     }
 }
 
-// The node that no text spells.
-fn no_node() -> Node
-    ensures { λ r. ⌜ r ≡ unspelled ⌝ }
-{
-    Node::Label {
-        label: 255,
-        variable: 255,
-    }
-}
-
-// The node of a label and a variable.
-fn label_of(label: u32, variable: u32) -> Node
-    ensures { λ r. ⌜ r ≡ labelOf label variable ⌝ }
-{
-    if (label <= 255) & (variable <= 255) {
-        Node::Label {
-            label: label as u8,
-            variable: variable as u8,
-        }
-    } else {
-        no_node()
-    }
-}
-
-// The node of a comparison's number.
-fn comparison_of(x: u32) -> Node
-    ensures { λ r. ⌜ r ≡ comparisonOf x ⌝ }
-{
-    match x {
-        0 => Node::Compare(Relation::Less),
-        1 => Node::Compare(Relation::AtMost),
-        2 => Node::Compare(Relation::Equal),
-        3 => Node::Compare(Relation::AtLeast),
-        4 => Node::Compare(Relation::Greater),
-        _ => no_node(),
-    }
-}
-
-// The node of a tag and two numbers.
-fn node_of(tag: u32, x: u32, y: u32) -> Node
-    ensures { λ r. ⌜ r ≡ nodeOf tag x y ⌝ }
-{
-    match tag {
-        0 => Node::True,
-        1 => label_of(x, y),
-        2 => Node::Not,
-        3 => Node::And,
-        4 => comparison_of(x),
-        5 => Node::Probability,
-        6 => Node::Constant { top: x, bottom: y },
-        7 => Node::Sum,
-        8 => Node::Difference,
-        9 => Node::Product,
-        10 => Node::Next,
-        11 => Node::Until { from: x, to: y },
-        _ => no_node(),
-    }
-}
-
-// The node that a code stands for.
-fn node_of_code(code: [u32; 3]) -> Node
-    ensures { λ r. ⌜ r ≡ nodeOfCode code ⌝ }
-{
-    node_of(code[0], code[1], code[2])
-}
-
-// The places that the codes stand for.
-fn places_of(codes: [[u32; 3]; 64]) -> [Slot; 64]
-    ensures { λ r. ⌜ r ≡ placesOf codes ⌝ }
-{
-    let empty = Slot { node: Node::True };
-    let mut nodes = [empty; 64];
-    for place in 0..64 {
-        let code = codes[place];
-        let slot = Slot {
-            node: node_of_code(code),
-        };
-        nodes[place] = slot;
-    }
-    nodes
-}
-
-// The letters that the numbers stand for.
-fn letters_of(exists: [u8; 4]) -> [bool; 4]
-    ensures { λ r. ⌜ r ≡ lettersOf exists ⌝ }
-{
-    [
-        exists[0] != 0,
-        exists[1] != 0,
-        exists[2] != 0,
-        exists[3] != 0,
-    ]
-}
-
-// Write sentence: the number of bytes written at the front of the output, or 2^32 plus the refusal's number with the
-// output as it was.
+// Write sentence: returns the number of bytes written at the front of the output, or 2^32 plus the refusal's number, with
+// the output unchanged.
 #[no_mangle]
 pub extern "C" fn twolsken_write_sentence(
     letters: u64,
@@ -205,7 +48,8 @@ pub extern "C" fn twolsken_write_sentence(
     codes: &[[u32; 3]; 64],
     out: &mut [u8],
 ) -> u64
-    ensures { λ r. ⌜ WritesSentence (sentenceOf letters count (now (exists .entry)) (now (codes .entry))) (now (out .entry)) (now (out .exit)) r ⌝ }
+    ensures { λ r. ⌜ ExportedWriteSentence (sentenceOf letters count (now (exists .entry)) (now (codes .entry))) (now (out .entry))
+        (now (out .exit)) r ⌝ }
 {
     let s = Sentence {
         letters: letters as usize,

@@ -2,3 +2,4 @@
 pub mod Magnitude
 pub mod Operands
 pub mod Values
+pub mod Meant

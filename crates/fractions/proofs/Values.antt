@@ -17,15 +17,15 @@ use Rattle.meaning.specs.Size.{size, addS, mulS, exceeds, exceedsIn, largeSize,
 use Rattle.meaning.proofs.Bounds.{value-within, size-fits, cross-fits, top-fits}
 use Rattle.meaning.proofs.Numbers.{tupleOf, tuple-inside}
 use Rattle.meaning.proofs.Tests.{or-left, or-right}
-use Rattle.layers.specs.Layers.{Layer, truth, Written}
+use Rattle.layers.specs.Layers.{Layer, truth, WrittenFront}
 use Rattle.layers.proofs.Truth.{written-layer}
 use Rattle.fractions.specs.declared.Operation.{Operation}
 use Rattle.fractions.specs.declared.Operation.the-variants.{Sum, Difference, Product}
 use Rattle.fractions.specs.declared.Relation.{Relation}
 use Rattle.fractions.specs.Codes.{coded, decoded}
-use Rattle.fractions.specs.Operations.{over, operated, sized, relationOf, combinedAt, comparedAt}
+use Rattle.fractions.specs.Operations.{over, operated, sized, meantRelation, combinedAt, comparedAt}
 use Rattle.fractions.specs.Operations.{CombineFits, CompareFits}
-use Rattle.fractions.specs.Values.{numerators, expressionOf}
+use Rattle.fractions.specs.Values.{numeratorCodes, expressionOf}
 use Rattle.fractions.proofs.Magnitude.{decoded-coded}
 
 -- ---- the size rule, for an operation
@@ -82,13 +82,13 @@ sides-small r a b D n e = both-small (exceedsIn a D n) (exceedsIn b D n) (largeC
 
 -- the numerator of a path is the code of its probability's numerator
 pub probability-layer : {N n : ℕ} (p : PathFormula) (c : Chain) {w : List ℕ} → Layer N n (numerator p c n) w →
-    Layer N n (numerators (probability p) c n) w
+    Layer N n (numeratorCodes (probability p) c n) w
 unfolding value
 probability-layer p c h = h
 
 pub constant-layer : {N n T : ℕ} → T ≡ N ^ n → (a b : ℕ) (c : Chain) {before after : List ℕ} →
-    Written T (λ k. a) before after →
-    Layer N n (numerators (constant a b) c n) after
+    WrittenFront T (λ k. a) before after →
+    Layer N n (numeratorCodes (constant a b) c n) after
 unfolding value
 constant-layer whole a b c h = written-layer whole h (λ k l. refl)
 
@@ -100,7 +100,7 @@ record Stands (c : Chain) (n : ℕ) (a : Expression) (k x : ℕ) : Type 0 where
   pub small : natAbs (decoded x) ≤ size a (c .D) n .m
 
 stands : (c : Chain) → Sound c → {n k x : ℕ} (a : Expression) → exceedsIn a (c .D) n ≡ false → k < c .N ^ n →
-    x ≡ numerators a c n (tupleOf (c .N) n k) → Stands c n a k x
+    x ≡ numeratorCodes a c n (tupleOf (c .N) n k) → Stands c n a k x
 stands c sound {n} {k} a fits l at =
     let within = value-within a c sound n (tuple-inside (c .N) n k l) in
     let top = ap decoded at ∙
@@ -114,7 +114,7 @@ stands c sound {n} {k} a fits l at =
 -- ---- two layers, of two such expressions
 module _ (c : Chain) (sound : Sound c) {n T : ℕ} (whole : T ≡ c .N ^ n) (a b : Expression)
     (small-a : exceedsIn a (c .D) n ≡ false) (small-b : exceedsIn b (c .D) n ≡ false) {w : List ℕ}
-    (one : Layer (c .N) n (numerators a c n) w) (two : Layer (c .N) n (numerators b c n) (drop T w)) where
+    (one : Layer (c .N) n (numeratorCodes a c n) w) (two : Layer (c .N) n (numeratorCodes b c n) (drop T w)) where
   first : (k : ℕ) → k < T → Stands c n a k (getD w k 0)
   first k l = stands c sound a small-a (omega arith) (one .at k (omega arith))
 
@@ -137,15 +137,15 @@ module _ (c : Chain) (sound : Sound c) {n T : ℕ} (whole : T ≡ c .N ^ n) (a b
   }
 
   pub combine-layer : (op : Operation) {after : List ℕ} →
-      Written T (combinedAt op (size a (c .D) n .d) (size b (c .D) n .d) T w) w after →
-      Layer (c .N) n (numerators (expressionOf op a b) c n) after
+      WrittenFront T (combinedAt op (size a (c .D) n .d) (size b (c .D) n .d) T w) w after →
+      Layer (c .N) n (numeratorCodes (expressionOf op a b) c n) after
   combine-layer op h = written-layer whole h
       (λ k l.
       ap₂ (λ x y. coded (operated op x y .top)) (first k (omega arith) .is) (second k (omega arith) .is) ∙
       ap (λ x. coded (x .top)) (sym (value-of op a b c n (tupleOf (c .N) n k))))
 
   -- what `compare` asks, and what it makes
-  pub compare-fits : (r : Relation) → exceeds (tree.compare (relationOf r) a b) (c .D) n ≡ false → T + T ≤ length w →
+  pub compare-fits : (r : Relation) → exceeds (tree.compare (meantRelation r) a b) (c .D) n ≡ false → T + T ≤ length w →
       CompareFits (size a (c .D) n .d) (size b (c .D) n .d) T w
   compare-fits r small room = record {
     room = room;
@@ -153,20 +153,20 @@ module _ (c : Chain) (sound : Sound c) {n T : ℕ} (whole : T ≡ c .N ^ n) (a b
       first = record {
         small = size-fits b (c .D) n small-b .0;
         size = le-trans (mul-le-mul-right (size b (c .D) n .d) (first k l .small))
-            (cross-fits (relationOf r) a b (c .D) n small .0);
+            (cross-fits (meantRelation r) a b (c .D) n small .0);
       };
       second = record {
         small = size-fits a (c .D) n small-a .0;
         size = le-trans (mul-le-mul-right (size a (c .D) n .d) (second k l .small))
-            (cross-fits (relationOf r) a b (c .D) n small .1);
+            (cross-fits (meantRelation r) a b (c .D) n small .1);
       };
     };
   }
 
   pub compare-layer : (r : Relation) {after : List ℕ} →
-      Written T (comparedAt r (size a (c .D) n .d) (size b (c .D) n .d) T w) w after →
-      Layer (c .N) n (truth (λ s. holds (tree.compare (relationOf r) a b) c n s)) after
+      WrittenFront T (comparedAt r (size a (c .D) n .d) (size b (c .D) n .d) T w) w after →
+      Layer (c .N) n (truth (λ s. holds (tree.compare (meantRelation r) a b) c n s)) after
   unfolding holds
   compare-layer r h = written-layer whole h
       (λ k l.
-      ap₂ (λ x y. cond (compared (relationOf r) x y) 1 0) (first k (omega arith) .is) (second k (omega arith) .is))
+      ap₂ (λ x y. cond (compared (meantRelation r) x y) 1 0) (first k (omega arith) .is) (second k (omega arith) .is))

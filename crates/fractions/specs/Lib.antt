@@ -1,3 +1,5 @@
+-- Working: what the functions of this crate promise one another. Nothing here has to be believed.
+--
 -- Signed numerators.
 pub mod Codes
 pub mod Operations

@@ -1,3 +1,5 @@
+-- Working: what the functions of this crate promise one another. Nothing here has to be believed.
+--
 -- The layers of expressions: at each tuple the code of the value's numerator.
 use Prim.Native.Nat.{ℕ}
 use Rattle.meaning.specs.Chain.{Chain, Tuple}
@@ -8,8 +10,8 @@ use Rattle.fractions.specs.declared.Operation.the-variants.{Sum, Differe
 use Rattle.fractions.specs.Codes.{coded}
 
 -- the code of the numerator of an expression's value
-abbrev pub numerators : Expression → Chain → ℕ → Tuple → ℕ
-numerators a c n s = coded (value a c n s .top)
+abbrev pub numeratorCodes : Expression → Chain → ℕ → Tuple → ℕ
+numeratorCodes a c n s = coded (value a c n s .top)
 
 -- the expression that an operation makes of two
 abbrev pub expressionOf : Operation → Expression → Expression → Expression

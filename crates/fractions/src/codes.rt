@@ -2,9 +2,9 @@
 ghost use mathlib.Core.Path.{_≡_};
 ghost use Prim.Native.Nat.{_≤_};
 ghost use lib.ListN.{length};
-ghost use Rattle.layers.specs.Layers.{Written};
+ghost use Rattle.layers.specs.Layers.{WrittenFront};
 ghost use Rattle.fractions.specs.Codes.{decoded};
-ghost use Rattle.fractions.specs.Operations.{Fits, LayersFit, madeCode, madeAt};
+ghost use Rattle.fractions.specs.Operations.{MakingFits, LayersFit, madeCode, madeAt};
 ghost use Rattle.fractions.specs.Operations.{combinedAt, comparedAt, CombineFits, CompareFits};
 use crate::Making;
 use crate::Operation;
@@ -13,7 +13,7 @@ use crate::signs;
 
 // What is made of the numerators of two codes: the code of a numerator, or 1 where the comparison holds and 0 elsewhere.
 fn made(making: Making, d1: u64, d2: u64, x: u64, y: u64) -> u64
-    requires { ⌜ Fits making d1 d2 (decoded x) (decoded y) ⌝ }
+    requires { ⌜ MakingFits making d1 d2 (decoded x) (decoded y) ⌝ }
     ensures { λ r. ⌜ r ≡ madeCode making d1 d2 (decoded x) (decoded y) ⌝ }
 {
     let a = signs::decode(x);
@@ -27,15 +27,15 @@ fn made(making: Making, d1: u64, d2: u64, x: u64, y: u64) -> u64
 // A constant: the code of its top at every tuple.
 pub fn constant(top: u64, tuples: usize, work: &mut [u64])
     requires { ⌜ tuples ≤ length (now work) ⌝ }
-    ensures { λ r. ⌜ Written tuples (λ k. top) (now (work .entry)) (now (work .exit)) ⌝ }
+    ensures { λ r. ⌜ WrittenFront tuples (λ k. top) (now (work .entry)) (now (work .exit)) ⌝ }
 {
     layers::plain::fill(top, tuples, work);
 }
 
 // What is made of the front layer and the second, into the front layer.
 fn make(making: Making, d1: u64, d2: u64, tuples: usize, work: &mut [u64])
-    requires { ⌜ LayersFit (Fits making d1 d2) tuples (now work) ⌝ }
-    ensures { λ r. ⌜ Written tuples (madeAt making d1 d2 tuples (now (work .entry))) (now (work .entry)) (now (work .exit)) ⌝ }
+    requires { ⌜ LayersFit (MakingFits making d1 d2) tuples (now work) ⌝ }
+    ensures { λ r. ⌜ WrittenFront tuples (madeAt making d1 d2 tuples (now (work .entry))) (now (work .entry)) (now (work .exit)) ⌝ }
 {
     let mut k: usize = 0;
     while k < tuples {
@@ -47,7 +47,7 @@ fn make(making: Making, d1: u64, d2: u64, tuples: usize, work: &mut [u64])
 // Sum, difference or product of the front layer and the second, into the front layer.
 pub fn combine(op: Operation, d1: u64, d2: u64, tuples: usize, work: &mut [u64])
     requires { ⌜ CombineFits op d1 d2 tuples (now work) ⌝ }
-    ensures { λ r. ⌜ Written tuples (combinedAt op d1 d2 tuples (now (work .entry))) (now (work .entry)) (now (work .exit)) ⌝ }
+    ensures { λ r. ⌜ WrittenFront tuples (combinedAt op d1 d2 tuples (now (work .entry))) (now (work .entry)) (now (work .exit)) ⌝ }
 {
     make(Making::Operated(op), d1, d2, tuples, work);
 }
@@ -55,7 +55,7 @@ pub fn combine(op: Operation, d1: u64, d2: u64, tuples: usize, work: &mut [u64])
 // The truth of a comparison of the front layer and the second, into the front layer.
 pub fn compare(relation: Relation, d1: u64, d2: u64, tuples: usize, work: &mut [u64])
     requires { ⌜ CompareFits d1 d2 tuples (now work) ⌝ }
-    ensures { λ r. ⌜ Written tuples (comparedAt relation d1 d2 tuples (now (work .entry))) (now (work .entry)) (now (work .exit)) ⌝ }
+    ensures { λ r. ⌜ WrittenFront tuples (comparedAt relation d1 d2 tuples (now (work .entry))) (now (work .entry)) (now (work .exit)) ⌝ }
 {
     make(Making::Compared(relation), d1, d2, tuples, work);
 }

@@ -1,11 +1,11 @@
 // Fractions: expression numerators as i64, with their sign, over the denominators that the size rule bounds; and layers
 // of their codes.
 pub mod codes;
-pub mod signs;
+mod signs;
 
 ghost use mathlib.Core.Path.{_≡_};
 ghost use Rattle.meaning.specs.Meaning.{related, compared};
-ghost use Rattle.fractions.specs.Operations.{over, operated, relationOf, OperandsFit, CrossesFit};
+ghost use Rattle.fractions.specs.Operations.{over, operated, meantRelation, OperandsFit, CrossesFit};
 
 // The three operations on expressions.
 pub enum Operation {
@@ -23,14 +23,14 @@ pub enum Relation {
     Greater,
 }
 
-// What is made of two numerators: that of an operation, or the truth of a comparison.
-pub enum Making {
+// What to make of two numerators: the numerator of an operation, or the truth of a comparison.
+enum Making {
     Operated(Operation),
     Compared(Relation),
 }
 
-// The numerator of a sum, a difference or a product: of two numerators over their denominators.
-pub fn operate(op: Operation, a: i64, d1: u64, b: i64, d2: u64) -> i64
+// The numerator of the sum, the difference or the product of a / d1 and b / d2.
+pub(crate) fn operate(op: Operation, a: i64, d1: u64, b: i64, d2: u64) -> i64
     requires { ⌜ OperandsFit op a d1 b d2 ⌝ }
     ensures { λ r. ⌜ r ≡ operated op (over a d1) (over b d2) .top ⌝ }
 {
@@ -41,9 +41,9 @@ pub fn operate(op: Operation, a: i64, d1: u64, b: i64, d2: u64) -> i64
     }
 }
 
-// Whether two whole numbers are so related.
-pub fn relate(relation: Relation, a: i64, b: i64) -> bool
-    ensures { λ r. ⌜ r ≡ related (relationOf relation) a b ⌝ }
+// Whether `a` and `b` stand in the relation.
+pub(crate) fn relate(relation: Relation, a: i64, b: i64) -> bool
+    ensures { λ r. ⌜ r ≡ related (meantRelation relation) a b ⌝ }
 {
     match relation {
         Relation::Less => a < b,
@@ -54,10 +54,10 @@ pub fn relate(relation: Relation, a: i64, b: i64) -> bool
     }
 }
 
-// Whether two fractions are so related, by their cross products.
-pub fn compare(relation: Relation, a: i64, d1: u64, b: i64, d2: u64) -> bool
+// Whether a / d1 and b / d2 stand in the relation, by their cross products.
+pub(crate) fn compare(relation: Relation, a: i64, d1: u64, b: i64, d2: u64) -> bool
     requires { ⌜ CrossesFit a d1 b d2 ⌝ }
-    ensures { λ r. ⌜ r ≡ compared (relationOf relation) (over a d1) (over b d2) ⌝ }
+    ensures { λ r. ⌜ r ≡ compared (meantRelation relation) (over a d1) (over b d2) ⌝ }
 {
     relate(relation, signs::cross(a, d2), signs::cross(b, d1))
 }

@@ -1,43 +1,47 @@
 // Signed numerators: their coding in the work area, and the operations within the ends at 2^62.
 ghost use mathlib.Core.Path.{_≡_};
-ghost use Prim.Native.Nat.{_+_, _*_, _^_, _≤_, _<_};
+ghost use Prim.Native.Nat.{_+_, _*_, _≤_, _<_};
 ghost use lib.IntN.{pos, natAbs, _+ℤ_, _-ℤ_, _*ℤ_};
-ghost use Rattle.fractions.specs.Codes.{coded, decoded, Small, CrossFits};
+ghost use Rattle.meaning.specs.Size.{sizeLimit};
+ghost use Rattle.fractions.specs.Codes.{upperHalf, coded, decoded, Small, CrossFits};
+
+// Codes from 2^63 on stand for negative numerators.
+const UPPER: u64 = 9223372036854775808;
 
 // A denominator as a signed number.
 fn signed(x: u64) -> i64
-    requires { ⌜ x < 2 ^ 63 ⌝ }
+    requires { ⌜ x < upperHalf ⌝ }
     ensures { λ r. ⌜ r ≡ pos x ⌝ }
 {
     x as i64
 }
 
 // The sum of two numerators.
-pub fn plus(a: i64, b: i64) -> i64
-    requires { ⌜ natAbs a + natAbs b ≤ 2 ^ 62 ⌝ }
+pub(crate) fn plus(a: i64, b: i64) -> i64
+    requires { ⌜ natAbs a + natAbs b ≤ sizeLimit ⌝ }
     ensures { λ r. ⌜ r ≡ a +ℤ b ⌝ }
 {
     a + b
 }
 
-// Their difference.
-pub fn minus(a: i64, b: i64) -> i64
-    requires { ⌜ natAbs a + natAbs b ≤ 2 ^ 62 ⌝ }
+// The difference of two numerators.
+pub(crate) fn minus(a: i64, b: i64) -> i64
+    requires { ⌜ natAbs a + natAbs b ≤ sizeLimit ⌝ }
     ensures { λ r. ⌜ r ≡ a -ℤ b ⌝ }
 {
     a - b
 }
 
-// Their product.
-pub fn times(a: i64, b: i64) -> i64
-    requires { ⌜ natAbs a * natAbs b ≤ 2 ^ 62 ⌝ }
+// The product of two numerators.
+pub(crate) fn times(a: i64, b: i64) -> i64
+    requires { ⌜ natAbs a * natAbs b ≤ sizeLimit ⌝ }
     ensures { λ r. ⌜ r ≡ a *ℤ b ⌝ }
 {
     a * b
 }
 
 // A cross product: a numerator times the other's denominator.
-pub fn cross(a: i64, d: u64) -> i64
+pub(crate) fn cross(a: i64, d: u64) -> i64
     requires { ⌜ CrossFits a d ⌝ }
     ensures { λ r. ⌜ r ≡ a *ℤ pos d ⌝ }
 {
@@ -45,24 +49,24 @@ pub fn cross(a: i64, d: u64) -> i64
 }
 
 // The code of a numerator.
-pub fn code(x: i64) -> u64
+pub(crate) fn code(x: i64) -> u64
     requires { ⌜ Small x ⌝ }
     ensures { λ r. ⌜ r ≡ coded x ⌝ }
 {
     if x < 0 {
-        9223372036854775808 + ((0 - x) as u64)
+        UPPER + ((0 - x) as u64)
     } else {
         x as u64
     }
 }
 
 // The numerator of a code.
-pub fn decode(x: u64) -> i64
+pub(crate) fn decode(x: u64) -> i64
     ensures { λ r. ⌜ r ≡ decoded x ⌝ }
 {
-    if x < 9223372036854775808 {
+    if x < UPPER {
         x as i64
     } else {
-        0 - ((x - 9223372036854775808) as i64)
+        0 - ((x - UPPER) as i64)
     }
 }

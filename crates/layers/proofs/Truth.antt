@@ -13,7 +13,7 @@ use Rattle.meaning.specs.Chain.{Chain, Tuple}
 use Rattle.meaning.specs.Meaning.{hasLabel}
 use Rattle.meaning.proofs.Laws.{hasLabel-at}
 use Rattle.meaning.proofs.Numbers.{tupleOf, tuple-inside, each-length}
-use Rattle.layers.specs.Layers.{Layer, truth, Written, negatedAt, bothAt, bitAt}
+use Rattle.layers.specs.Layers.{Layer, truth, WrittenFront, negatedAt, bothAt, bitAt}
 use Rattle.layers.proofs.Places.{state-at}
 
 -- a bit is 1 or 0, as the test says
@@ -28,18 +28,18 @@ bit-test x h = by-test (eqb x 1) refl
 
 module _ {N n T : ℕ} (whole : T ≡ N ^ n) {before after : List ℕ} where
   -- numbers that are written by place are a layer where the places are those of the tuples
-  pub written-layer : {f : ℕ → ℕ} {g : Tuple → ℕ} → Written T f before after →
+  pub written-layer : {f : ℕ → ℕ} {g : Tuple → ℕ} → WrittenFront T f before after →
       ((k : ℕ) → k < N ^ n → f k ≡ g (tupleOf N n k)) → Layer N n g after
   written-layer h same = record { at = λ k l. h .each k (omega arith) ∙ same k l }
 
   -- ones are the truth of `true`
-  pub always-layer : Written T (λ k. 1) before after → Layer N n (truth (λ s. true)) after
+  pub always-layer : WrittenFront T (λ k. 1) before after → Layer N n (truth (λ s. true)) after
   always-layer h = written-layer h (λ k l. refl)
 
   -- bits of the masks are the truth of a label
   pub labelled-layer : (c : Chain) (masks : List ℕ) (l i stride : ℕ) → 0 < N → i < n → stride ≡ N ^ (n - suc i) →
       ((s : ℕ) → s < N → c .label l s ≡ eqb (bitAt masks l s) 1) →
-      Written T (λ k. bitAt masks l (k / stride % N)) before after → Layer N n (truth (hasLabel c l (suc i))) after
+      WrittenFront T (λ k. bitAt masks l (k / stride % N)) before after → Layer N n (truth (hasLabel c l (suc i))) after
   labelled-layer c masks l i stride some h e labels w = written-layer w here
     where
       here : (k : ℕ) → k < N ^ n →
@@ -56,7 +56,7 @@ module _ {N n T : ℕ} (whole : T ≡ N ^ n) {before after : List ℕ} where
 
   -- not
   pub negated-layer : (p : Tuple → Bool) → Layer N n (truth p) before →
-      Written T (negatedAt before) before after → Layer N n (truth (λ s. not (p s))) after
+      WrittenFront T (negatedAt before) before after → Layer N n (truth (λ s. not (p s))) after
   negated-layer p h w = written-layer w
       (λ k l. ap (λ (x : ℕ). cond (eqb x 0) 1 0) (h .at k l) ∙ turned (p (tupleOf N n k)))
     where
@@ -66,7 +66,7 @@ module _ {N n T : ℕ} (whole : T ≡ N ^ n) {before after : List ℕ} where
 
   -- and
   pub both-layer : (p q : Tuple → Bool) → Layer N n (truth p) before → Layer N n (truth q) (drop T before) →
-      Written T (bothAt T before) before after →
+      WrittenFront T (bothAt T before) before after →
       Layer N n (truth (λ s. p s && q s)) after
   both-layer p q h h′ w = written-layer w
       (λ k l.

@@ -6,11 +6,11 @@ use native.Mathlib.Omega.{arith}
 use native.Mathlib.Decide.{decLt}
 use lib.ListN.{length, getD, set, drop, length-set, length-drop}
 use lib.Seq.{ext-getD, getD-drop, getD-set-same, getD-set-other}
-use Rattle.layers.specs.Layers.{Kept, Written}
-use Rattle.layers.specs.Untils.{WrittenAt}
+use Rattle.layers.specs.Layers.{RestKept, WrittenFront}
+use Rattle.layers.specs.Layers.{WrittenAt}
 
 -- a number past the first `count` has not changed
-pub kept-at : {count : ℕ} {before after : List ℕ} → Kept count before after → (k : ℕ) → count ≤ k →
+pub kept-at : {count : ℕ} {before after : List ℕ} → RestKept count before after → (k : ℕ) → count ≤ k →
     getD after k 0 ≡ getD before k 0
 kept-at {count} {before} {after} h k l =
     let e : count + (k - count) ≡ k = omega arith in
@@ -22,7 +22,7 @@ kept-at {count} {before} {after} h k l =
 
 -- lists of one length whose numbers from `count` on are the same
 pub kept-from : {count : ℕ} {before after : List ℕ} → length after ≡ length before →
-    ((k : ℕ) → count ≤ k → getD after k 0 ≡ getD before k 0) → Kept count before after
+    ((k : ℕ) → count ≤ k → getD after k 0 ≡ getD before k 0) → RestKept count before after
 kept-from {count} {before} {after} long same = record {
   long = long;
   rest =
@@ -83,7 +83,7 @@ module _ {base count : ℕ} {f : ℕ → ℕ} {before : List ℕ} where
 
 -- the same from the front on
 pub writing-all : {count i : ℕ} {f : ℕ → ℕ} {before after : List ℕ} → Writing 0 count f before i after → count ≤ i →
-    Written count f before after
+    WrittenFront count f before after
 writing-all {after = after} h done = record {
   each = λ k l. ap (λ (x : ℕ). getD after x 0) (omega arith) ∙ h .each k (omega arith);
   kept = kept-from (h .long) (λ k l. h .high k (omega (arith, h .upTo)));

@@ -1,15 +1,18 @@
-// Layers that are filled number by number: zeros, and the truth of the formulas that need no step.
+// Layers that are written number by number: zeros, and the truth of the formulas that need no step.
 ghost use mathlib.Core.Path.{_≡_};
 ghost use mathlib.Core.Bool.{cond};
 ghost use Prim.Native.Nat.{_+_, _/_, _%_, _^_, _≤_, _<_};
 ghost use lib.Dec.{eqb};
 ghost use lib.ListN.{length};
-ghost use Rattle.layers.specs.Layers.{Written, negatedAt, bothAt, bitAt};
+ghost use Rattle.layers.specs.Layers.{WrittenFront, Swapped, negatedAt, bothAt, bitAt};
+ghost use Rattle.layers.specs.Held.{mostStates, LabelReady, LabelDone};
+use crate::STATES;
+use crate::power::scaled;
 
 // Sets the first numbers to one value.
 pub fn fill(value: u64, count: usize, work: &mut [u64])
     requires { ⌜ count ≤ length (now work) ⌝ }
-    ensures { λ r. ⌜ Written count (λ k. value) (now (work .entry)) (now (work .exit)) ⌝ }
+    ensures { λ r. ⌜ WrittenFront count (λ k. value) (now (work .entry)) (now (work .exit)) ⌝ }
 {
     let mut k: usize = 0;
     while k < count {
@@ -21,7 +24,7 @@ pub fn fill(value: u64, count: usize, work: &mut [u64])
 // Sets the first numbers to 0.
 pub fn zero(count: usize, work: &mut [u64])
     requires { ⌜ count ≤ length (now work) ⌝ }
-    ensures { λ r. ⌜ Written count (λ k. 0) (now (work .entry)) (now (work .exit)) ⌝ }
+    ensures { λ r. ⌜ WrittenFront count (λ k. 0) (now (work .entry)) (now (work .exit)) ⌝ }
 {
     fill(0, count, work);
 }
@@ -29,7 +32,7 @@ pub fn zero(count: usize, work: &mut [u64])
 // The truth of `true`: 1 at every tuple.
 pub fn always(tuples: usize, work: &mut [u64])
     requires { ⌜ tuples ≤ length (now work) ⌝ }
-    ensures { λ r. ⌜ Written tuples (λ k. 1) (now (work .entry)) (now (work .exit)) ⌝ }
+    ensures { λ r. ⌜ WrittenFront tuples (λ k. 1) (now (work .entry)) (now (work .exit)) ⌝ }
 {
     fill(1, tuples, work);
 }
@@ -44,16 +47,17 @@ fn bit_of(mask: u16, l: u8) -> u64
 
 // The truth of a label: 1 at the tuples where the state of the variable has bit l in its mask. The variable's state
 // changes every `stride` tuples.
-pub fn labelled(
-    masks: &[u16; 32],
+fn labelled(
+    masks: &[u16; STATES],
     l: u8,
     states: usize,
     stride: usize,
     tuples: usize,
     work: &mut [u64],
 )
-    requires { ⌜ (l < 16) × (1 ≤ states) × (states ≤ 32) × (1 ≤ stride) × (tuples ≤ length (now work)) ⌝ }
-    ensures { λ r. ⌜ Written tuples (λ k. bitAt (now (masks .entry)) l (k / stride % states)) (now (work .entry)) (now (work .exit)) ⌝ }
+    requires { ⌜ (l < 16) × (1 ≤ states) × (states ≤ mostStates) × (1 ≤ stride) × (tuples ≤ length (now work)) ⌝ }
+    ensures { λ r. ⌜ WrittenFront tuples (λ k. bitAt (now (masks .entry)) l (k / stride % states)) (now (work .entry))
+        (now (work .exit)) ⌝ }
 {
     let mut k: usize = 0;
     while k < tuples {
@@ -61,6 +65,23 @@ pub fn labelled(
         work[k] = bit_of(masks[s], l);
         k += 1;
     }
+}
+
+// The truth of label l of a variable's state. The variables after it change before it does: its stride is N to their number.
+pub fn label(
+    masks: &[u16; STATES],
+    l: u8,
+    variable: u8,
+    states: usize,
+    variables: usize,
+    tuples: usize,
+    work: &mut [u64],
+)
+    requires { ⌜ LabelReady states variables tuples l variable (now work) ⌝ }
+    ensures { λ r. ⌜ LabelDone states variables (now (masks .entry)) l variable (now (work .exit)) ⌝ }
+{
+    let stride = scaled(1, states as u64, variables - variable as usize) as usize;
+    labelled(masks, l, states, stride, tuples, work);
 }
 
 // 1 for 0, and 0 for any other number.
@@ -73,7 +94,7 @@ fn other(x: u64) -> u64
 // Not: 1 where the front layer has 0, and 0 elsewhere.
 pub fn negated(tuples: usize, work: &mut [u64])
     requires { ⌜ tuples ≤ length (now work) ⌝ }
-    ensures { λ r. ⌜ Written tuples (negatedAt (now (work .entry))) (now (work .entry)) (now (work .exit)) ⌝ }
+    ensures { λ r. ⌜ WrittenFront tuples (negatedAt (now (work .entry))) (now (work .entry)) (now (work .exit)) ⌝ }
 {
     let mut k: usize = 0;
     while k < tuples {
@@ -92,11 +113,25 @@ fn where_met(x: u64, y: u64) -> u64
 // And: 0 where the second layer has 0, and the front layer's number elsewhere.
 pub fn both(tuples: usize, work: &mut [u64])
     requires { ⌜ tuples + tuples ≤ length (now work) ⌝ }
-    ensures { λ r. ⌜ Written tuples (bothAt tuples (now (work .entry))) (now (work .entry)) (now (work .exit)) ⌝ }
+    ensures { λ r. ⌜ WrittenFront tuples (bothAt tuples (now (work .entry))) (now (work .entry)) (now (work .exit)) ⌝ }
 {
     let mut k: usize = 0;
     while k < tuples {
         work[k] = where_met(work[k], work[tuples + k]);
         k += 1;
+    }
+}
+
+// Exchanges the first two layers.
+pub fn swap(tuples: usize, work: &mut [u64])
+    requires { ⌜ tuples + tuples ≤ length (now work) ⌝ }
+    ensures { λ r. ⌜ Swapped tuples (now (work .entry)) (now (work .exit)) ⌝ }
+{
+    let mut j: usize = 0;
+    while j < tuples {
+        let first = work[j];
+        work[j] = work[tuples + j];
+        work[tuples + j] = first;
+        j += 1;
     }
 }

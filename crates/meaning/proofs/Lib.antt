@@ -10,4 +10,5 @@ pub mod Magnitude
 pub mod Laws
 pub mod Bounds
 pub mod Merging
+pub mod Paths
 pub mod Examples

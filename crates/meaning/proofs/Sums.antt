@@ -1,10 +1,11 @@
 -- The laws of totals over lists: each is said here once, and every other proof cites it.
-use Prim.Native.Nat.{ℕ, suc, _+_, _*_, _≤_}
+use Prim.Native.Nat.{ℕ, zero, suc, _+_, _*_, _≤_}
 use mathlib.Core.Bool.{Bool, true, false, cond}
 use mathlib.Core.List.{List, [], _∷_, _++_, map, flatMap, List·Memᴰ, List·Memᴰ·head, List·Memᴰ·tail}
 use mathlib.Core.Path.{_≡_, refl, sym, ap, _∙_}
 use native.Mathlib.Nat.{mul-comm}
 use native.Mathlib.Omega.{arith}
+use Rattle.counting.specs.Below.{sumBelow}
 use Rattle.meaning.specs.Lists.{below, total, lists}
 
 module _ {A : Type 0} where
@@ -117,6 +118,12 @@ unfolding below total
 total-below f n =
     let r = total-append f (below n) (n ∷ []) in
     omega arith
+
+-- a total over the numbers below n is the sum over them
+pub total-sum : (n : ℕ) (f : ℕ → ℕ) → total f (below n) ≡ sumBelow n f
+unfolding total below sumBelow
+total-sum zero f = refl
+total-sum (suc n) f = total-below f n ∙ ap (λ (x : ℕ). x + f n) (total-sum n f)
 
 -- of terms of which only those that pass a test count: a factor in front
 pub cond-scale : (b : Bool) (k x : ℕ) → cond b (k * x) 0 ≡ k * cond b x 0

@@ -1,5 +1,7 @@
--- Document 01, 'Examples on both sides': M1, M2 and the lines marked *, as claims. Each claim's text stands above it.
-use Prim.Native.Nat.{ℕ}
+-- Document 01, 'Examples on both sides': M1, M2 and the lines marked *, in one table. What a line claims of the definitions of this
+-- crate is `met`; what it claims of files and of texts stands in specs/Examples of `merge` and of `demands`, which has the one
+-- statement over the whole table.
+use Prim.Native.Nat.{ℕ, _/_, _%_, _^_}
 use Prim.Native.String.{String}
 use mathlib.Core.Bool.{Bool, true, false, _&&_, Bool·beq}
 use mathlib.Core.List.{List, [], _∷_}
@@ -15,47 +17,63 @@ use Rattle.meaning.specs.Tree.{PathFormula, next, until, Letter, forAll,
 use Rattle.meaning.specs.Meaning.{Fraction, compared, value, numerator, denominator, verdict}
 use Rattle.meaning.specs.Merging.{merged}
 
--- the chain with these rows, in which the states of the second list have label 0 (`a`) and no other
-chainOf : ℕ → List (List ℕ) → List Bool → Chain
-chainOf D rows a =
+-- ---- the models
+
+-- a model as the document writes it, with A = 1: D, a mask for each state, a row of weights for each state
+pub record Sketch : Type 0 where
+  pub D : ℕ
+  pub masks : List ℕ
+  pub rows : List (List ℕ)
+
+-- M1: N = 2, A = 1, D = 4; masks 0 and 1; rows 3 1 and 0 4
+unfoldable pub M1 : Sketch
+M1 = record { D = 4; masks = 0 ∷ 1 ∷ []; rows = (3 ∷ 1 ∷ []) ∷ (0 ∷ 4 ∷ []) ∷ [] }
+
+-- M2: N = 3, A = 1, D = 4; masks 0, 1, 1; rows 2 1 1, 0 3 1, 0 0 4
+unfoldable pub M2 : Sketch
+M2 = record { D = 4; masks = 0 ∷ 1 ∷ 1 ∷ []; rows = (2 ∷ 1 ∷ 1 ∷ []) ∷ (0 ∷ 3 ∷ 1 ∷ []) ∷ (0 ∷ 0 ∷ 4 ∷ []) ∷ [] }
+
+-- M2 merged: rows 2 2 and 0 4
+unfoldable pub M2merged : Sketch
+M2merged = record { D = 4; masks = 0 ∷ 1 ∷ []; rows = (2 ∷ 2 ∷ []) ∷ (0 ∷ 4 ∷ []) ∷ [] }
+
+-- the chain of a model: label l of a state is bit l of its mask
+unfoldable pub sketched : Sketch → Chain
+sketched m =
     record {
-      N = length rows;
-      D = D;
-      weight = λ s t. getD (getD rows s []) t 0;
-      label = λ l s. eqb l 0 && getD a s false;
+      N = length (m .rows);
+      D = m .D;
+      weight = λ s t. getD (getD (m .rows) s []) t 0;
+      label = λ l s. eqb (getD (m .masks) s 0 / 2 ^ l % 2) 1;
     }
 
--- M1: N = 2, D = 4; masks 0 and 1; rows 3 1 and 0 4
-unfoldable pub M1 : Chain
-unfolding chainOf
-M1 = chainOf 4 ((3 ∷ 1 ∷ []) ∷ (0 ∷ 4 ∷ []) ∷ []) (false ∷ true ∷ [])
+-- two chains are the same: N, D, the weights between states, and which states have label 0, the one that there is
+unfoldable pub sameChain : Chain → Chain → Bool
+sameChain c d =
+    eqb (c .N) (d .N) && eqb (c .D) (d .D) &&
+    every (λ s. every (λ t. eqb (c .weight s t) (d .weight s t)) (below (c .N))) (below (c .N)) &&
+    every (λ s. Bool·beq (c .label 0 s) (d .label 0 s)) (below (c .N))
 
--- M2: N = 3, D = 4; masks 0, 1, 1; rows 2 1 1, 0 3 1, 0 0 4
-unfoldable pub M2 : Chain
-unfolding chainOf
-M2 = chainOf 4 ((2 ∷ 1 ∷ 1 ∷ []) ∷ (0 ∷ 3 ∷ 1 ∷ []) ∷ (0 ∷ 0 ∷ 4 ∷ []) ∷ []) (false ∷ true ∷ true ∷ [])
+-- ---- the lines
 
--- M2 merged by the grouping 0 1 1
-unfoldable pub M2merged : Chain
-M2merged = merged M2 (λ s. getD (0 ∷ 1 ∷ 1 ∷ []) s 0) 2
+-- a line, with the text that the document gives: at a tuple a path has this numerator and denominator; at a tuple an expression is
+-- this fraction; a sentence has this verdict; a model and a grouping merge to a model, or are refused with a number
+pub data Line : Type 0 where
+  fraction : Sketch → String → PathFormula → Tuple → (top bottom : ℕ) → Line
+  worth : Sketch → String → Expression → Tuple → Fraction → Line
+  answer : Sketch → String → List Letter → Formula → Bool → Line
+  merges : Sketch → List ℕ → Sketch → Line
+  refuses : Sketch → List ℕ → ℕ → Line
 
--- a line, with the text that the document gives (the crate `demands` says that it is the text of the tree): at a tuple a path has
--- this numerator and denominator; at a tuple an expression is this fraction; a sentence has this verdict; a chain has these rows
-pub data Claim : Type 0 where
-  fraction : Chain → String → PathFormula → Tuple → (top bottom : ℕ) → Claim
-  worth : Chain → String → Expression → Tuple → Fraction → Claim
-  answer : Chain → String → List Letter → Formula → Bool → Claim
-  rows : Chain → List (List ℕ) → Claim
-
--- the definitions agree with the line
-unfoldable pub met : Claim → Bool
-met (fraction c text p s top bottom) =
-    eqb (numerator p c (length s) s) top && eqb (denominator p (c .D) (length s)) bottom
-met (worth c text e s x) = compared equal (value e c (length s) s) x
-met (answer c text letters body said) = Bool·beq (verdict c letters body) said
-met (rows c weights) =
-    eqb (c .N) (length weights) &&
-    every (λ s. every (λ t. eqb (c .weight s t) (getD (getD weights s []) t 0)) (below (c .N))) (below (c .N))
+-- the definitions of this crate agree with the line; a refusal is one of files, on which they are silent
+unfoldable pub met : Line → Bool
+met (fraction m text p s top bottom) =
+    eqb (numerator p (sketched m) (length s) s) top && eqb (denominator p (m .D) (length s)) bottom
+met (worth m text e s x) = compared equal (value e (sketched m) (length s) s) x
+met (answer m text letters body said) = Bool·beq (verdict (sketched m) letters body) said
+met (merges m grouping result) =
+    sameChain (merged (sketched m) (λ s. getD grouping s 0) (length (result .rows))) (sketched result)
+met (refuses m grouping number) = true
 
 -- `a1`: the state of variable 1 has label 0
 a1 : Formula
@@ -76,9 +94,9 @@ unfolding a2
 Xa2 = probability (next a2)
 
 -- the lines marked *
-unfoldable pub claims : List Claim
+unfoldable pub lines : List Line
 unfolding a1 a2 Xa1 Xa2
-claims =
+lines =
     -- M1, `PXa1`, n = 1: 1/4 at state 0, 4/4 at state 1
     fraction M1 "PXa1" (next a1) (0 ∷ []) 1 4 ∷
     fraction M1 "PXa1" (next a1) (1 ∷ []) 4 4 ∷
@@ -103,7 +121,11 @@ claims =
     -- `A.=PU0,0:TT#1/1;` holds
     answer M1 "A.=PU0,0:TT#1/1;" (forAll ∷ []) (compare equal (probability (until 0 0 always always)) (constant 1 1)) true ∷
     -- M2 with grouping 0 1 1 merges to rows 2 2 and 0 4; `PU0,2:Ta1` at state 0 is 12/16 in both
-    rows M2merged ((2 ∷ 2 ∷ []) ∷ (0 ∷ 4 ∷ []) ∷ []) ∷
+    merges M2 (0 ∷ 1 ∷ 1 ∷ []) M2merged ∷
     fraction M2 "PU0,2:Ta1" (until 0 2 always a1) (0 ∷ []) 12 16 ∷
     fraction M2merged "PU0,2:Ta1" (until 0 2 always a1) (0 ∷ []) 12 16 ∷
+    -- 0 0 1: 13; 0 2 2: 12; 0 1 2 gives the same file back
+    refuses M2 (0 ∷ 0 ∷ 1 ∷ []) 13 ∷
+    refuses M2 (0 ∷ 2 ∷ 2 ∷ []) 12 ∷
+    merges M2 (0 ∷ 1 ∷ 2 ∷ []) M2 ∷
     []

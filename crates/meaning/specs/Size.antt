@@ -28,9 +28,13 @@ size (sum a b) D n = addS (size a D n) (size b D n)
 size (difference a b) D n = addS (size a D n) (size b D n)
 size (product a b) D n = mulS (size a D n) (size b D n)
 
+-- the largest number that the rule lets through
+abbrev pub sizeLimit : ℕ
+sizeLimit = 2 ^ 62
+
 -- the number is above 2^62
 unfoldable pub tooLarge : ℕ → Bool
-tooLarge x = ltb (2 ^ 62) x
+tooLarge x = ltb sizeLimit x
 
 -- an expression's d or m is above 2^62
 unfoldable pub largeSize : Size → Bool

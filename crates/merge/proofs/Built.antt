@@ -10,14 +10,15 @@ use native.Mathlib.Omega.{arith}
 use borrow.Author.Tests.{lt-ltb, le-ltb, ne-eqb}
 use lib.Dec.{ltb, eqb}
 use lib.ListN.{length, getD}
-use Rattle.counting.specs.Below.{sum, every, table}
+use Rattle.counting.specs.Below.{sumBelow, everyBelow, table}
 use Rattle.counting.proofs.Laws.{table-at, table-is, table-same, length-table, every-same, sum-zero}
 use Rattle.model.specs.declared.Model.{Model}
 use Rattle.model.specs.Layout.{maskOf, weightOf, modelOf}
-use Rattle.model.specs.Rows.{fieldsRight, rowsRight}
+use Rattle.model.specs.Rules.{fieldsRight, allAddUp}
 use Rattle.meaning.specs.Merging.{weightInto}
 use Rattle.chain.specs.Of.{chainOf}
-use Rattle.chain.proofs.Totals.{total-sum, sum-first}
+use Rattle.meaning.proofs.Sums.{total-sum}
+use Rattle.chain.proofs.Totals.{sum-first}
 use Rattle.model.proofs.Rightness as right
 use Rattle.chain.proofs.Right as chain
 use Rattle.merge.specs.Groups.{groupOf, groupCount, groupingRight, memberOf, groupsAlike, mergedModel}
@@ -29,14 +30,14 @@ use Rattle.merge.proofs.Stability.{first-alike}
 -- the totals of the states into the groups, over the states below n
 abbrev pub totalsOf : List (List ℕ) → List ℕ → ℕ → List (List ℕ)
 totalsOf rows grouping n =
-    table 32 (λ s. table 32 (λ h. sum n (λ t. cond (eqb (groupOf grouping t) h) (getD (getD rows s []) t 0) 0)))
+    table 32 (λ s. table 32 (λ h. sumBelow n (λ t. cond (eqb (groupOf grouping t) h) (getD (getD rows s []) t 0) 0)))
 
 -- a model's row is no more than 65,535
-module _ (m : Model) (fields : fieldsRight m ≡ true) (adds : rowsRight m ≡ true) where
-  pub row-small : (s : ℕ) → s < 32 → sum (m .n) (weightOf m s) ≤ 65535
+module _ (m : Model) (fields : fieldsRight m ≡ true) (adds : allAddUp m ≡ true) where
+  pub row-small : (s : ℕ) → s < 32 → sumBelow (m .n) (weightOf m s) ≤ 65535
   row-small s l = go (decLt s (m .n))
     where
-      go : Dec (s < m .n) → sum (m .n) (weightOf m s) ≤ 65535
+      go : Dec (s < m .n) → sumBelow (m .n) (weightOf m s) ≤ 65535
       go (yes k) =
           le-trans
           (le-of-eq
@@ -52,7 +53,7 @@ module _ (m : Model) (fields : fieldsRight m ≡ true) (adds : rowsRight m ≡ t
 
 module _ (m : Model) (grouping : List ℕ) (fields : fieldsRight m ≡ true) where
   abbrev sumInto : ℕ → ℕ → ℕ
-  sumInto s h = sum (m .n) (λ t. cond (eqb (groupOf grouping t) h) (weightOf m s t) 0)
+  sumInto s h = sumBelow (m .n) (λ t. cond (eqb (groupOf grouping t) h) (weightOf m s t) 0)
 
   -- a total of the code is a weight into a group
   total-is : (s h : ℕ) → s < 32 → h < 32 →
@@ -67,7 +68,7 @@ module _ (m : Model) (grouping : List ℕ) (fields : fieldsRight m ≡ true) whe
   module _ (grouped : groupingRight (m .n) grouping ≡ true) where
     -- the code's test of the groups is row 13's
     pub alike-built :
-        every (m .n)
+        everyBelow (m .n)
         (λ s.
         pairAlike (m .masks) (totalsOf (m .weights .rows) grouping (m .n)) (groupCount grouping) s
         (memberOf (m .n) grouping (groupOf grouping s))) ≡

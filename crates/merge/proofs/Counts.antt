@@ -6,7 +6,7 @@ use native.Mathlib.Numerals.{add-one}
 use native.Mathlib.Nat.{le-max-left, le-max-right, max-le, le-trans, le-of-eq}
 use native.Mathlib.Omega.{arith}
 use native.Mathlib.Decide.{decLt}
-use Rattle.counting.specs.Below.{sum}
+use Rattle.counting.specs.Below.{sumBelow}
 use Rattle.merge.specs.Groups.{overAll}
 
 pub over-none : (f : ℕ → ℕ) → overAll 0 f ≡ 0
@@ -18,8 +18,8 @@ unfolding overAll
 over-more n f = ap (λ (k : ℕ). overAll k f) (add-one n)
 
 -- what counts of a sum is no more than the whole
-pub sum-part : (n : ℕ) (counts : ℕ → Bool) (f : ℕ → ℕ) → sum n (λ t. cond (counts t) (f t) 0) ≤ sum n f
-unfolding sum
+pub sum-part : (n : ℕ) (counts : ℕ → Bool) (f : ℕ → ℕ) → sumBelow n (λ t. cond (counts t) (f t) 0) ≤ sumBelow n f
+unfolding sumBelow
 sum-part zero counts f = omega arith
 sum-part (suc n) counts f =
     let r = sum-part n counts f in

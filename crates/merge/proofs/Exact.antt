@@ -12,14 +12,15 @@ use Rattle.refusal.specs.Rows.{first}
 use Rattle.refusal.proofs.Laws.{first-later}
 use Rattle.model.specs.declared.Model.{Model}
 use Rattle.model.specs.Layout.{maskOf, fieldsOf}
-use Rattle.model.specs.Rows.{fieldsRight, fileNumber}
+use Rattle.model.specs.Rules.{fieldsRight}
+use Rattle.model.specs.Contract.{fileNumber}
 use Rattle.model.proofs.Rightness.{states-few}
 use Rattle.meaning.specs.Merging.{Grouping, Stable}
 use Rattle.chain.specs.Of.{chainOf}
 use Rattle.chain.proofs.Bits.{bits-same}
 use Rattle.chain.proofs.Accepted.{fields-right}
 use Rattle.merge.specs.Groups.{groupOf, groupCount, groupingRight, groupsAlike}
-use Rattle.merge.specs.Rows.{mergeNumber}
+use Rattle.merge.specs.Contract.{mergeNumber}
 use Rattle.merge.proofs.Grouped.{as-long, grouping-is, grouping-right, count-is}
 use Rattle.merge.proofs.Numbers.{file-accepted, groups-12, groups-13}
 use Rattle.merge.proofs.Shape.{mask-two}

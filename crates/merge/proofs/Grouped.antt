@@ -10,7 +10,7 @@ use native.Mathlib.Omega.{arith}
 use borrow.Author.Tests.{eqb-true, eq-eqb}
 use lib.Dec.{eqb}
 use lib.ListN.{length}
-use Rattle.counting.specs.Below.{every}
+use Rattle.counting.specs.Below.{everyBelow}
 use Rattle.counting.proofs.Laws.{left-of, right-of, every-at, every-all, and-true}
 use Rattle.meaning.specs.Lists.{below}
 use Rattle.meaning.specs.Chain.{Chain}
@@ -24,11 +24,11 @@ use Rattle.merge.proofs.Counts.{over-above, over-least}
 pub as-long : (n : ℕ) (grouping : List ℕ) → groupingRight n grouping ≡ true → length grouping ≡ n
 unfolding groupingRight
 as-long n grouping e =
-    eqb-true (length grouping) n (left-of (eqb (length grouping) n) (every (groupCount grouping) (isUsed grouping)) e)
+    eqb-true (length grouping) n (left-of (eqb (length grouping) n) (everyBelow (groupCount grouping) (isUsed grouping)) e)
 
-pub all-used : (n : ℕ) (grouping : List ℕ) → groupingRight n grouping ≡ true → every (groupCount grouping) (isUsed grouping) ≡ true
+pub all-used : (n : ℕ) (grouping : List ℕ) → groupingRight n grouping ≡ true → everyBelow (groupCount grouping) (isUsed grouping) ≡ true
 unfolding groupingRight
-all-used n grouping e = right-of (eqb (length grouping) n) (every (groupCount grouping) (isUsed grouping)) e
+all-used n grouping e = right-of (eqb (length grouping) n) (everyBelow (groupCount grouping) (isUsed grouping)) e
 
 module _ (c : Chain) (grouping : List ℕ) where
   -- row 12 does not apply: each state has one of the groups 0..M−1, and every group number is used

@@ -1,4 +1,4 @@
--- What is said of merge beside its contract.
+-- Theorems about merge beside its contract.
 pub mod Counts
 pub mod Members
 pub mod Grouped

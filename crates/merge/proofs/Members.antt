@@ -10,17 +10,26 @@ use borrow.Author.Tests.{eqb-true, eq-eqb, lt-ltb, le-ltb, ltb-true}
 use lib.Dec.{ltb, eqb}
 use lib.ListN.{length, getD, drop, length-append, length-drop, List·getD-append}
 use lib.Seq.{getD-drop, getD-append-add}
-use Rattle.counting.specs.Below.{every, table}
+use Rattle.counting.specs.Below.{everyBelow, table}
 use Rattle.counting.proofs.Laws.{same-truth, every-at, table-is, table-at, length-table}
 use Rattle.meaning.specs.Lists.{below, thereIs}
 use Rattle.meaning.specs.Merging.{member}
 use Rattle.meaning.proofs.Tests.{thereIs-found, thereIs-from, below-member, below-has}
 use Rattle.merge.specs.Groups.{groupOf, isUsed, memberOf}
-use Rattle.merge.specs.Working.{First}
+use Rattle.merge.specs.Working.{FirstMember}
 
 module _ (f : ℕ → ℕ) (g : ℕ) where
+  -- the contract of `first_of` leaves one result
+  pub first-once : {n a b : ℕ} → FirstMember f g n a → FirstMember f g n b → a ≡ b
+  first-once {n} {a} {b} h k = here (decLt a b) (decLt b a)
+    where
+      here : Dec (a < b) → Dec (b < a) → a ≡ b
+      here (yes less) other = absurd (k .before a less (h .found (omega (arith, k .within))))
+      here (no less) (yes more) = absurd (h .before b more (k .found (omega (arith, h .within))))
+      here (no less) (no more) = omega arith
+
   -- some state below n has the group exactly if the first one is below n
-  pub used-first : {n r : ℕ} → First f g n r → ltb r n ≡ thereIs (λ s. eqb (f s) g) (below n)
+  pub used-first : {n r : ℕ} → FirstMember f g n r → ltb r n ≡ thereIs (λ s. eqb (f s) g) (below n)
   used-first {n} {r} h = same-truth (ltb r n) (thereIs (λ s. eqb (f s) g) (below n))
       (λ e.
       let less = ltb-true r n e in
@@ -58,12 +67,12 @@ module _ (f : ℕ → ℕ) (g : ℕ) where
       look false e later = later e
 
   -- the first state below n that has the group is its member
-  pub member-first : {n r : ℕ} → First f g n r → r < n → member f g (below n) ≡ r
+  pub member-first : {n r : ℕ} → FirstMember f g n r → r < n → member f g (below n) ≡ r
   unfolding below member
   member-first {n = zero} {r = r} h less = absurd (omega arith)
   member-first {n = suc n} {r = r} h less = go (decLt r n) (λ l. member-first (shorter (omega arith)) l)
     where
-      shorter : r ≤ n → First f g n r
+      shorter : r ≤ n → FirstMember f g n r
       shorter l = record { within = l; before = h .before; found = λ small. h .found less }
 
       go : Dec (r < n) → (r < n → member f g (below n) ≡ r) → member f g (below n ++ (n ∷ [])) ≡ r
@@ -77,7 +86,7 @@ module _ (f : ℕ → ℕ) (g : ℕ) where
 
 -- the first state of a state's group is a state, and is its member
 pub own-first : (n : ℕ) (grouping : List ℕ) (s : ℕ) {g r : ℕ} → s < n → length grouping ≡ n → g ≡ groupOf grouping s →
-    First (groupOf grouping) g (length grouping) r → (r < n) × (memberOf n grouping (groupOf grouping s) ≡ r)
+    FirstMember (groupOf grouping) g (length grouping) r → (r < n) × (memberOf n grouping (groupOf grouping s) ≡ r)
 own-first n grouping s {g} {r} l long e h = go (decLt s r)
   where
     go : Dec (s < r) → (r < n) × (memberOf n grouping (groupOf grouping s) ≡ r)
@@ -88,12 +97,12 @@ own-first n grouping s {g} {r} l long e h = go (decLt s r)
     )
 
 -- where every group below a count is used, the first state of one is a state, and is its member
-module _ (grouping : List ℕ) (count : ℕ) (all : every count (isUsed grouping) ≡ true) (g : ℕ) (few : g < count) where
-  pub first-below : {r : ℕ} → First (groupOf grouping) g (length grouping) r → r < length grouping
+module _ (grouping : List ℕ) (count : ℕ) (all : everyBelow count (isUsed grouping) ≡ true) (g : ℕ) (few : g < count) where
+  pub first-below : {r : ℕ} → FirstMember (groupOf grouping) g (length grouping) r → r < length grouping
   first-below {r} h =
       ltb-true r (length grouping) (used-first (groupOf grouping) g h ∙ every-at count (isUsed grouping) all g few)
 
-  pub first-member : {r : ℕ} → First (groupOf grouping) g (length grouping) r → memberOf (length grouping) grouping g ≡ r
+  pub first-member : {r : ℕ} → FirstMember (groupOf grouping) g (length grouping) r → memberOf (length grouping) grouping g ≡ r
   first-member h = member-first (groupOf grouping) g h (first-below h)
 
 -- a table that was written over the front of a list of one and the same d: f's values below the count, and d from it on

@@ -9,16 +9,17 @@ use native.Mathlib.Omega.{arith}
 use borrow.Author.Tests.{lt-ltb, le-ltb, le-leb, lt-leb, eq-eqb}
 use lib.Dec.{ltb, leb, eqb}
 use lib.ListN.{getD}
-use Rattle.counting.specs.Below.{sum, every, table}
+use Rattle.counting.specs.Below.{sumBelow, everyBelow, table}
 use Rattle.counting.proofs.Laws.{table-at, every-all, and-true}
 use Rattle.model.specs.declared.Model.{Model}
 use Rattle.model.specs.Layout.{maskOf, weightOf}
-use Rattle.model.specs.Rows.{numbersRight, maskRight, weightRight, fieldsRight, rowRight, rowsRight}
+use Rattle.model.specs.Rules.{numbersRight, maskRight, weightRight, fieldsRight, addsUp, allAddUp}
 use Rattle.meaning.specs.Chain.{Sound}
 use Rattle.meaning.specs.Merging.{weightInto, Merged}
 use Rattle.meaning.proofs.Merging.{sound-merged}
 use Rattle.chain.specs.Of.{bit, chainOf}
-use Rattle.chain.proofs.Totals.{total-sum, sum-first}
+use Rattle.meaning.proofs.Sums.{total-sum}
+use Rattle.chain.proofs.Totals.{sum-first}
 use Rattle.model.proofs.Rightness as right
 use Rattle.chain.proofs.Right as chain
 use Rattle.merge.specs.Groups.{groupOf, groupCount, memberOf, groupingRight, groupsAlike, mergedModel}
@@ -117,14 +118,14 @@ module _ (m : Model) (grouping : List ℕ) (fields : fieldsRight m ≡ true) (gr
         }
 
     -- its rows add up to D, over all 32 columns
-    pub rows-merged : rowsRight m ≡ true → rowsRight (mergedModel m grouping) ≡ true
-    unfolding rowsRight Sound mergedModel
+    pub rows-merged : allAddUp m ≡ true → allAddUp (mergedModel m grouping) ≡ true
+    unfolding allAddUp Sound mergedModel
     rows-merged adds =
-        every-all 32 (λ s. leb (mergedModel m grouping .n) s || rowRight (mergedModel m grouping) s)
+        every-all 32 (λ s. leb (mergedModel m grouping .n) s || addsUp (mergedModel m grouping) s)
         (λ s l. row s l (decLt s (mergedModel m grouping .n)))
       where
         columns : (s : ℕ) → s < 32 → s < mergedModel m grouping .n →
-            sum 32 (weightOf (mergedModel m grouping) s) ≡ mergedModel m grouping .d
+            sumBelow 32 (weightOf (mergedModel m grouping) s) ≡ mergedModel m grouping .d
         columns s l k =
             sum-first (groupCount grouping) 32 (weightOf (mergedModel m grouping) s) few
             (λ t past small.
@@ -135,13 +136,13 @@ module _ (m : Model) (grouping : List ℕ) (fields : fieldsRight m ≡ true) (gr
             (chain.sound-right m fields adds) s k
 
         row : (s : ℕ) → s < 32 → Dec (s < mergedModel m grouping .n) →
-            (leb (mergedModel m grouping .n) s || rowRight (mergedModel m grouping) s) ≡ true
+            (leb (mergedModel m grouping .n) s || addsUp (mergedModel m grouping) s) ≡ true
         row s l (no past) =
-            ap (λ (b : Bool). b || rowRight (mergedModel m grouping) s)
+            ap (λ (b : Bool). b || addsUp (mergedModel m grouping) s)
             (le-leb (mergedModel m grouping .n) s (omega arith))
         row s l (yes k) =
             ap₂ _||_ (lt-leb (mergedModel m grouping .n) s k)
-            (eq-eqb (sum 32 (weightOf (mergedModel m grouping) s)) (mergedModel m grouping .d) (columns s l k))
+            (eq-eqb (sumBelow 32 (weightOf (mergedModel m grouping) s)) (mergedModel m grouping .d) (columns s l k))
 
   -- ---- its fields are as the layout asks
 
@@ -182,5 +183,5 @@ module _ (m : Model) (grouping : List ℕ) (fields : fieldsRight m ≡ true) (gr
   unfolding fieldsRight
   fields-merged =
       and-true (and-true numbers-merged (every-all 32 (maskRight (mergedModel m grouping)) masks-merged))
-      (every-all 32 (λ g. every 32 (weightRight (mergedModel m grouping) g))
+      (every-all 32 (λ g. everyBelow 32 (weightRight (mergedModel m grouping) g))
       (λ g l. every-all 32 (weightRight (mergedModel m grouping) g) (λ h k. weights-merged g h l k)))

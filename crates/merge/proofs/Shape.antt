@@ -14,7 +14,7 @@ use lib.Pow.{pow-mono}
 use Rattle.counting.proofs.Laws.{term-le-sum}
 use Rattle.model.specs.declared.Model.{Model}
 use Rattle.model.specs.Layout.{Shaped, maskOf, weightOf}
-use Rattle.model.specs.Rows.{fieldsRight, rowsRight}
+use Rattle.model.specs.Rules.{fieldsRight, allAddUp}
 use Rattle.model.proofs.Rightness.{labels-few, total-few, mask-at}
 use Rattle.chain.proofs.Right.{row-at, row-zero}
 
@@ -31,7 +31,7 @@ mask-two m fields s l = look (ltb s (m .n)) (ltb (maskOf m s) (2 ^ m .a)) refl (
         let z = eqb-true (maskOf m s) 0 e in
         omega arith
 
-module _ (m : Model) (fields : fieldsRight m ≡ true) (adds : rowsRight m ≡ true)
+module _ (m : Model) (fields : fieldsRight m ≡ true) (adds : allAddUp m ≡ true)
     (masks : length (m .masks) ≡ 32) (rows : length (m .weights .rows) ≡ 32)
     (row : (s : ℕ) → s < 32 → length (getD (m .weights .rows) s []) ≡ 32) where
   mask-small : (s : ℕ) → Dec (s < 32) → maskOf m s < 65536

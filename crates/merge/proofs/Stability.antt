@@ -6,7 +6,7 @@ use mathlib.Core.List.{List}
 use mathlib.Core.Path.{_≡_, refl, sym, ap, _∙_}
 use borrow.Author.Tests.{eqb-true, eq-eqb}
 use lib.Dec.{eqb}
-use Rattle.counting.specs.Below.{every}
+use Rattle.counting.specs.Below.{everyBelow}
 use Rattle.counting.proofs.Laws.{left-of, right-of, every-at, every-all, and-true, same-truth}
 use Rattle.model.specs.declared.Model.{Model}
 use Rattle.model.specs.Layout.{maskOf}
@@ -26,7 +26,7 @@ given false b h = refl
 
 module _ (m : Model) (grouping : List ℕ) where
   -- no two states of a group differ in mask or in weight into some group
-  pub record Alike : Type 0 where
+  pub record StatesAlike : Type 0 where
     pub masks : (s t : ℕ) → s < m .n → t < m .n → groupOf grouping s ≡ groupOf grouping t → maskOf m s ≡ maskOf m t
     pub weights : (s t : ℕ) → s < m .n → t < m .n → groupOf grouping s ≡ groupOf grouping t →
         (h : ℕ) → h < groupCount grouping →
@@ -42,23 +42,23 @@ module _ (m : Model) (grouping : List ℕ) where
       unless (eqb (groupOf grouping s) (groupOf grouping t)) (alike m grouping s t)
       (every-at (m .n) (λ t. not (eqb (groupOf grouping s) (groupOf grouping t)) || alike m grouping s t)
       (every-at (m .n)
-      (λ s. every (m .n) (λ t. not (eqb (groupOf grouping s) (groupOf grouping t)) || alike m grouping s t)) e s l) t k)
+      (λ s. everyBelow (m .n) (λ t. not (eqb (groupOf grouping s) (groupOf grouping t)) || alike m grouping s t)) e s l) t k)
       (eq-eqb (groupOf grouping s) (groupOf grouping t) same)
 
   -- two states that are alike have one mask, and the same weight into every group
   alike-mask : (s t : ℕ) → alike m grouping s t ≡ true → maskOf m s ≡ maskOf m t
   alike-mask s t e =
-      eqb-true (maskOf m s) (maskOf m t) (left-of (eqb (maskOf m s) (maskOf m t)) (every (groupCount grouping) (sameWeight s t)) e)
+      eqb-true (maskOf m s) (maskOf m t) (left-of (eqb (maskOf m s) (maskOf m t)) (everyBelow (groupCount grouping) (sameWeight s t)) e)
 
   alike-weight : (s t : ℕ) → alike m grouping s t ≡ true → (h : ℕ) → h < groupCount grouping →
       weightInto (chainOf m) (groupOf grouping) s h ≡ weightInto (chainOf m) (groupOf grouping) t h
   alike-weight s t e h w =
       eqb-true (weightInto (chainOf m) (groupOf grouping) s h) (weightInto (chainOf m) (groupOf grouping) t h)
       (every-at (groupCount grouping) (sameWeight s t)
-      (right-of (eqb (maskOf m s) (maskOf m t)) (every (groupCount grouping) (sameWeight s t)) e) h w)
+      (right-of (eqb (maskOf m s) (maskOf m t)) (everyBelow (groupCount grouping) (sameWeight s t)) e) h w)
 
   -- row 13 does not apply
-  pub alike-is : groupsAlike m grouping ≡ true → Alike
+  pub alike-is : groupsAlike m grouping ≡ true → StatesAlike
   alike-is e =
       record {
         masks = λ s t l k same. alike-mask s t (pair e s t l k same);
@@ -66,7 +66,7 @@ module _ (m : Model) (grouping : List ℕ) where
       }
 
   -- and only then
-  pub is-alike : Alike → groupsAlike m grouping ≡ true
+  pub is-alike : StatesAlike → groupsAlike m grouping ≡ true
   unfolding groupsAlike
   is-alike a =
       every-all (m .n) _
@@ -90,8 +90,8 @@ module _ (m : Model) (grouping : List ℕ) where
 
   -- it is enough that each state is like the first of its group
   pub first-alike : groupingRight (m .n) grouping ≡ true →
-      every (m .n) (λ s. alike m grouping s (memberOf (m .n) grouping (groupOf grouping s))) ≡ groupsAlike m grouping
-  first-alike grouped = same-truth (every (m .n) like) (groupsAlike m grouping)
+      everyBelow (m .n) (λ s. alike m grouping s (memberOf (m .n) grouping (groupOf grouping s))) ≡ groupsAlike m grouping
+  first-alike grouped = same-truth (everyBelow (m .n) like) (groupsAlike m grouping)
       (λ h.
       is-alike
       (record {
@@ -114,9 +114,9 @@ module _ (m : Model) (grouping : List ℕ) where
       like : ℕ → Bool
       like s = alike m grouping s (memberOf (m .n) grouping (groupOf grouping s))
 
-      mask : every (m .n) like ≡ true → (s : ℕ) → s < m .n → maskOf m s ≡ maskOf m (first (groupOf grouping s))
+      mask : everyBelow (m .n) like ≡ true → (s : ℕ) → s < m .n → maskOf m s ≡ maskOf m (first (groupOf grouping s))
       mask h s l = alike-mask s (first (groupOf grouping s)) (every-at (m .n) like h s l)
 
-      weight : every (m .n) like ≡ true → (s : ℕ) → s < m .n → (j : ℕ) → j < groupCount grouping →
+      weight : everyBelow (m .n) like ≡ true → (s : ℕ) → s < m .n → (j : ℕ) → j < groupCount grouping →
           into s j ≡ into (first (groupOf grouping s)) j
       weight h s l j w = alike-weight s (first (groupOf grouping s)) (every-at (m .n) like h s l) j w

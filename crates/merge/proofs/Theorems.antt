@@ -12,13 +12,14 @@ use lib.ListN.{length, take}
 use lib.Seq.{take-at}
 use Rattle.counting.proofs.Laws.{length-table, table-at}
 use Rattle.refusal.specs.Rows.{Applies, Given}
-use Rattle.refusal.specs.Answers.{gives, Ensured, refused, answered, TextAtFront, Writes}
+use Rattle.refusal.specs.Answers.{gives, Ensured, refused, answered, TextAtFront}
 use Rattle.refusal.specs.declared.Written.the-variants.{Wrote}
 use Rattle.refusal.proofs.Listed.{list-number}
 use Rattle.refusal.proofs.Laws.{smallest, none-here}
 use Rattle.model.specs.declared.Model.{Model}
 use Rattle.model.specs.Layout.{Shaped, fieldsOf}
-use Rattle.model.specs.Rows.{fieldsRight, rowsRight, fileNumber}
+use Rattle.model.specs.Rules.{fieldsRight, allAddUp}
+use Rattle.model.specs.Contract.{fileNumber}
 use Rattle.model.proofs.Roundtrip.{fields-written, file-written}
 use Rattle.meaning.specs.Chain.{tupleCount}
 use Rattle.meaning.proofs.Merging as merging
@@ -26,8 +27,8 @@ use Rattle.chain.specs.Of.{chainOf}
 use Rattle.chain.proofs.Accepted.{fields-right, rows-right}
 use Rattle.chain.proofs.Right.{sound-right}
 use Rattle.merge.specs.Groups.{groupOf, groupingRight, groupsAlike, mergedModel}
-use Rattle.merge.specs.Rows.{mergeRows, mergeNumber, mergedFile}
-use Rattle.merge.specs.Kept.{Kept}
+use Rattle.merge.specs.Contract.{mergeRows, mergeNumber, mergedFile, MergeEnsures}
+use Rattle.merge.specs.Keeping.{MergingKeeps}
 use Rattle.merge.proofs.Grouped.{count-few}
 use Rattle.merge.proofs.Merging.{merged-chain, fields-merged, rows-merged}
 use Rattle.merge.proofs.Numbers.{merge-rows, file-refused, file-accepted}
@@ -71,7 +72,7 @@ mergeable file grouping room e = look (fileNumber file) refl
 
 -- the merged model of a right model can stand in a file
 shaped-merged : (m : Model) (grouping : List ℕ) → fieldsRight (mergedModel m grouping) ≡ true →
-    rowsRight (mergedModel m grouping) ≡ true → Shaped (mergedModel m grouping)
+    allAddUp (mergedModel m grouping) ≡ true → Shaped (mergedModel m grouping)
 unfolding mergedModel
 shaped-merged m grouping fields adds =
     shaped (mergedModel m grouping) fields adds (length-table 32 _) (length-table 32 _)
@@ -79,7 +80,7 @@ shaped-merged m grouping fields adds =
 
 module _ (file grouping : List ℕ) (accepted : fileNumber file ≡ 0) (grouped : groupingRight (fieldsOf file .n) grouping ≡ true)
     (alike : groupsAlike (fieldsOf file) grouping ≡ true) where
-  right : (fieldsRight (mergedModel (fieldsOf file) grouping) ≡ true) × (rowsRight (mergedModel (fieldsOf file) grouping) ≡ true)
+  right : (fieldsRight (mergedModel (fieldsOf file) grouping) ≡ true) × (allAddUp (mergedModel (fieldsOf file) grouping) ≡ true)
   right =
       let fields = fields-right file accepted in (
         fields-merged (fieldsOf file) grouping fields grouped,
@@ -103,8 +104,8 @@ module _ (file grouping : List ℕ) (accepted : fileNumber file ≡ 0) (grouped 
 -- ---- demand 3
 
 -- a model with right fields and rows and its merged model
-pub kept : (m : Model) (grouping : List ℕ) → fieldsRight m ≡ true → rowsRight m ≡ true →
-    groupingRight (m .n) grouping ≡ true → groupsAlike m grouping ≡ true → Kept m (groupOf grouping) (mergedModel m grouping)
+pub kept : (m : Model) (grouping : List ℕ) → fieldsRight m ≡ true → allAddUp m ≡ true →
+    groupingRight (m .n) grouping ≡ true → groupsAlike m grouping ≡ true → MergingKeeps m (groupOf grouping) (mergedModel m grouping)
 unfolding mergedModel tupleCount
 kept m grouping fields adds grouped alike =
     let full = chainOf m in
@@ -125,26 +126,27 @@ kept m grouping fields adds grouped alike =
 -- of a file that merge does not refuse and the file that it is merged to
 pub kept-file : (file grouping : List ℕ) → fileNumber file ≡ 0 → groupingRight (fieldsOf file .n) grouping ≡ true →
     groupsAlike (fieldsOf file) grouping ≡ true →
-    Kept (fieldsOf file) (groupOf grouping) (fieldsOf (mergedFile file grouping))
+    MergingKeeps (fieldsOf file) (groupOf grouping) (fieldsOf (mergedFile file grouping))
 kept-file file grouping accepted grouped alike =
-    subst (λ (m : Model). Kept (fieldsOf file) (groupOf grouping) m) (sym (merged-read file grouping accepted grouped alike))
+    subst (λ (m : Model). MergingKeeps (fieldsOf file) (groupOf grouping) m) (sym (merged-read file grouping accepted grouped alike))
     (kept (fieldsOf file) grouping (fields-right file accepted) (rows-right file accepted) grouped alike)
 
 -- of the bytes that merge leaves: where it answers that it wrote so many, those at the front of the output are a file that
 -- the reader accepts and that keeps what the full file says
 pub kept-written : (file grouping before after : List ℕ) (size : ℕ) →
-    Writes (mergeRows file grouping (length before)) (mergedFile file grouping) before after (Wrote size) →
-    (fileNumber (take size after) ≡ 0) × Kept (fieldsOf file) (groupOf grouping) (fieldsOf (take size after))
+    MergeEnsures file grouping before after (Wrote size) →
+    (fileNumber (take size after) ≡ 0) × MergingKeeps (fieldsOf file) (groupOf grouping) (fieldsOf (take size after))
 unfolding mergeNumber
 kept-written file grouping before after size w = by (w .ensured)
   where
     Result : List ℕ → Type 0
-    Result written = (fileNumber written ≡ 0) × Kept (fieldsOf file) (groupOf grouping) (fieldsOf written)
+    Result written = (fileNumber written ≡ 0) × MergingKeeps (fieldsOf file) (groupOf grouping) (fieldsOf written)
 
     free : mergeNumber file grouping (length before) ≡ 0
     free = sym (list-number (merge-rows file grouping (length before)) (w .ensured))
 
-    by : Ensured (λ n. Applies n (mergeRows file grouping (length before))) (TextAtFront (λ t. t ≡ mergedFile file grouping) before) before (gives size) after →
+    by : Ensured (λ n. Applies n (mergeRows file grouping (length before)))
+        (TextAtFront (λ t. t ≡ mergedFile file grouping) before) before (gives size) after →
         Result (take size after)
     by (refused {n} e l row least) =
         let z : _≡_ {A = ℕ} 0 1 = cc in

@@ -14,7 +14,8 @@ use Rattle.counting.proofs.Laws.{table-at, table-is, length-table, left-of, rig
 use Rattle.refusal.proofs.Laws.{first-later, first-none}
 use Rattle.model.specs.declared.Model.{Model}
 use Rattle.model.specs.Layout.{maskOf, weightOf, fieldsOf, fileOf}
-use Rattle.model.specs.Rows.{fieldsRight, fileNumber}
+use Rattle.model.specs.Rules.{fieldsRight}
+use Rattle.model.specs.Contract.{fileNumber}
 use Rattle.model.proofs.Rightness.{mask-at, weight-past}
 use Rattle.model.proofs.Theorems.{write-of-read}
 use Rattle.meaning.specs.Lists.{below}
@@ -25,7 +26,7 @@ use Rattle.meaning.proofs.Tests.{below-member}
 use Rattle.chain.specs.Of.{chainOf}
 use Rattle.chain.proofs.Accepted.{fields-right}
 use Rattle.merge.specs.Groups.{groupOf, groupCount, groupingRight, groupsAlike, memberOf, mergedModel}
-use Rattle.merge.specs.Rows.{mergeNumber, mergedFile}
+use Rattle.merge.specs.Contract.{mergeNumber, mergedFile}
 use Rattle.merge.proofs.Grouped.{count-is, grouping-right}
 use Rattle.merge.proofs.Members.{member-first}
 use Rattle.merge.proofs.Numbers.{file-accepted}

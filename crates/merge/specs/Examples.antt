@@ -1,48 +1,26 @@
--- Document 01, 'Examples on both sides': M2 and the line on merging it, as claims. The table of all lines marked * is in the crate
--- `demands`.
-use Prim.Native.Nat.{ℕ}
-use mathlib.Core.List.{List, [], _∷_}
+-- Document 01, 'Examples on both sides': what the starred line on merging claims of files. The table of the lines is specs/Examples of
+-- the crate `meaning`; `demands` has the one statement over all of it.
+use mathlib.Core.List.{[]}
 use mathlib.Core.Path.{_≡_}
-use lib.ListN.{getD}
+use lib.ListN.{getD, length}
 use Rattle.counting.specs.Below.{table}
 use Rattle.model.specs.declared.Model.{Model}
 use Rattle.model.specs.Layout.{modelOf, fileOf}
-use Rattle.merge.specs.Rows.{mergeNumber, mergedFile}
+use Rattle.meaning.specs.Examples.{Sketch, Line, fraction, worth, answer, merges, refuses}
+use Rattle.merge.specs.Contract.{mergeNumber, mergedFile}
 
--- the model with these masks and rows
-unfoldable pub modelWith : (n a d : ℕ) → List ℕ → List (List ℕ) → Model
-modelWith n a d masks rows =
-    modelOf n a d (table 32 (λ s. getD masks s 0)) (table 32 (λ s. table 32 (λ t. getD (getD rows s []) t 0)))
+-- the model that the document sketches: A = 1; masks, columns and rows from N on are zero
+unfoldable pub modelOfSketch : Sketch → Model
+modelOfSketch m =
+    modelOf (length (m .rows)) 1 (m .D) (table 32 (λ s. getD (m .masks) s 0))
+    (table 32 (λ s. table 32 (λ t. getD (getD (m .rows) s []) t 0)))
 
--- M2: N = 3, A = 1, D = 4; masks 0, 1, 1; rows 2 1 1, 0 3 1, 0 0 4
-unfoldable pub M2 : Model
-unfolding modelWith
-M2 = modelWith 3 1 4 (0 ∷ 1 ∷ 1 ∷ []) ((2 ∷ 1 ∷ 1 ∷ []) ∷ (0 ∷ 3 ∷ 1 ∷ []) ∷ (0 ∷ 0 ∷ 4 ∷ []) ∷ [])
-
--- N = 2, A = 1, D = 4; masks 0 and 1; rows 2 2 and 0 4
-unfoldable pub M2merged : Model
-unfolding modelWith
-M2merged = modelWith 2 1 4 (0 ∷ 1 ∷ []) ((2 ∷ 2 ∷ []) ∷ (0 ∷ 4 ∷ []) ∷ [])
-
--- what the line says of a model's file and a grouping: they merge to another model's file, or are refused with a number
-pub data Claim : Type 0 where
-  merges : Model → List ℕ → Model → Claim
-  refuses : Model → List ℕ → ℕ → Claim
-
--- the definitions agree with the line, for an output of 3,072 bytes
-unfoldable pub Met : Claim → Type 0
-Met (merges m grouping merged) = (mergeNumber (fileOf m) grouping 3072 ≡ 0) × (mergedFile (fileOf m) grouping ≡ fileOf merged)
-Met (refuses m grouping number) = mergeNumber (fileOf m) grouping 3072 ≡ number
-
--- the line on merging
-unfoldable pub claims : List Claim
-claims =
-    -- M2 with grouping 0 1 1 merges to rows 2 2 and 0 4
-    merges M2 (0 ∷ 1 ∷ 1 ∷ []) M2merged ∷
-    -- 0 0 1: 13
-    refuses M2 (0 ∷ 0 ∷ 1 ∷ []) 13 ∷
-    -- 0 2 2: 12
-    refuses M2 (0 ∷ 2 ∷ 2 ∷ []) 12 ∷
-    -- 0 1 2 gives the same file back
-    merges M2 (0 ∷ 1 ∷ 2 ∷ []) M2 ∷
-    []
+-- what a line claims of merging a model's file, for an output of 3,072 bytes; a line on something else claims nothing of it
+unfoldable pub MergeMet : Line → Type 0
+MergeMet (fraction m text p s top bottom) = Unit
+MergeMet (worth m text e s x) = Unit
+MergeMet (answer m text letters body said) = Unit
+MergeMet (merges m grouping result) =
+    (mergeNumber (fileOf (modelOfSketch m)) grouping 3072 ≡ 0) ×
+    (mergedFile (fileOf (modelOfSketch m)) grouping ≡ fileOf (modelOfSketch result))
+MergeMet (refuses m grouping number) = mergeNumber (fileOf (modelOfSketch m)) grouping 3072 ≡ number

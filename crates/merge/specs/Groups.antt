@@ -5,7 +5,7 @@ use mathlib.Core.Bool.{Bool, cond, not, _&&_, _||_}
 use mathlib.Core.List.{List}
 use lib.Dec.{ltb, eqb}
 use lib.ListN.{length, getD}
-use Rattle.counting.specs.Below.{every, table}
+use Rattle.counting.specs.Below.{everyBelow, table}
 use Rattle.model.specs.declared.Model.{Model}
 use Rattle.model.specs.Layout.{maskOf}
 use Rattle.meaning.specs.Lists.{below, thereIs}
@@ -31,19 +31,19 @@ isUsed grouping g = thereIs (λ s. eqb (groupOf grouping s) g) (below (length gr
 
 -- the grouping's length is N, and its numbers are exactly 0..M−1, each used
 unfoldable pub groupingRight : ℕ → List ℕ → Bool
-groupingRight n grouping = eqb (length grouping) n && every (groupCount grouping) (isUsed grouping)
+groupingRight n grouping = eqb (length grouping) n && everyBelow (groupCount grouping) (isUsed grouping)
 
 -- two states do not differ in mask, nor in weight into some group
 abbrev pub alike : Model → List ℕ → ℕ → ℕ → Bool
 alike m grouping s t =
     eqb (maskOf m s) (maskOf m t) &&
-    every (groupCount grouping)
+    everyBelow (groupCount grouping)
     (λ h. eqb (weightInto (chainOf m) (groupOf grouping) s h) (weightInto (chainOf m) (groupOf grouping) t h))
 
 -- no two states of a group differ in mask or in weight into some group
 unfoldable pub groupsAlike : Model → List ℕ → Bool
 groupsAlike m grouping =
-    every (m .n) (λ s. every (m .n) (λ t. not (eqb (groupOf grouping s) (groupOf grouping t)) || alike m grouping s t))
+    everyBelow (m .n) (λ s. everyBelow (m .n) (λ t. not (eqb (groupOf grouping s) (groupOf grouping t)) || alike m grouping s t))
 
 -- the first member of the group g
 abbrev pub memberOf : ℕ → List ℕ → ℕ → ℕ

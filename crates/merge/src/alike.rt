@@ -3,7 +3,7 @@ ghost use mathlib.Core.Path.{_≡_};
 ghost use Prim.Native.Nat.{_<_, _≤_};
 ghost use lib.Dec.{eqb};
 ghost use lib.ListN.{length, getD};
-ghost use Rattle.counting.specs.Below.{every};
+ghost use Rattle.counting.specs.Below.{everyBelow};
 ghost use Rattle.merge.specs.Groups.{groupOf, memberOf};
 ghost use Rattle.merge.specs.Working.{pairAlike};
 use crate::grouping::first_of;
@@ -12,7 +12,7 @@ use crate::grouping::group_of;
 // Whether two rows agree in the first columns.
 fn rows_agree(a: &[u16; 32], b: &[u16; 32], count: usize) -> bool
     requires { ⌜ count ≤ 32 ⌝ }
-    ensures { λ r. ⌜ r ≡ every count (λ h. eqb (getD (now (a .entry)) h 0) (getD (now (b .entry)) h 0)) ⌝ }
+    ensures { λ r. ⌜ r ≡ everyBelow count (λ h. eqb (getD (now (a .entry)) h 0) (getD (now (b .entry)) h 0)) ⌝ }
 {
     let mut h: usize = 0;
     while h < count {
@@ -35,7 +35,7 @@ fn pair_alike(masks: &[u16; 32], totals: [[u16; 32]; 32], count: usize, s: usize
 }
 
 // Whether every state agrees with the first state of its group.
-pub fn states_alike(
+pub(crate) fn states_alike(
     masks: &[u16; 32],
     totals: [[u16; 32]; 32],
     grouping: &[u8],
@@ -43,7 +43,8 @@ pub fn states_alike(
     n: usize,
 ) -> bool
     requires { ⌜ (count ≤ 32) × (n ≤ 32) × (length (now grouping) ≡ n) ⌝ }
-    ensures { λ r. ⌜ r ≡ every n (λ s. pairAlike (now (masks .entry)) totals count s (memberOf n (now (grouping .entry)) (groupOf (now (grouping .entry)) s))) ⌝ }
+    ensures { λ r. ⌜ r ≡ everyBelow n (λ s. pairAlike (now (masks .entry)) totals count s
+        (memberOf n (now (grouping .entry)) (groupOf (now (grouping .entry)) s))) ⌝ }
 {
     let mut s: usize = 0;
     while s < n {

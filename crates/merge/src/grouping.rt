@@ -2,13 +2,13 @@
 ghost use mathlib.Core.Path.{_≡_};
 ghost use Prim.Native.Nat.{suc, max, _<_, _≤_};
 ghost use lib.ListN.{length};
-ghost use Rattle.counting.specs.Below.{every};
+ghost use Rattle.counting.specs.Below.{everyBelow};
 ghost use Rattle.merge.specs.Groups.{groupOf, groupCount, isUsed, groupingRight};
-ghost use Rattle.merge.specs.Working.{First};
+ghost use Rattle.merge.specs.Working.{FirstMember};
 use block::byte_at;
 
 // The group of a state.
-pub fn group_of(grouping: &[u8], s: usize) -> usize
+pub(crate) fn group_of(grouping: &[u8], s: usize) -> usize
     ensures { λ r. ⌜ (r ≡ groupOf (now (grouping .entry)) s) × (r < 256) ⌝ }
 {
     byte_at(grouping, s) as usize
@@ -23,7 +23,7 @@ fn counting_in(count: usize, g: usize) -> usize
 }
 
 // M: one more than the largest number of the grouping.
-pub fn group_count(grouping: &[u8]) -> usize
+pub(crate) fn group_count(grouping: &[u8]) -> usize
     ensures { λ r. ⌜ (r ≡ groupCount (now (grouping .entry))) × (r ≤ 256) ⌝ }
 {
     let mut count: usize = 0;
@@ -36,8 +36,8 @@ pub fn group_count(grouping: &[u8]) -> usize
 }
 
 // The first state of a group, and the grouping's length where no state has it.
-pub fn first_of(grouping: &[u8], g: usize) -> usize
-    ensures { λ r. ⌜ First (groupOf (now (grouping .entry))) g (length (now (grouping .entry))) r ⌝ }
+pub(crate) fn first_of(grouping: &[u8], g: usize) -> usize
+    ensures { λ r. ⌜ FirstMember (groupOf (now (grouping .entry))) g (length (now (grouping .entry))) r ⌝ }
 {
     let mut s: usize = 0;
     while s < grouping.len() {
@@ -58,7 +58,7 @@ fn is_used(grouping: &[u8], g: usize) -> bool
 
 // Whether every group below a number is used.
 fn all_used(grouping: &[u8], count: usize) -> bool
-    ensures { λ r. ⌜ r ≡ every count (isUsed (now (grouping .entry))) ⌝ }
+    ensures { λ r. ⌜ r ≡ everyBelow count (isUsed (now (grouping .entry))) ⌝ }
 {
     let mut g: usize = 0;
     while g < count {
@@ -71,7 +71,7 @@ fn all_used(grouping: &[u8], count: usize) -> bool
 }
 
 // Whether the grouping's length is N and its numbers are exactly 0..M−1, each used.
-pub fn grouping_right(grouping: &[u8], n: usize) -> bool
+pub(crate) fn grouping_right(grouping: &[u8], n: usize) -> bool
     ensures { λ r. ⌜ r ≡ groupingRight n (now (grouping .entry)) ⌝ }
 {
     let whole = grouping.len() == n;

@@ -1,5 +1,5 @@
 // Merge: the model of a file, its states put together by a grouping, written as a file. What a grouping is, when it is
-// refused and what the merged model is stands in specs/Groups; the rows of the call in specs/Rows.
+// refused and what the merged model is stands in specs/Groups; the call's rows and what it writes in specs/Contract.
 mod alike;
 mod grouping;
 mod merged;
@@ -10,9 +10,9 @@ ghost use mathlib.Core.Bool.{true};
 ghost use lib.ListN.{length};
 ghost use Rattle.refusal.specs.Answers.{Writes};
 ghost use Rattle.model.specs.Layout.{fileOf};
-ghost use Rattle.model.specs.Rows.{fieldsRight, rowsRight};
+ghost use Rattle.model.specs.Rules.{fieldsRight, allAddUp};
 ghost use Rattle.merge.specs.Groups.{mergedModel};
-ghost use Rattle.merge.specs.Rows.{groupRows, mergeRows, mergedFile};
+ghost use Rattle.merge.specs.Contract.{groupRows, MergeEnsures};
 use alike::states_alike;
 use grouping::group_count;
 use grouping::grouping_right;
@@ -27,8 +27,9 @@ use totals::totals_of;
 
 // Merge, of the model of an accepted file: rows 12, 13 and 14, then the merged model's file.
 fn merge_model(m: Model, grouping: &[u8], out: &mut [u8]) -> Written
-    requires { ⌜ (fieldsRight m ≡ true) × (rowsRight m ≡ true) ⌝ }
-    ensures { λ r. ⌜ Writes (groupRows m (now (grouping .entry)) (length (now (out .entry)))) (fileOf (mergedModel m (now (grouping .entry)))) (now (out .entry)) (now (out .exit)) r ⌝ }
+    requires { ⌜ (fieldsRight m ≡ true) × (allAddUp m ≡ true) ⌝ }
+    ensures { λ r. ⌜ Writes (groupRows m (now (grouping .entry)) (length (now (out .entry))))
+        (fileOf (mergedModel m (now (grouping .entry)))) (now (out .entry)) (now (out .exit)) r ⌝ }
 {
     let n = m.n as usize;
     if !grouping_right(grouping, n) {
@@ -47,7 +48,7 @@ fn merge_model(m: Model, grouping: &[u8], out: &mut [u8]) -> Written
 
 // Merge: the file of the merged model at the front of the output, or the smallest number of a row that applies.
 pub fn merge(file: &[u8], grouping: &[u8], out: &mut [u8]) -> Written
-    ensures { λ r. ⌜ Writes (mergeRows (now (file .entry)) (now (grouping .entry)) (length (now (out .entry)))) (mergedFile (now (file .entry)) (now (grouping .entry))) (now (out .entry)) (now (out .exit)) r ⌝ }
+    ensures { λ r. ⌜ MergeEnsures (now (file .entry)) (now (grouping .entry)) (now (out .entry)) (now (out .exit)) r ⌝ }
 {
     let read = read_model(file);
     let outcome = read.outcome;

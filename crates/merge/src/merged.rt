@@ -3,7 +3,7 @@ ghost use mathlib.Core.Path.{_≡_};
 ghost use mathlib.Core.Bool.{true};
 ghost use Prim.Native.Nat.{_≤_};
 ghost use lib.ListN.{length};
-ghost use Rattle.counting.specs.Below.{every};
+ghost use Rattle.counting.specs.Below.{everyBelow};
 ghost use Rattle.model.specs.Layout.{modelOf};
 ghost use Rattle.merge.specs.Groups.{isUsed};
 ghost use Rattle.merge.specs.Working.{masksOfGroups, rowsOfGroups};
@@ -12,16 +12,17 @@ use model::Model;
 use model::matrix;
 
 // The model of the groups, from the masks and the totals of the states: from the count of groups on masks and rows are zero.
-pub fn model_of_groups(
-    a: u8,
+pub(crate) fn model_of_groups(
+    a: u32,
     d: u32,
     masks: &[u16; 32],
     totals: [[u16; 32]; 32],
     grouping: &[u8],
     count: usize,
 ) -> Model
-    requires { ⌜ (length (now grouping) ≤ 32) × (count ≤ 32) × (every count (isUsed (now grouping)) ≡ true) ⌝ }
-    ensures { λ r. ⌜ r ≡ modelOf count a d (masksOfGroups (now (masks .entry)) (now (grouping .entry)) count) (rowsOfGroups totals (now (grouping .entry)) count) ⌝ }
+    requires { ⌜ (length (now grouping) ≤ 32) × (count ≤ 32) × (everyBelow count (isUsed (now grouping)) ≡ true) ⌝ }
+    ensures { λ r. ⌜ r ≡ modelOf count a d (masksOfGroups (now (masks .entry)) (now (grouping .entry)) count)
+        (rowsOfGroups totals (now (grouping .entry)) count) ⌝ }
 {
     let mut merged = [0u16; 32];
     let mut rows = [[0u16; 32]; 32];
@@ -34,7 +35,7 @@ pub fn model_of_groups(
     }
     let weights = matrix::holding(rows);
     Model {
-        n: count as u8,
+        n: count as u32,
         a: a,
         d: d,
         masks: merged,

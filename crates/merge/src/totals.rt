@@ -5,7 +5,7 @@ ghost use mathlib.Core.List.{[]};
 ghost use Prim.Native.Nat.{ℕ, _<_, _≤_};
 ghost use lib.Dec.{eqb};
 ghost use lib.ListN.{getD};
-ghost use Rattle.counting.specs.Below.{sum, table};
+ghost use Rattle.counting.specs.Below.{sumBelow, table};
 ghost use Rattle.merge.specs.Groups.{groupOf};
 use crate::grouping::group_of;
 
@@ -19,7 +19,7 @@ fn counted(counts: bool, weight: u16) -> u32
 // The total weight of a row into group h, over the n states.
 fn total_into(row: &[u16; 32], grouping: &[u8], n: usize, h: usize) -> u32
     requires { ⌜ n ≤ 32 ⌝ }
-    ensures { λ r. ⌜ r ≡ sum n (λ t. cond (eqb (groupOf (now (grouping .entry)) t) h) (getD (now (row .entry)) t 0) 0) ⌝ }
+    ensures { λ r. ⌜ r ≡ sumBelow n (λ t. cond (eqb (groupOf (now (grouping .entry)) t) h) (getD (now (row .entry)) t 0) 0) ⌝ }
 {
     let mut total: u32 = 0;
     let mut t: usize = 0;
@@ -32,8 +32,9 @@ fn total_into(row: &[u16; 32], grouping: &[u8], n: usize, h: usize) -> u32
 
 // A row's total weight into each group. The whole row is no more than 65,535, so each total is a weight again.
 fn totals_row(row: &[u16; 32], grouping: &[u8], n: usize) -> [u16; 32]
-    requires { ⌜ (n ≤ 32) × (sum n (λ t. getD (now row) t 0) ≤ 65535) ⌝ }
-    ensures { λ r. ⌜ r ≡ table 32 (λ h. sum n (λ t. cond (eqb (groupOf (now (grouping .entry)) t) h) (getD (now (row .entry)) t 0) 0)) ⌝ }
+    requires { ⌜ (n ≤ 32) × (sumBelow n (λ t. getD (now row) t 0) ≤ 65535) ⌝ }
+    ensures { λ r. ⌜ r ≡ table 32
+        (λ h. sumBelow n (λ t. cond (eqb (groupOf (now (grouping .entry)) t) h) (getD (now (row .entry)) t 0) 0)) ⌝ }
 {
     let mut totals = [0u16; 32];
     let mut h: usize = 0;
@@ -45,9 +46,10 @@ fn totals_row(row: &[u16; 32], grouping: &[u8], n: usize) -> [u16; 32]
 }
 
 // The total weight of each state into each group.
-pub fn totals_of(rows: [[u16; 32]; 32], grouping: &[u8], n: usize) -> [[u16; 32]; 32]
-    requires { ⌜ (n ≤ 32) × ((s : ℕ) → s < 32 → sum n (λ t. getD (getD rows s []) t 0) ≤ 65535) ⌝ }
-    ensures { λ r. ⌜ r ≡ table 32 (λ s. table 32 (λ h. sum n (λ t. cond (eqb (groupOf (now (grouping .entry)) t) h) (getD (getD rows s []) t 0) 0))) ⌝ }
+pub(crate) fn totals_of(rows: [[u16; 32]; 32], grouping: &[u8], n: usize) -> [[u16; 32]; 32]
+    requires { ⌜ (n ≤ 32) × ((s : ℕ) → s < 32 → sumBelow n (λ t. getD (getD rows s []) t 0) ≤ 65535) ⌝ }
+    ensures { λ r. ⌜ r ≡ table 32 (λ s. table 32 (λ h. sumBelow n (λ t. cond (eqb (groupOf (now (grouping .entry)) t) h)
+        (getD (getD rows s []) t 0) 0))) ⌝ }
 {
     let mut totals = [[0u16; 32]; 32];
     let mut s: usize = 0;

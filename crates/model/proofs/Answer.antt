@@ -16,7 +16,8 @@ use borrow.Author.Tests.{lt-ltb, le-ltb}
 use Rattle.model.specs.declared.Model.{Model}
 use Rattle.model.specs.declared.ModelRead.{ModelRead}
 use Rattle.model.specs.Layout.{fieldsOf, blocks}
-use Rattle.model.specs.Rows.{lengthRight, fieldsRight, laidOut, rowsRight, fileRows, fileNumber, recordRows, recordNumber, emptyModel, Reads}
+use Rattle.model.specs.Rules.{lengthRight, fieldsRight, laidOut, allAddUp}
+use Rattle.model.specs.Contract.{fileRows, fileNumber, recordRows, recordNumber, emptyModel, ReadModelEnsures}
 
 -- ---- the number, test by test
 
@@ -34,12 +35,12 @@ module _ (file : List ℕ) where
   number-4 a b e = first-later 2 _ (ap not a) ∙ first-later 3 _ (ap not b) ∙ first-here 4 _ (ap not e)
 
   pub number-5 : lengthRight file ≡ true → checksRight file ≡ true → laidOut file (fieldsOf file) ≡ true →
-      rowsRight (fieldsOf file) ≡ false → fileNumber file ≡ 5
+      allAddUp (fieldsOf file) ≡ false → fileNumber file ≡ 5
   unfolding fileNumber
   number-5 a b d e = first-later 2 _ (ap not a) ∙ first-later 3 _ (ap not b) ∙ first-later 4 _ (ap not d) ∙ first-here 5 _ (ap not e)
 
   pub number-0 : lengthRight file ≡ true → checksRight file ≡ true → laidOut file (fieldsOf file) ≡ true →
-      rowsRight (fieldsOf file) ≡ true → fileNumber file ≡ 0
+      allAddUp (fieldsOf file) ≡ true → fileNumber file ≡ 0
   unfolding fileNumber
   number-0 a b d e =
       first-later 2 _ (ap not a) ∙ first-later 3 _ (ap not b) ∙ first-later 4 _ (ap not d) ∙ first-later 5 _ (ap not e) ∙ first-none
@@ -49,15 +50,15 @@ module _ (m : Model) (room : ℕ) where
   unfolding recordNumber
   record-4 e = first-here 4 _ (ap not e)
 
-  pub record-5 : fieldsRight m ≡ true → rowsRight m ≡ false → recordNumber m room ≡ 5
+  pub record-5 : fieldsRight m ≡ true → allAddUp m ≡ false → recordNumber m room ≡ 5
   unfolding recordNumber
   record-5 a e = first-later 4 _ (ap not a) ∙ first-here 5 _ (ap not e)
 
-  pub record-14 : fieldsRight m ≡ true → rowsRight m ≡ true → room < 512 * blocks (m .n) → recordNumber m room ≡ 14
+  pub record-14 : fieldsRight m ≡ true → allAddUp m ≡ true → room < 512 * blocks (m .n) → recordNumber m room ≡ 14
   unfolding recordNumber
   record-14 a b e = first-later 4 _ (ap not a) ∙ first-later 5 _ (ap not b) ∙ first-here 14 _ (lt-ltb room (512 * blocks (m .n)) e)
 
-  pub record-0 : fieldsRight m ≡ true → rowsRight m ≡ true → 512 * blocks (m .n) ≤ room → recordNumber m room ≡ 0
+  pub record-0 : fieldsRight m ≡ true → allAddUp m ≡ true → 512 * blocks (m .n) ≤ room → recordNumber m room ≡ 0
   unfolding recordNumber
   record-0 a b e =
       first-later 4 _ (ap not a) ∙ first-later 5 _ (ap not b) ∙ first-later 14 _ (le-ltb room (512 * blocks (m .n)) e) ∙ first-none
@@ -74,24 +75,25 @@ record-rows m room = in-order 0 (recordRows m room) refl
 
 -- a refusal
 pub reads-refused : (file : List ℕ) (k : ℕ) {r : ModelRead} → fileNumber file ≡ suc k →
-    r .outcome ≡ Refused (suc k) → r .model ≡ emptyModel → Reads file r
+    r .outcome ≡ Refused (suc k) → r .model ≡ emptyModel → ReadModelEnsures file r
 unfolding fileNumber
 reads-refused file k e o m = record { ensured = list-refused (file-rows file) k e (ap replyOf o) m }
 
 -- an answer
-pub reads-done : (file : List ℕ) {r : ModelRead} → fileNumber file ≡ 0 → r .outcome ≡ Done → r .model ≡ fieldsOf file → Reads file r
+pub reads-done : (file : List ℕ) {r : ModelRead} → fileNumber file ≡ 0 → r .outcome ≡ Done → r .model ≡ fieldsOf file
+    → ReadModelEnsures file r
 unfolding fileNumber
 reads-done file e o m = record { ensured = list-answered (file-rows file) e (ap replyOf o) m }
 
 -- ---- and back
 
 -- the number that the reader answers
-pub reads-number : {file : List ℕ} {r : ModelRead} → Reads file r → numberIn (replyOf (r .outcome)) ≡ fileNumber file
+pub reads-number : {file : List ℕ} {r : ModelRead} → ReadModelEnsures file r → numberIn (replyOf (r .outcome)) ≡ fileNumber file
 unfolding fileNumber
 reads-number {file} reads = list-number (file-rows file) (reads .ensured)
 
 -- a refusal of the reader: its number is the rows' number, and not 0
-pub reads-refusal : {file : List ℕ} {r : ModelRead} {number : ℕ} → Reads file r → r .outcome ≡ Refused number →
+pub reads-refusal : {file : List ℕ} {r : ModelRead} {number : ℕ} → ReadModelEnsures file r → r .outcome ≡ Refused number →
     (k : ℕ) × (fileNumber file ≡ suc k) × (number ≡ suc k)
 reads-refusal {file} {r} {number} reads o = by (reads .ensured)
   where
@@ -110,6 +112,6 @@ reads-refusal {file} {r} {number} reads o = by (reads .ensured)
         absurd (omega arith)
 
 -- the model of an accepted file
-pub reads-value : {file : List ℕ} {r : ModelRead} → Reads file r → fileNumber file ≡ 0 → r .model ≡ fieldsOf file
+pub reads-value : {file : List ℕ} {r : ModelRead} → ReadModelEnsures file r → fileNumber file ≡ 0 → r .model ≡ fieldsOf file
 unfolding fileNumber
 reads-value {file} reads e = right-of (none-applies (file-rows file) e) (reads .ensured) .2

@@ -6,4 +6,5 @@ pub mod Roundtrip
 pub mod Spelled
 pub mod Standing
 pub mod Theorems
+pub mod Words
 pub mod Written

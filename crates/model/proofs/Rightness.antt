@@ -5,12 +5,12 @@ use mathlib.Core.List.{List}
 use mathlib.Core.Path.{_≡_, ap, sym, _∙_}
 use borrow.Author.Tests.{leb-true, eqb-true}
 use lib.Dec.{leb, ltb, eqb}
-use Rattle.counting.specs.Below.{every}
+use Rattle.counting.specs.Below.{everyBelow}
 use Rattle.counting.proofs.Laws.{left-of, right-of, every-at}
 use Rattle.block.specs.Block.{byteOf, blocksIn}
 use Rattle.model.specs.declared.Model.{Model}
 use Rattle.model.specs.Layout.{weightOf, contentByte, blocks}
-use Rattle.model.specs.Rows.{within, numbersRight, maskRight, weightRight, fieldsRight, laidOut}
+use Rattle.model.specs.Rules.{within, numbersRight, maskRight, weightRight, fieldsRight, laidOut}
 
 -- a number within bounds has them
 within-low : (low high x : ℕ) → within low high x ≡ true → low ≤ x
@@ -24,15 +24,18 @@ pub laid-fields : (file : List ℕ) (m : Model) → laidOut file m ≡ true → 
 unfolding laidOut
 laid-fields file m e =
     left-of (fieldsRight m) (eqb (blocksIn file) (blocks (m .n)))
-    (left-of (fieldsRight m && eqb (blocksIn file) (blocks (m .n))) (every (blocksIn file) (λ i. every 510 (λ j. eqb (byteOf file i j) (contentByte m i j)))) e)
+    (left-of (fieldsRight m && eqb (blocksIn file) (blocks (m .n)))
+    (everyBelow (blocksIn file) (λ i. everyBelow 510 (λ j. eqb (byteOf file i j) (contentByte m i j)))) e)
 
 module _ (m : Model) (right : fieldsRight m ≡ true) where
   numbers : numbersRight m ≡ true
   unfolding fieldsRight
-  numbers = left-of (numbersRight m) (every 32 (maskRight m)) (left-of (numbersRight m && every 32 (maskRight m)) (every 32 (λ s. every 32 (weightRight m s))) right)
+  numbers = left-of (numbersRight m) (everyBelow 32 (maskRight m))
+      (left-of (numbersRight m && everyBelow 32 (maskRight m)) (everyBelow 32 (λ s. everyBelow 32 (weightRight m s))) right)
 
   states : within 1 32 (m .n) ≡ true
-  states = left-of (within 1 32 (m .n)) (within 1 16 (m .a)) (left-of (within 1 32 (m .n) && within 1 16 (m .a)) (within 1 65535 (m .d)) numbers)
+  states = left-of (within 1 32 (m .n)) (within 1 16 (m .a))
+      (left-of (within 1 32 (m .n) && within 1 16 (m .a)) (within 1 65535 (m .d)) numbers)
 
   -- N is 1..32
   pub states-some : 1 ≤ m .n
@@ -43,7 +46,8 @@ module _ (m : Model) (right : fieldsRight m ≡ true) where
 
   -- A is 1..16
   labels : within 1 16 (m .a) ≡ true
-  labels = right-of (within 1 32 (m .n)) (within 1 16 (m .a)) (left-of (within 1 32 (m .n) && within 1 16 (m .a)) (within 1 65535 (m .d)) numbers)
+  labels = right-of (within 1 32 (m .n)) (within 1 16 (m .a))
+      (left-of (within 1 32 (m .n) && within 1 16 (m .a)) (within 1 65535 (m .d)) numbers)
 
   pub labels-some : 1 ≤ m .a
   labels-some = within-low 1 16 (m .a) labels
@@ -62,14 +66,15 @@ module _ (m : Model) (right : fieldsRight m ≡ true) where
   pub mask-at : (s : ℕ) → s < 32 → maskRight m s ≡ true
   unfolding fieldsRight
   mask-at s l = every-at 32 (maskRight m)
-      (right-of (numbersRight m) (every 32 (maskRight m)) (left-of (numbersRight m && every 32 (maskRight m)) (every 32 (λ s. every 32 (weightRight m s))) right)) s l
+      (right-of (numbersRight m) (everyBelow 32 (maskRight m))
+      (left-of (numbersRight m && everyBelow 32 (maskRight m)) (everyBelow 32 (λ s. everyBelow 32 (weightRight m s))) right)) s l
 
   -- rows and columns from N on are zero
-  weights-end : every 32 (λ s. every 32 (weightRight m s)) ≡ true
+  weights-end : everyBelow 32 (λ s. everyBelow 32 (weightRight m s)) ≡ true
   unfolding fieldsRight
-  weights-end = right-of (numbersRight m && every 32 (maskRight m)) (every 32 (λ s. every 32 (weightRight m s))) right
+  weights-end = right-of (numbersRight m && everyBelow 32 (maskRight m)) (everyBelow 32 (λ s. everyBelow 32 (weightRight m s))) right
 
   pub weight-past : (s t : ℕ) → s < 32 → t < 32 → (ltb s (m .n) && ltb t (m .n)) ≡ false → weightOf m s t ≡ 0
   weight-past s t l k out = eqb-true (weightOf m s t) 0
       (ap (λ (b : Bool). b || eqb (weightOf m s t) 0) (sym out) ∙
-      every-at 32 (weightRight m s) (every-at 32 (λ s. every 32 (weightRight m s)) weights-end s l) t k)
+      every-at 32 (weightRight m s) (every-at 32 (λ s. everyBelow 32 (weightRight m s)) weights-end s l) t k)

@@ -10,13 +10,15 @@ use borrow.Author.Tests.{le-ltb, eqb-true, eq-eqb, leb-true, le-leb}
 use lib.Dec.{eqb, leb, ltb}
 use lib.ListN.{length, getD, List·getD-append, List·getD-eq-default}
 use lib.Seq.{ext-getD, getD-append-add}
-use Rattle.counting.specs.Below.{every, table}
+use Rattle.counting.specs.Below.{everyBelow, table}
 use Rattle.counting.proofs.Laws.{table-at, table-is, every-at, every-all, left-of, right-of, and-true}
 use Rattle.block.specs.Block.{byteOf, blocksIn, two, lowByte, highByte, checkOf, checkRight, checksRight}
 use Rattle.block.proofs.Laws.{check-same}
 use Rattle.model.specs.declared.Model.{Model}
-use Rattle.model.specs.Layout.{maskOf, weightOf, Shaped, twoAt, fourAt, maskAt, weightAt, byteOfTwo, headByte, contentByte, byteAt, blockBytes, blocksBelow, blocks, fileOf, fieldsOf}
-use Rattle.model.specs.Rows.{lengthRight, fieldsRight, laidOut, rowsRight, fileNumber}
+use Rattle.model.specs.Layout.{maskOf, weightOf, Shaped, twoAt, fourAt, maskAt, weightAt, byteOfTwo, headByte, contentByte, byteAt}
+use Rattle.model.specs.Layout.{blockBytes, blocksBelow, blocks, fileOf, fieldsOf}
+use Rattle.model.specs.Rules.{lengthRight, fieldsRight, laidOut, allAddUp}
+use Rattle.model.specs.Contract.{fileNumber}
 use Rattle.model.proofs.Places.{byte-there}
 use Rattle.model.proofs.Rightness.{states-some, states-few, total-few, weight-past}
 use Rattle.model.proofs.Answer.{number-0}
@@ -46,25 +48,30 @@ byte-of-blocks m (suc count) i j l k = go (λ less. byte-of-blocks m count i j l
 
 -- ---- writing what was read
 
-module _ (file : List ℕ) (long : lengthRight file ≡ true) (checks : checksRight file ≡ true) (m : Model) (laid : laidOut file m ≡ true) where
+module _ (file : List ℕ) (long : lengthRight file ≡ true) (checks : checksRight file ≡ true) (m : Model)
+    (laid : laidOut file m ≡ true) where
   whole : (length file % 512 ≡ 0) × (512 ≤ length file)
   unfolding lengthRight
   whole =
-      let size = right-of (eqb (length file % 512) 0) _ long in
-      (eqb-true _ _ (left-of (eqb (length file % 512) 0) _ long), leb-true 512 (length file) (left-of (leb 512 (length file)) (leb (length file) 3072) size))
+      let size = right-of (eqb (length file % 512) 0) _ long in (
+        eqb-true _ _ (left-of (eqb (length file % 512) 0) _ long),
+        leb-true 512 (length file) (left-of (leb 512 (length file)) (leb (length file) 3072) size),
+      )
 
   abbrev content-stands : Bool
-  content-stands = every (blocksIn file) (λ i. every 510 (λ j. eqb (byteOf file i j) (contentByte m i j)))
+  content-stands = everyBelow (blocksIn file) (λ i. everyBelow 510 (λ j. eqb (byteOf file i j) (contentByte m i j)))
 
   count : blocksIn file ≡ blocks (m .n)
   unfolding laidOut
-  count = eqb-true _ _ (right-of (fieldsRight m) (eqb (blocksIn file) (blocks (m .n))) (left-of (fieldsRight m && eqb (blocksIn file) (blocks (m .n))) content-stands laid))
+  count = eqb-true _ _
+      (right-of (fieldsRight m) (eqb (blocksIn file) (blocks (m .n)))
+      (left-of (fieldsRight m && eqb (blocksIn file) (blocks (m .n))) content-stands laid))
 
   content : (i j : ℕ) → i < blocksIn file → j < 510 → byteOf file i j ≡ contentByte m i j
   unfolding laidOut
   content i j l k = eqb-true _ _
       (every-at 510 (λ j. eqb (byteOf file i j) (contentByte m i j))
-      (every-at (blocksIn file) (λ i. every 510 (λ j. eqb (byteOf file i j) (contentByte m i j)))
+      (every-at (blocksIn file) (λ i. everyBelow 510 (λ j. eqb (byteOf file i j) (contentByte m i j)))
       (right-of (fieldsRight m && eqb (blocksIn file) (blocks (m .n))) content-stands laid) i l) j k)
 
   one-check : (i : ℕ) → i < blocksIn file → checkOf (byteOf file i) ≡ checkOf (contentByte m i)
@@ -110,7 +117,7 @@ module _ (file : List ℕ) (long : lengthRight file ≡ true) (checks : checksRi
 
 -- ---- reading what was written
 
-module _ (m : Model) (right : fieldsRight m ≡ true) (sums : rowsRight m ≡ true) where
+module _ (m : Model) (right : fieldsRight m ≡ true) (sums : allAddUp m ≡ true) where
   -- byte j of block i of the file, and 0 past its end
   byte-written : (i j : ℕ) → i < blocks (m .n) → j < 512 → byteOf (fileOf m) i j ≡ byteAt m i j
   byte-written i j l k = byte-of-blocks m (blocks (m .n)) i j l k
@@ -131,7 +138,8 @@ module _ (m : Model) (right : fieldsRight m ≡ true) (sums : rowsRight m ≡ tr
       let size = length-blocks m (blocks (m .n)) in
       let some = states-some m right in
       let few = states-few m right in
-      and-true (eq-eqb (length (fileOf m) % 512) 0 (omega arith)) (and-true (le-leb 512 (length (fileOf m)) (omega arith)) (le-leb (length (fileOf m)) 3072 (omega arith)))
+      and-true (eq-eqb (length (fileOf m) % 512) 0 (omega arith))
+      (and-true (le-leb 512 (length (fileOf m)) (omega arith)) (le-leb (length (fileOf m)) 3072 (omega arith)))
 
   blocks-written : blocksIn (fileOf m) ≡ blocks (m .n)
   blocks-written =
@@ -146,14 +154,16 @@ module _ (m : Model) (right : fieldsRight m ≡ true) (sums : rowsRight m ≡ tr
       let less : i < blocks (m .n) = omega arith in
       let same = check-same {f = contentByte m i} {g = byteOf (fileOf m) i} (λ j k. sym (content-written i j less k)) in
       and-true
-      (eq-eqb (byteOf (fileOf m) i 510) (lowByte (checkOf (byteOf (fileOf m) i))) (byte-written i 510 less (omega arith) ∙ byte-low m i ∙ ap lowByte same))
-      (eq-eqb (byteOf (fileOf m) i 511) (highByte (checkOf (byteOf (fileOf m) i))) (byte-written i 511 less (omega arith) ∙ byte-high m i ∙ ap highByte same)))
+      (eq-eqb (byteOf (fileOf m) i 510) (lowByte (checkOf (byteOf (fileOf m) i)))
+      (byte-written i 510 less (omega arith) ∙ byte-low m i ∙ ap lowByte same))
+      (eq-eqb (byteOf (fileOf m) i 511) (highByte (checkOf (byteOf (fileOf m) i)))
+      (byte-written i 511 less (omega arith) ∙ byte-high m i ∙ ap highByte same)))
 
   -- the layout is right
   laid-written : laidOut (fileOf m) m ≡ true
   unfolding laidOut
   laid-written = and-true (and-true right (eq-eqb _ _ blocks-written))
-      (every-all (blocksIn (fileOf m)) (λ i. every 510 (λ j. eqb (byteOf (fileOf m) i j) (contentByte m i j)))
+      (every-all (blocksIn (fileOf m)) (λ i. everyBelow 510 (λ j. eqb (byteOf (fileOf m) i j) (contentByte m i j)))
       (λ i l. every-all 510 (λ j. eqb (byteOf (fileOf m) i j) (contentByte m i j)) (λ j k. eq-eqb _ _ (content-written i j
       (let c = blocks-written in
       omega arith) k))))
@@ -202,7 +212,8 @@ module _ (m : Model) (right : fieldsRight m ≡ true) (sums : rowsRight m ≡ tr
       go (no past) =
           let gone : blocks (m .n) ≤ 1 + s / 7 = omega arith in
           let out : m .n ≤ s = omega arith in
-          ap₂ two (past-written (1 + s / 7) (2 + 64 * (s % 7) + 2 * t) gone) (past-written (1 + s / 7) (2 + 64 * (s % 7) + 2 * t + 1) gone) ∙
+          ap₂ two (past-written (1 + s / 7) (2 + 64 * (s % 7) + 2 * t) gone)
+          (past-written (1 + s / 7) (2 + 64 * (s % 7) + 2 * t + 1) gone) ∙
           sym (weight-past m right s t l k (ap (λ (b : Bool). b && ltb t (m .n)) (le-ltb s (m .n) out)))
 
   total-written : fourAt (fileOf m) 0 4 ≡ m .d
@@ -227,7 +238,8 @@ module _ (m : Model) (right : fieldsRight m ≡ true) (sums : rowsRight m ≡ tr
 
   rows-written : Shaped m → table 32 (λ s. table 32 (weightAt (fileOf m) s)) ≡ m .weights .rows
   rows-written shaped = sym (table-is 32 (λ s. table 32 (weightAt (fileOf m) s)) [] (m .weights .rows) (shaped .rows)
-      (λ s l. table-is 32 (weightAt (fileOf m) s) 0 (getD (m .weights .rows) s []) (shaped .row s l) (λ t k. sym (weight-written s t l k (shaped .weight s t)))))
+      (λ s l. table-is 32 (weightAt (fileOf m) s) 0 (getD (m .weights .rows) s []) (shaped .row s l)
+      (λ t k. sym (weight-written s t l k (shaped .weight s t)))))
 
   -- reading what was written gives the same model
   pub fields-written : Shaped m → fieldsOf (fileOf m) ≡ m
@@ -246,4 +258,4 @@ module _ (m : Model) (right : fieldsRight m ≡ true) (sums : rowsRight m ≡ tr
       let back = sym (fields-written shaped) in
       number-0 (fileOf m) length-written checks-written
       (subst (λ (x : Model). laidOut (fileOf m) x ≡ true) back laid-written)
-      (subst (λ (x : Model). rowsRight x ≡ true) back sums)
+      (subst (λ (x : Model). allAddUp x ≡ true) back sums)

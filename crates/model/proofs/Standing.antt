@@ -9,11 +9,12 @@ use native.Mathlib.Decide.{decLt}
 use borrow.Author.Tests.{lt-ltb, le-ltb, eq-eqb, eqb-true}
 use lib.Dec.{ltb, eqb}
 use lib.ListN.{getD, List·getD-eq-default}
-use Rattle.counting.specs.Below.{every, table}
+use Rattle.counting.specs.Below.{everyBelow, table}
 use Rattle.counting.proofs.Laws.{table-at, length-table, every-at, every-all, same-truth, and-true, left-of, right-of}
 use Rattle.block.specs.Block.{byteOf}
 use Rattle.model.specs.declared.Model.{Model}
-use Rattle.model.specs.Layout.{maskOf, weightOf, twoAt, maskAt, weightAt, fieldsOf, byteOfTwo, headStart, maskByte, weightByte, headByte, rowByte, contentByte}
+use Rattle.model.specs.Layout.{maskOf, weightOf, twoAt, maskAt, weightAt, fieldsOf, byteOfTwo, headStart, maskByte, weightByte}
+use Rattle.model.specs.Layout.{headByte, rowByte, contentByte}
 use Rattle.model.proofs.Places.{byte-there}
 
 -- a list of bytes
@@ -61,11 +62,11 @@ content-head m j = refl
 marks-and-zeros : (p q : Bool) (n : ℕ) (zeros : ℕ → Bool) (all : ℕ → Bool) →
     (p ≡ true → q ≡ true → ((k : ℕ) → k < n → zeros k ≡ true) → (j : ℕ) → j < 510 → all j ≡ true) →
     (((j : ℕ) → j < 510 → all j ≡ true) → p ≡ true) → (((j : ℕ) → j < 510 → all j ≡ true) → q ≡ true) →
-    (((j : ℕ) → j < 510 → all j ≡ true) → (k : ℕ) → k < n → zeros k ≡ true) → (p && q && every n zeros) ≡ every 510 all
-marks-and-zeros p q n zeros all to first second rest = same-truth (p && q && every n zeros) (every 510 all)
+    (((j : ℕ) → j < 510 → all j ≡ true) → (k : ℕ) → k < n → zeros k ≡ true) → (p && q && everyBelow n zeros) ≡ everyBelow 510 all
+marks-and-zeros p q n zeros all to first second rest = same-truth (p && q && everyBelow n zeros) (everyBelow 510 all)
     (λ h.
-    let marks = left-of (p && q) (every n zeros) h in
-    every-all 510 all (to (left-of p q marks) (right-of p q marks) (every-at n zeros (right-of (p && q) (every n zeros) h))))
+    let marks = left-of (p && q) (everyBelow n zeros) h in
+    every-all 510 all (to (left-of p q marks) (right-of p q marks) (every-at n zeros (right-of (p && q) (everyBelow n zeros) h))))
     (λ h.
     let each = every-at 510 all h in
     and-true (and-true (first each) (second each)) (every-all n zeros (rest each)))
@@ -88,7 +89,7 @@ module _ (file : List ℕ) (bytes : Bytes file) where
       e ∙ byte-there file (omega arith)
   byte-back i at (suc (suc k)) i′ j l there = absurd (omega arith)
 
-  mask-of-file : (s : ℕ) → s < 32 → maskOf (fieldsOf file) s ≡ maskAt file s
+  pub mask-of-file : (s : ℕ) → s < 32 → maskOf (fieldsOf file) s ≡ maskAt file s
   unfolding fieldsOf
   mask-of-file s l = table-at 32 (maskAt file) 0 s l
 
@@ -96,7 +97,7 @@ module _ (file : List ℕ) (bytes : Bytes file) where
   unfolding fieldsOf
   no-mask s h = List·getD-eq-default (table 32 (maskAt file)) 0 (omega (arith, length-table 32 (maskAt file)))
 
-  weight-of-file : (s t : ℕ) → s < 32 → t < 32 → weightOf (fieldsOf file) s t ≡ weightAt file s t
+  pub weight-of-file : (s t : ℕ) → s < 32 → t < 32 → weightOf (fieldsOf file) s t ≡ weightAt file s t
   unfolding fieldsOf
   weight-of-file s t l k =
       ap (λ (row : List ℕ). getD row t 0) (table-at 32 (λ s. table 32 (weightAt file s)) [] s l) ∙ table-at 32 (weightAt file s) 0 t k
@@ -104,7 +105,8 @@ module _ (file : List ℕ) (bytes : Bytes file) where
   no-weight : (s t : ℕ) → 32 ≤ s → weightOf (fieldsOf file) s t ≡ 0
   unfolding fieldsOf
   no-weight s t h = ap (λ (row : List ℕ). getD row t 0)
-      (List·getD-eq-default (table 32 (λ s. table 32 (weightAt file s))) [] (omega (arith, length-table 32 (λ s. table 32 (weightAt file s)))))
+      (List·getD-eq-default (table 32 (λ s. table 32 (weightAt file s))) []
+      (omega (arith, length-table 32 (λ s. table 32 (weightAt file s)))))
 
   -- the masks' own bytes
   mask-byte : (j : ℕ) → 8 ≤ j → j < 72 → headByte (fieldsOf file) j ≡ byteOf file 0 j
@@ -116,7 +118,7 @@ module _ (file : List ℕ) (bytes : Bytes file) where
       byte-back 0 (8 + 2 * s) ((j - 8) % 2) 0 j (omega arith) (omega arith)
 
   -- past the masks of 32 states all is zero
-  past-masks : (j : ℕ) → 72 ≤ j → headByte (fieldsOf file) j ≡ 0
+  pub past-masks : (j : ℕ) → 72 ≤ j → headByte (fieldsOf file) j ≡ 0
   past-masks j h =
       let gone : 32 ≤ (j - 8) / 2 = omega arith in
       head-rest (fieldsOf file) j (omega arith) ∙
@@ -136,7 +138,7 @@ module _ (file : List ℕ) (bytes : Bytes file) where
   start-byte first third (suc (suc (suc (suc (suc (suc (suc (suc j)))))))) l = absurd (omega arith)
 
   -- block 0 stands as the layout has it if its fixed bytes and its zeros do
-  head-stands : byteOf file 0 0 ≡ 1 → byteOf file 0 3 ≡ 0 → ((k : ℕ) → k < 438 → byteOf file 0 (72 + k) ≡ 0) →
+  pub head-stands : byteOf file 0 0 ≡ 1 → byteOf file 0 3 ≡ 0 → ((k : ℕ) → k < 438 → byteOf file 0 (72 + k) ≡ 0) →
       (j : ℕ) → j < 510 → byteOf file 0 j ≡ contentByte (fieldsOf file) 0 j
   head-stands first third zeros j l = go (decLt j 8) (decLt j 72) ∙ sym (content-head (fieldsOf file) j)
     where
@@ -147,11 +149,11 @@ module _ (file : List ℕ) (bytes : Bytes file) where
           byte-there file (omega arith) ∙ zeros (j - 72) (omega arith) ∙ sym (past-masks j (omega arith))
 
   -- and only then
-  head-first : contentByte (fieldsOf file) 0 0 ≡ 1
+  pub head-first : contentByte (fieldsOf file) 0 0 ≡ 1
   unfolding headByte fieldsOf contentByte
   head-first = refl
 
-  head-third : contentByte (fieldsOf file) 0 3 ≡ 0
+  pub head-third : contentByte (fieldsOf file) 0 3 ≡ 0
   unfolding headByte fieldsOf contentByte
   head-third = refl
 
@@ -171,25 +173,27 @@ module _ (file : List ℕ) (bytes : Bytes file) where
       byte-back (1 + s / 7) (2 + 64 * (s % 7) + 2 * t) ((j - 2) % 2) i j (omega arith) (omega arith)
 
   -- a row that the record has no room for is zero
-  past-rows : (i j : ℕ) → 2 ≤ j → j < 450 → 32 ≤ 7 * (i - 1) + (j - 2) / 64 → rowByte (fieldsOf file) i j ≡ 0
+  pub past-rows : (i j : ℕ) → 2 ≤ j → j < 450 → 32 ≤ 7 * (i - 1) + (j - 2) / 64 → rowByte (fieldsOf file) i j ≡ 0
   past-rows i j h l gone =
       row-rest (fieldsOf file) i j h l ∙
       ap (λ (x : ℕ). byteOfTwo x ((j - 2) % 2)) (no-weight (7 * (i - 1) + (j - 2) / 64) ((j - 2) % 64 / 2) gone) ∙
       byte-of-zero ((j - 2) % 2)
 
   -- the test of block 0
-  pub head-test : (eqb (byteOf file 0 0) 1 && eqb (byteOf file 0 3) 0 && every 438 (λ k. eqb (byteOf file 0 (72 + k)) 0)) ≡ every 510 (stands 0)
+  pub head-test : (eqb (byteOf file 0 0) 1 && eqb (byteOf file 0 3) 0 && everyBelow 438
+      (λ k. eqb (byteOf file 0 (72 + k)) 0)) ≡ everyBelow 510
+      (stands 0)
   head-test = marks-and-zeros (eqb (byteOf file 0 0) 1) (eqb (byteOf file 0 3) 0) 438 (λ k. eqb (byteOf file 0 (72 + k)) 0) (stands 0)
       (λ first third zeros j l. eq-eqb _ _ (head-stands (eqb-true _ _ first) (eqb-true _ _ third) (λ k m. eqb-true _ _ (zeros k m)) j l))
       (λ all. eq-eqb _ _ (eqb-true _ _ (all 0 (omega arith)) ∙ head-first))
       (λ all. eq-eqb _ _ (eqb-true _ _ (all 3 (omega arith)) ∙ head-third))
       (λ all k m. eq-eqb _ _ (eqb-true _ _ (all (72 + k) (omega arith)) ∙ head-zero k))
 
-  row-first : (i : ℕ) → rowByte (fieldsOf file) i 0 ≡ 2
+  pub row-first : (i : ℕ) → rowByte (fieldsOf file) i 0 ≡ 2
   unfolding rowByte
   row-first i = refl
 
-  row-second : (i : ℕ) → rowByte (fieldsOf file) i 1 ≡ i
+  pub row-second : (i : ℕ) → rowByte (fieldsOf file) i 1 ≡ i
   unfolding rowByte
   row-second i = refl
 
@@ -216,7 +220,7 @@ module _ (file : List ℕ) (bytes : Bytes file) where
             byte-there file (omega arith) ∙ zeros (j - z) (omega arith) ∙ sym (past-zero j (omega arith))
 
     -- block i stands as the layout has it if its first two bytes do, and its zeros
-    row-stands : byteOf file i 0 ≡ 2 → byteOf file i 1 ≡ i → ((k : ℕ) → k < 510 - z → byteOf file i (z + k) ≡ 0) →
+    pub row-stands : byteOf file i 0 ≡ 2 → byteOf file i 1 ≡ i → ((k : ℕ) → k < 510 - z → byteOf file i (z + k) ≡ 0) →
         (j : ℕ) → j < 510 → byteOf file i j ≡ contentByte (fieldsOf file) i j
     row-stands first second zeros j l = row-stands-at first second zeros j l ∙ sym (content-row (fieldsOf file) i j one)
 
@@ -231,7 +235,9 @@ module _ (file : List ℕ) (bytes : Bytes file) where
     block-zero k = content-row (fieldsOf file) i (z + k) one ∙ past-zero (z + k) (omega arith)
 
     -- the test of block i, whose zeros are looked for from byte z on
-    pub row-test : (eqb (byteOf file i 0) 2 && eqb (byteOf file i 1) i && every (510 - z) (λ k. eqb (byteOf file i (z + k)) 0)) ≡ every 510 (stands i)
+    pub row-test : (eqb (byteOf file i 0) 2 && eqb (byteOf file i 1) i && everyBelow (510 - z)
+        (λ k. eqb (byteOf file i (z + k)) 0)) ≡ everyBelow
+        510 (stands i)
     row-test = marks-and-zeros (eqb (byteOf file i 0) 2) (eqb (byteOf file i 1) i) (510 - z) (λ k. eqb (byteOf file i (z + k)) 0) (stands i)
         (λ first second zeros j l. eq-eqb _ _ (row-stands (eqb-true _ _ first) (eqb-true _ _ second) (λ k m. eqb-true _ _ (zeros k m)) j l))
         (λ all. eq-eqb _ _ (eqb-true _ _ (all 0 (omega arith)) ∙ block-first))

@@ -51,7 +51,8 @@ module _ (m : Model) (i : ℕ) where
       content = record {
         upTo = omega arith;
         long = long;
-        held = held ∙ ap (λ (l : List ℕ). l ++ drop 510 before) (table-same 510 (contentByte m i) (byteAt m i) 0 (λ j l. sym (byte-content j l)));
+        held = held ∙ ap (λ (l : List ℕ). l ++ drop 510 before)
+            (table-same 510 (contentByte m i) (byteAt m i) 0 (λ j l. sym (byte-content j l)));
       }
 
       right : check ≡ checkOf (contentByte m i)
@@ -108,7 +109,8 @@ module _ (m : Model) (before : List ℕ) where
       rest = ap (drop (512 * i)) held′ ∙ drop-at (blocksBelow m i) (drop (512 * i) before) (512 * i) long
 
       after : atFront (blockBytes m i) (drop (512 * i) before) ≡ blockBytes m i ++ drop (512 * i + 512) before
-      after = ap (λ (l : List ℕ). blockBytes m i ++ l) (ap (λ (k : ℕ). drop k (drop (512 * i) before)) (length-block m i) ∙ drop-drop 512 (512 * i) before)
+      after = ap (λ (l : List ℕ). blockBytes m i ++ l)
+          (ap (λ (k : ℕ). drop k (drop (512 * i) before)) (length-block m i) ∙ drop-drop 512 (512 * i) before)
 
       both : length (blocksBelow m i ++ blockBytes m i) ≡ 512 * i + 512
       both = length-append (blocksBelow m i) (blockBytes m i) ∙ ap₂ _+_ long (length-block m i)

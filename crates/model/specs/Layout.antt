@@ -32,6 +32,26 @@ pub record Shaped (m : Model) : Type 0 where
 abbrev pub modelOf : (n a d : ℕ) → List ℕ → List (List ℕ) → Model
 modelOf n a d masks rows = record { n = n; a = a; d = d; masks = masks; weights = record { rows = rows } }
 
+-- ---- where the fields stand
+
+-- the masks stand in block 0 from this byte on, two bytes a state
+abbrev pub masksFrom : ℕ
+masksFrom = 8
+
+-- the rows of weights stand in the blocks from 1 on, so many states a block, from this byte on, so many bytes a state
+abbrev pub statesPerBlock : ℕ
+statesPerBlock = 7
+
+abbrev pub rowsFrom : ℕ
+rowsFrom = 2
+
+abbrev pub rowBytes : ℕ
+rowBytes = 64
+
+-- the byte after the rows of a block: bytes 450..509 are zero
+abbrev pub rowsEnd : ℕ
+rowsEnd = 450
+
 -- ---- the fields as they stand in a file
 
 -- the number of two bytes from byte j of block i
@@ -44,11 +64,11 @@ fourAt file i j = four (byteOf file i j) (byteOf file i (j + 1)) (byteOf file i 
 
 -- two bytes a state from byte 8 of block 0: its label mask
 abbrev pub maskAt : List ℕ → ℕ → ℕ
-maskAt file s = twoAt file 0 (8 + 2 * s)
+maskAt file s = twoAt file 0 (masksFrom + 2 * s)
 
 -- state s stands in block 1 + s / 7, in 64 bytes from 2 + 64 × (s mod 7): 32 weights of two bytes, column t the weight from s to t
 abbrev pub weightAt : List ℕ → ℕ → ℕ → ℕ
-weightAt file s t = twoAt file (1 + s / 7) (2 + 64 * (s % 7) + 2 * t)
+weightAt file s t = twoAt file (1 + s / statesPerBlock) (rowsFrom + rowBytes * (s % statesPerBlock) + 2 * t)
 
 -- byte 1 is N, byte 2 is A, bytes 4..7 are D
 unfoldable pub fieldsOf : List ℕ → Model
@@ -77,15 +97,15 @@ maskByte m k = byteOfTwo (maskOf m (k / 2)) (k % 2)
 
 -- block 0: its start, then from byte 8 the masks; the rest is zero, since no state from 32 on has a mask
 unfoldable pub headByte : Model → ℕ → ℕ
-headByte m j = getD (headStart m) j (maskByte m (j - 8))
+headByte m j = getD (headStart m) j (maskByte m (j - masksFrom))
 
 -- byte k of the rows of the states from s on: 64 bytes a state, two bytes a weight
 abbrev pub weightByte : Model → ℕ → ℕ → ℕ
-weightByte m s k = byteOfTwo (weightOf m (s + k / 64) (k % 64 / 2)) (k % 2)
+weightByte m s k = byteOfTwo (weightOf m (s + k / rowBytes) (k % rowBytes / 2)) (k % 2)
 
 -- block i, for i = 1, 2, ..: byte 0 is 2, byte 1 is i; then the rows of seven states; bytes 450..509 are zero
 unfoldable pub rowByte : Model → ℕ → ℕ → ℕ
-rowByte m i j = getD (2 ∷ i ∷ []) j (cond (ltb j 450) (weightByte m (7 * (i - 1)) (j - 2)) 0)
+rowByte m i j = getD (2 ∷ i ∷ []) j (cond (ltb j rowsEnd) (weightByte m (statesPerBlock * (i - 1)) (j - rowsFrom)) 0)
 
 -- byte j of block i, j below 510
 unfoldable pub contentByte : Model → ℕ → ℕ → ℕ
@@ -102,7 +122,7 @@ blockBytes m i = table 512 (byteAt m i)
 
 -- blocks in all: 1 + N / 7 rounded up
 abbrev pub blocks : ℕ → ℕ
-blocks n = 1 + (n + 6) / 7
+blocks n = 1 + (n + 6) / statesPerBlock
 
 -- the bytes of the blocks below a number, one block after another
 unfoldable pub blocksBelow : Model → ℕ → List ℕ

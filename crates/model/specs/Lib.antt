@@ -1,3 +1,5 @@
--- The model file: its layout, and the rows and contracts of read model and write model.
+-- The model file: its layout, what the layout asks, and the contracts of read model and write model.
 pub mod Layout
-pub mod Rows
+pub mod Rules
+pub mod Words
+pub mod Contract

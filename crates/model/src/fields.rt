@@ -4,9 +4,13 @@ ghost use Prim.Native.Nat.{_+_, _*_, _<_};
 ghost use Rattle.counting.specs.Below.{table};
 ghost use Rattle.model.specs.Layout.{twoAt, weightAt, fieldsOf};
 use crate::Model;
+use crate::ROW_BYTES;
+use crate::ROWS_FROM;
+use crate::STATES_PER_BLOCK;
 use crate::matrix;
 use block::block_byte;
 use block::two_of;
+use block::wide;
 
 // The number of two bytes from byte j of a block.
 fn two_at(file: &[u8], block: usize, j: usize) -> u16
@@ -30,7 +34,7 @@ fn four_of(low: u16, high: u16) -> u32
     wide16(low) + 65536 * wide16(high)
 }
 
-// The 32 numbers of two bytes each from a byte of a block on.
+// The 32 numbers of two bytes that stand in a block from byte `from` on.
 fn numbers_at(file: &[u8], block: usize, from: usize) -> [u16; 32]
     requires { ⌜ from < 449 ⌝ }
     ensures { λ r. ⌜ r ≡ table 32 (λ k. twoAt (now (file .entry)) block (from + 2 * k)) ⌝ }
@@ -51,7 +55,11 @@ fn weights_at(file: &[u8]) -> [[u16; 32]; 32]
     let mut rows = [[0u16; 32]; 32];
     let mut s: usize = 0;
     while s < 32 {
-        rows[s] = numbers_at(file, 1 + s / 7, 2 + 64 * (s % 7));
+        rows[s] = numbers_at(
+            file,
+            1 + s / STATES_PER_BLOCK,
+            ROWS_FROM + ROW_BYTES * (s % STATES_PER_BLOCK),
+        );
         s += 1;
     }
     rows
@@ -64,8 +72,8 @@ pub fn fields_of(file: &[u8]) -> Model
     let masks = numbers_at(file, 0, 8);
     let weights = matrix::holding(weights_at(file));
     Model {
-        n: block_byte(file, 0, 1),
-        a: block_byte(file, 0, 2),
+        n: wide(block_byte(file, 0, 1)),
+        a: wide(block_byte(file, 0, 2)),
         d: four_of(two_at(file, 0, 4), two_at(file, 0, 6)),
         masks: masks,
         weights: weights,

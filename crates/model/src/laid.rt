@@ -3,18 +3,22 @@
 ghost use mathlib.Core.Path.{_≡_};
 ghost use Prim.Native.Nat.{_+_, _<_, _≤_};
 ghost use lib.Dec.{eqb};
-ghost use Rattle.counting.specs.Below.{every};
+ghost use Rattle.counting.specs.Below.{everyBelow};
 ghost use Rattle.block.specs.Block.{byteOf};
 ghost use Rattle.model.specs.Layout.{contentByte, fieldsOf};
-ghost use Rattle.model.specs.Rows.{laidOut};
+ghost use Rattle.model.specs.Rules.{laidOut};
+use crate::AFTER_ROWS;
 use crate::Model;
+use crate::ROWS_END;
+use crate::STATES_PER_BLOCK;
 use crate::rules::fields_right;
+use block::BLOCK;
 use block::block_byte;
 
-// Whether so many bytes from a place of a block are zero.
+// Whether the `count` bytes from byte `from` of a block on are zero.
 fn zeros(file: &[u8], block: usize, from: usize, count: usize) -> bool
     requires { ⌜ from + count ≤ 510 ⌝ }
-    ensures { λ r. ⌜ r ≡ every count (λ k. eqb (byteOf (now (file .entry)) block (from + k)) 0) ⌝ }
+    ensures { λ r. ⌜ r ≡ everyBelow count (λ k. eqb (byteOf (now (file .entry)) block (from + k)) 0) ⌝ }
 {
     let mut k: usize = 0;
     while k < count {
@@ -28,7 +32,7 @@ fn zeros(file: &[u8], block: usize, from: usize, count: usize) -> bool
 
 // Whether block 0 stands as the layout has it: byte 0 is 1, byte 3 is 0, and from byte 72 on all are zero.
 fn head_laid(file: &[u8]) -> bool
-    ensures { λ r. ⌜ r ≡ every 510 (λ j. eqb (byteOf (now (file .entry)) 0 j) (contentByte (fieldsOf (now (file .entry))) 0 j)) ⌝ }
+    ensures { λ r. ⌜ r ≡ everyBelow 510 (λ j. eqb (byteOf (now (file .entry)) 0 j) (contentByte (fieldsOf (now (file .entry))) 0 j)) ⌝ }
 {
     (block_byte(file, 0, 0) == 1) & (block_byte(file, 0, 3) == 0) & zeros(file, 0, 72, 438)
 }
@@ -37,11 +41,11 @@ fn head_laid(file: &[u8]) -> bool
 // from the place of state 32 on.
 fn row_block_laid(file: &[u8], i: usize) -> bool
     requires { ⌜ (1 ≤ i) × (i < 6) ⌝ }
-    ensures { λ r. ⌜ r ≡ every 510 (λ j. eqb (byteOf (now (file .entry)) i j) (contentByte (fieldsOf (now (file .entry))) i j)) ⌝ }
+    ensures { λ r. ⌜ r ≡ everyBelow 510 (λ j. eqb (byteOf (now (file .entry)) i j) (contentByte (fieldsOf (now (file .entry))) i j)) ⌝ }
 {
     let marked = (block_byte(file, i, 0) == 2) & (block_byte(file, i, 1) == i as u8);
     if i < 5 {
-        marked & zeros(file, i, 450, 60)
+        marked & zeros(file, i, ROWS_END, AFTER_ROWS)
     } else {
         marked & zeros(file, i, 258, 252)
     }
@@ -50,7 +54,7 @@ fn row_block_laid(file: &[u8], i: usize) -> bool
 // Whether block i stands as the layout has it.
 fn block_laid(file: &[u8], i: usize) -> bool
     requires { ⌜ i < 6 ⌝ }
-    ensures { λ r. ⌜ r ≡ every 510 (λ j. eqb (byteOf (now (file .entry)) i j) (contentByte (fieldsOf (now (file .entry))) i j)) ⌝ }
+    ensures { λ r. ⌜ r ≡ everyBelow 510 (λ j. eqb (byteOf (now (file .entry)) i j) (contentByte (fieldsOf (now (file .entry))) i j)) ⌝ }
 {
     if i == 0 {
         head_laid(file)
@@ -62,7 +66,8 @@ fn block_laid(file: &[u8], i: usize) -> bool
 // Whether every block stands as the layout has it.
 fn blocks_laid(file: &[u8], count: usize) -> bool
     requires { ⌜ count ≤ 6 ⌝ }
-    ensures { λ r. ⌜ r ≡ every count (λ i. every 510 (λ j. eqb (byteOf (now (file .entry)) i j) (contentByte (fieldsOf (now (file .entry))) i j))) ⌝ }
+    ensures { λ r. ⌜ r ≡ everyBelow count
+        (λ i. everyBelow 510 (λ j. eqb (byteOf (now (file .entry)) i j) (contentByte (fieldsOf (now (file .entry))) i j))) ⌝ }
 {
     let mut i: usize = 0;
     while i < count {
@@ -74,13 +79,13 @@ fn blocks_laid(file: &[u8], count: usize) -> bool
     true
 }
 
-// Row 4 of a file, whose fields are those of m.
+// Whether row 4 does not apply to a file with the fields m.
 pub fn laid_out(file: &[u8], m: Model) -> bool
     requires { ⌜ m ≡ fieldsOf (now file) ⌝ }
     ensures { λ r. ⌜ r ≡ laidOut (now (file .entry)) m ⌝ }
 {
-    let blocks = file.len() / 512;
-    let wanted = 1 + (m.n as usize + 6) / 7;
+    let blocks = file.len() / BLOCK;
+    let wanted = 1 + (m.n as usize + 6) / STATES_PER_BLOCK;
     if !fields_right(m) {
         return false;
     }

@@ -1,4 +1,4 @@
-// The model file of document 01, read and written. The layout is said once, in specs/Layout; the rows in specs/Rows.
+// The model file of document 01, read and written. The layout is said once, in specs/Layout; the contracts are in specs/Contract.
 mod fields;
 mod laid;
 pub mod matrix;
@@ -9,11 +9,26 @@ pub mod writer;
 use matrix::Weights;
 use refusal::Outcome;
 
+// The longest model file, in bytes.
+const LONGEST: usize = 3072;
+
+// Where rows stand in a block: so many states a block, from this byte on, so many bytes a row, up to this byte.
+const STATES_PER_BLOCK: usize = 7;
+
+const ROWS_FROM: usize = 2;
+
+const ROW_BYTES: usize = 64;
+
+const ROWS_END: usize = 450;
+
+// The bytes of a block between its rows and its check.
+const AFTER_ROWS: usize = 60;
+
 // A model as its file says it: N states, A labels, D, a label mask for each state, and the weight from each state to
 // each. The record can hold what no file can: such a record is refused by write_model.
 pub struct Model {
-    pub n: u8,
-    pub a: u8,
+    pub n: u32,
+    pub a: u32,
     pub d: u32,
     pub masks: [u16; 32],
     pub weights: Weights,

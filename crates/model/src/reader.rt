@@ -1,12 +1,15 @@
 // Read model: the rows of a model file in the order of their numbers, then its fields.
 ghost use mathlib.Core.Path.{_≡_};
-ghost use Rattle.model.specs.Rows.{lengthRight, emptyModel, Reads};
+ghost use Rattle.model.specs.Rules.{lengthRight};
+ghost use Rattle.model.specs.Contract.{emptyModel, ReadModelEnsures};
+use crate::LONGEST;
 use crate::Model;
 use crate::ModelRead;
 use crate::fields::fields_of;
 use crate::laid::laid_out;
 use crate::matrix;
 use crate::rules::rows_right;
+use block::BLOCK;
 use block::checks_right;
 use refusal::Outcome;
 
@@ -15,8 +18,8 @@ fn length_right(file: &[u8]) -> bool
     ensures { λ r. ⌜ r ≡ lengthRight (now (file .entry)) ⌝ }
 {
     let length = file.len();
-    let whole = length % 512 == 0;
-    let some = (512 <= length) & (length <= 3072);
+    let whole = length % BLOCK == 0;
+    let some = (BLOCK <= length) & (length <= LONGEST);
     whole & some
 }
 
@@ -33,7 +36,7 @@ fn empty_model() -> Model
     }
 }
 
-// The refusal with a number.
+// Returns a refusal with this number.
 fn refused(number: u8) -> ModelRead
     ensures { λ r. ⌜ (r .outcome ≡ Outcome.Refused number) × (r .model ≡ emptyModel) ⌝ }
 {
@@ -44,9 +47,9 @@ fn refused(number: u8) -> ModelRead
     }
 }
 
-// Read model: the model of a file, or the smallest number of a row that applies to it.
+// Read model. Returns the model of a file, or refuses with the smallest number that applies to it.
 pub fn read_model(file: &[u8]) -> ModelRead
-    ensures { λ r. ⌜ Reads (now (file .entry)) r ⌝ }
+    ensures { λ r. ⌜ ReadModelEnsures (now (file .entry)) r ⌝ }
 {
     if !length_right(file) {
         return refused(2);

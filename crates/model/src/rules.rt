@@ -5,14 +5,14 @@ ghost use Prim.Native.Nat.{_^_, _<_};
 ghost use lib.ListN.{getD};
 ghost use mathlib.Core.List.{[]};
 ghost use lib.Dec.{leb, ltb, eqb};
-ghost use Rattle.counting.specs.Below.{sum, every};
-ghost use Rattle.model.specs.Rows.{within, fieldsRight, rowsRight};
+ghost use Rattle.counting.specs.Below.{sumBelow, everyBelow};
+ghost use Rattle.model.specs.Rules.{within, fieldsRight, allAddUp};
 use crate::Model;
 use crate::fields::wide16;
 use crate::matrix;
 
-// N is 1..32 states, A is 1..16 labels, D is 1..65,535.
-fn numbers_right(n: u8, a: u8, d: u32) -> bool
+// Whether N is 1..32 states, A is 1..16 labels and D is 1..65,535.
+fn numbers_right(n: u32, a: u32, d: u32) -> bool
     ensures { λ r. ⌜ r ≡ (within 1 32 n && within 1 16 a && within 1 65535 d) ⌝ }
 {
     let states = (1 <= n) & (n <= 32);
@@ -22,7 +22,7 @@ fn numbers_right(n: u8, a: u8, d: u32) -> bool
 }
 
 // Whether a mask has its bits A and up zero.
-fn mask_fits(mask: u16, a: u8) -> bool
+fn mask_fits(mask: u16, a: u32) -> bool
     ensures { λ r. ⌜ r ≡ ltb mask (2 ^ a) ⌝ }
 {
     if 16 <= a {
@@ -33,7 +33,7 @@ fn mask_fits(mask: u16, a: u8) -> bool
 }
 
 // Whether state s may have this mask.
-fn mask_right(s: usize, n: usize, a: u8, mask: u16) -> bool
+fn mask_right(s: usize, n: usize, a: u32, mask: u16) -> bool
     ensures { λ r. ⌜ r ≡ (ltb s n && ltb mask (2 ^ a) || eqb mask 0) ⌝ }
 {
     (s < n) & mask_fits(mask, a) | (mask == 0)
@@ -41,7 +41,7 @@ fn mask_right(s: usize, n: usize, a: u8, mask: u16) -> bool
 
 // Whether a row is zero from a column on.
 fn zero_from(row: &[u16; 32], from: usize) -> bool
-    ensures { λ r. ⌜ r ≡ every 32 (λ t. ltb t from || eqb (getD (now (row .entry)) t 0) 0) ⌝ }
+    ensures { λ r. ⌜ r ≡ everyBelow 32 (λ t. ltb t from || eqb (getD (now (row .entry)) t 0) 0) ⌝ }
 {
     let mut t: usize = 0;
     while t < 32 {
@@ -55,7 +55,7 @@ fn zero_from(row: &[u16; 32], from: usize) -> bool
 
 // Whether the row of state s is zero from column N on, and for a state from N on all of it.
 fn row_ends(row: &[u16; 32], s: usize, n: usize) -> bool
-    ensures { λ r. ⌜ r ≡ every 32 (λ t. ltb s n && ltb t n || eqb (getD (now (row .entry)) t 0) 0) ⌝ }
+    ensures { λ r. ⌜ r ≡ everyBelow 32 (λ t. ltb s n && ltb t n || eqb (getD (now (row .entry)) t 0) 0) ⌝ }
 {
     if s < n {
         zero_from(row, n)
@@ -65,8 +65,10 @@ fn row_ends(row: &[u16; 32], s: usize, n: usize) -> bool
 }
 
 // Whether every state's mask is right, and columns and rows from N on are zero.
-fn states_right(n: usize, a: u8, masks: &[u16; 32], rows: &[[u16; 32]; 32]) -> bool
-    ensures { λ r. ⌜ r ≡ every 32 (λ s. (ltb s n && ltb (getD (now (masks .entry)) s 0) (2 ^ a) || eqb (getD (now (masks .entry)) s 0) 0) && every 32 (λ t. ltb s n && ltb t n || eqb (getD (getD (now (rows .entry)) s []) t 0) 0)) ⌝ }
+fn states_right(n: usize, a: u32, masks: &[u16; 32], rows: &[[u16; 32]; 32]) -> bool
+    ensures { λ r. ⌜ r ≡ everyBelow 32
+        (λ s. (ltb s n && ltb (getD (now (masks .entry)) s 0) (2 ^ a) || eqb (getD (now (masks .entry)) s 0) 0) && everyBelow 32
+        (λ t. ltb s n && ltb t n || eqb (getD (getD (now (rows .entry)) s []) t 0) 0)) ⌝ }
 {
     let mut s: usize = 0;
     while s < 32 {
@@ -78,7 +80,7 @@ fn states_right(n: usize, a: u8, masks: &[u16; 32], rows: &[[u16; 32]; 32]) -> b
     true
 }
 
-// What the layout asks of all the fields: row 4 of a record.
+// Whether row 4 does not apply to a record.
 pub fn fields_right(m: Model) -> bool
     ensures { λ r. ⌜ r ≡ fieldsRight m ⌝ }
 {
@@ -90,7 +92,7 @@ pub fn fields_right(m: Model) -> bool
 
 // The sum of a row.
 pub fn row_sum(row: &[u16; 32]) -> u32
-    ensures { λ r. ⌜ (r ≡ sum 32 (λ t. getD (now (row .entry)) t 0)) × (r < 2097152) ⌝ }
+    ensures { λ r. ⌜ (r ≡ sumBelow 32 (λ t. getD (now (row .entry)) t 0)) × (r < 2097152) ⌝ }
 {
     let mut total: u32 = 0;
     let mut t: usize = 0;
@@ -103,7 +105,7 @@ pub fn row_sum(row: &[u16; 32]) -> u32
 
 // Whether the row of every state below N adds up to D.
 fn rows_add_up(rows: [[u16; 32]; 32], n: usize, d: u32) -> bool
-    ensures { λ r. ⌜ r ≡ every 32 (λ s. leb n s || eqb (sum 32 (λ t. getD (getD rows s []) t 0)) d) ⌝ }
+    ensures { λ r. ⌜ r ≡ everyBelow 32 (λ s. leb n s || eqb (sumBelow 32 (λ t. getD (getD rows s []) t 0)) d) ⌝ }
 {
     let mut s: usize = 0;
     while s < 32 {
@@ -116,9 +118,9 @@ fn rows_add_up(rows: [[u16; 32]; 32], n: usize, d: u32) -> bool
     true
 }
 
-// Row 5 of a record.
+// Whether row 5 does not apply to a record.
 pub fn rows_right(m: Model) -> bool
-    ensures { λ r. ⌜ r ≡ rowsRight m ⌝ }
+    ensures { λ r. ⌜ r ≡ allAddUp m ⌝ }
 {
     let rows = matrix::rows_of(m.weights);
     rows_add_up(rows, m.n as usize, m.d)

@@ -4,13 +4,20 @@ ghost use mathlib.Core.List.{[], _++_};
 ghost use Prim.Native.Nat.{_+_, _*_, _/_, _%_, _<_, _≤_};
 ghost use lib.ListN.{length, getD, drop};
 ghost use Rattle.counting.specs.Below.{table};
-ghost use Rattle.refusal.specs.Answers.{atFront, Writes};
+ghost use Rattle.refusal.specs.Answers.{atFront};
 ghost use Rattle.model.specs.Layout.{modelOf, byteOfTwo, headByte, rowByte, contentByte, blockBytes, blocksBelow, fileOf};
-ghost use Rattle.model.specs.Rows.{recordRows};
+ghost use Rattle.model.specs.Contract.{WriteModelEnsures};
 use crate::Model;
+use crate::ROW_BYTES;
+use crate::ROWS_END;
+use crate::ROWS_FROM;
+use crate::STATES_PER_BLOCK;
 use crate::matrix;
 use crate::rules::fields_right;
 use crate::rules::rows_right;
+use block::BLOCK;
+use block::CHECK_HIGH;
+use block::CHECKED;
 use block::check_of;
 use refusal::Written;
 
@@ -61,8 +68,8 @@ fn weight_byte(rows: &[[u16; 32]; 32], s: usize, k: usize) -> u8
     requires { ⌜ (length (now rows) ≡ 32) × (s ≤ 64) × (k < 448) ⌝ }
     ensures { λ r. ⌜ r ≡ byteOfTwo (getD (getD (now (rows .entry)) (s + k / 64) []) (k % 64 / 2) 0) (k % 2) ⌝ }
 {
-    let state = s + k / 64;
-    let t = k % 64 / 2;
+    let state = s + k / ROW_BYTES;
+    let t = k % ROW_BYTES / 2;
     if state < 32 {
         byte_of_two(rows[state][t], k % 2)
     } else {
@@ -79,8 +86,8 @@ fn row_byte(rows: &[[u16; 32]; 32], i: usize, j: usize) -> u8
         0 => 2,
         1 => i as u8,
         _ => {
-            if j < 450 {
-                weight_byte(rows, 7 * (i - 1), j - 2)
+            if j < ROWS_END {
+                weight_byte(rows, STATES_PER_BLOCK * (i - 1), j - ROWS_FROM)
             } else {
                 0
             }
@@ -119,10 +126,11 @@ fn write_content(
     out: &mut [u8],
 )
     requires { ⌜ (length (now masks) ≡ 32) × (length (now rows) ≡ 32) × (i ≤ 6) × (512 ≤ length (now out)) ⌝ }
-    ensures { λ r. ⌜ now (out .exit) ≡ table 510 (contentByte (modelOf n a d (now (masks .entry)) (now (rows .entry))) i) ++ drop 510 (now (out .entry)) ⌝ }
+    ensures { λ r. ⌜ now (out .exit) ≡ table 510 (contentByte (modelOf n a d (now (masks .entry)) (now (rows .entry))) i) ++ drop 510
+        (now (out .entry)) ⌝ }
 {
     let mut j: usize = 0;
-    while j < 510 {
+    while j < CHECKED {
         out[j] = content_byte(n, a, d, masks, rows, i, j);
         j += 1;
     }
@@ -139,12 +147,13 @@ fn write_block(
     out: &mut [u8],
 )
     requires { ⌜ (length (now masks) ≡ 32) × (length (now rows) ≡ 32) × (i ≤ 6) × (512 ≤ length (now out)) ⌝ }
-    ensures { λ r. ⌜ now (out .exit) ≡ atFront (blockBytes (modelOf n a d (now (masks .entry)) (now (rows .entry))) i) (now (out .entry)) ⌝ }
+    ensures { λ r. ⌜ now (out .exit) ≡ atFront (blockBytes (modelOf n a d (now (masks .entry)) (now (rows .entry))) i)
+        (now (out .entry)) ⌝ }
 {
     write_content(n, a, d, masks, rows, i, out);
     let check = check_of(out, 0);
-    out[510] = (check % 256) as u8;
-    out[511] = (check / 256 % 256) as u8;
+    out[CHECKED] = (check % 256) as u8;
+    out[CHECK_HIGH] = (check / 256 % 256) as u8;
 }
 
 // Writes the blocks below a number, one after another.
@@ -158,19 +167,20 @@ fn write_blocks(
     out: &mut [u8],
 )
     requires { ⌜ (length (now masks) ≡ 32) × (length (now rows) ≡ 32) × (count ≤ 6) × (512 * count ≤ length (now out)) ⌝ }
-    ensures { λ r. ⌜ now (out .exit) ≡ atFront (blocksBelow (modelOf n a d (now (masks .entry)) (now (rows .entry))) count) (now (out .entry)) ⌝ }
+    ensures { λ r. ⌜ now (out .exit) ≡ atFront (blocksBelow (modelOf n a d (now (masks .entry)) (now (rows .entry))) count)
+        (now (out .entry)) ⌝ }
 {
     let mut i: usize = 0;
     while i < count {
-        let at = 512 * i;
+        let at = BLOCK * i;
         write_block(n, a, d, masks, rows, i, &mut out[at..]);
         i += 1;
     }
 }
 
-// Write model: the file of a model at the front of the output, or the smallest number of a row that applies.
+// Write model. Writes the file of a model at the front of the output, or refuses with the smallest number that applies.
 pub fn write_model(m: Model, out: &mut [u8]) -> Written
-    ensures { λ r. ⌜ Writes (recordRows m (length (now (out .entry)))) (fileOf m) (now (out .entry)) (now (out .exit)) r ⌝ }
+    ensures { λ r. ⌜ WriteModelEnsures m (now (out .entry)) (now (out .exit)) r ⌝ }
 {
     if !fields_right(m) {
         return Written::Refused(4);
@@ -178,12 +188,13 @@ pub fn write_model(m: Model, out: &mut [u8]) -> Written
     if !rows_right(m) {
         return Written::Refused(5);
     }
-    let count = 1 + (m.n as usize + 6) / 7;
-    if out.len() < 512 * count {
+    let count = 1 + (m.n as usize + 6) / STATES_PER_BLOCK;
+    let size = BLOCK * count;
+    if out.len() < size {
         return Written::Refused(14);
     }
     let masks = m.masks;
     let rows = matrix::rows_of(m.weights);
-    write_blocks(m.n, m.a, m.d, &masks, &rows, count, out);
-    Written::Wrote(512 * count)
+    write_blocks(m.n as u8, m.a as u8, m.d, &masks, &rows, count, out);
+    Written::Wrote(size)
 }

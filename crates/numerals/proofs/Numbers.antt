@@ -12,9 +12,9 @@ use Rattle.numerals.specs.Numeral.{digits, numberText}
 use Rattle.numerals.specs.Working.{NoDigit}
 
 -- the first number that k digits do not spell
-abbrev pub limit : ℕ → ℕ
-limit zero = 1
-limit (suc k) = 10 * limit k
+abbrev pub beyond : ℕ → ℕ
+beyond zero = 1
+beyond (suc k) = 10 * beyond k
 
 -- a test with the equation that it is answered by
 pub data Tested (b : Bool) : Type 0 where
@@ -26,10 +26,11 @@ tested true = holds refl
 tested false = fails refl
 
 -- a digit more to write with changes nothing where fewer do
-digits-more : (k n : ℕ) → n < limit (suc k) → digits (suc (suc k)) n ≡ digits (suc k) n
+digits-more : (k n : ℕ) → n < beyond (suc k) → digits (suc (suc k)) n ≡ digits (suc k) n
 unfolding digits
 digits-more zero n h = rw (lt-ltb n 10 (omega arith)) refl
-digits-more (suc k) n h = ap (λ (l : List ℕ). cond (ltb n 10) ((48 + n) ∷ []) (l ++ (48 + n % 10) ∷ [])) (digits-more k (n / 10) (omega arith))
+digits-more (suc k) n h =
+    ap (λ (l : List ℕ). cond (ltb n 10) ((48 + n) ∷ []) (l ++ (48 + n % 10) ∷ [])) (digits-more k (n / 10) (omega arith))
 
 -- a number below ten is its digit
 pub one-digit : (n : ℕ) → n < 10 → numberText n ≡ (48 + n) ∷ []
@@ -78,11 +79,12 @@ pub scan-up : (a : ℕ) (t : List ℕ) → a ≤ scan a t .0
 scan-up a [] = omega arith
 scan-up a (b ∷ t) = by (isDigit b) (scan-up (10 * a + (b - 48)) t)
   where
-    by : (x : Bool) → 10 * a + (b - 48) ≤ scan (10 * a + (b - 48)) t .0 → a ≤ cond {A = ℕ × List ℕ} x (scan (10 * a + (b - 48)) t) (a, b ∷ t) .0
+    by : (x : Bool) → 10 * a + (b - 48) ≤ scan (10 * a + (b - 48)) t .0
+        → a ≤ cond {A = ℕ × List ℕ} x (scan (10 * a + (b - 48)) t) (a, b ∷ t) .0
     by true h = omega arith
     by false h = omega arith
 
-scan-digits : (k n : ℕ) (s : List ℕ) → n < limit k → scan 0 (digits k n ++ s) ≡ scan n s
+scan-digits : (k n : ℕ) (s : List ℕ) → n < beyond k → scan 0 (digits k n ++ s) ≡ scan n s
 unfolding digits
 scan-digits zero n s h = ap (λ (m : ℕ). scan m s) (omega arith)
 scan-digits (suc k) n s h = by (scan-digits k (n / 10) ((48 + n % 10) ∷ s) (omega arith)) (tested (ltb n 10))
@@ -90,10 +92,13 @@ scan-digits (suc k) n s h = by (scan-digits k (n / 10) ((48 + n % 10) ∷ s) (om
     few : n < 10 → scan 0 ((48 + n) ∷ s) ≡ scan n s
     few l = scan-digit 0 (48 + n) s (omega arith) (omega arith) ∙ ap (λ (m : ℕ). scan m s) (omega arith)
 
-    more : scan 0 (digits k (n / 10) ++ (48 + n % 10) ∷ s) ≡ scan (n / 10) ((48 + n % 10) ∷ s) → scan 0 ((digits k (n / 10) ++ (48 + n % 10) ∷ []) ++ s) ≡ scan n s
-    more ih = rw append-assoc (ih ∙ scan-digit (n / 10) (48 + n % 10) s (omega arith) (omega arith) ∙ ap (λ (m : ℕ). scan m s) (omega arith))
+    more : scan 0 (digits k (n / 10) ++ (48 + n % 10) ∷ s) ≡ scan (n / 10) ((48 + n % 10) ∷ s)
+        → scan 0 ((digits k (n / 10) ++ (48 + n % 10) ∷ []) ++ s) ≡ scan n s
+    more ih = rw append-assoc
+        (ih ∙ scan-digit (n / 10) (48 + n % 10) s (omega arith) (omega arith) ∙ ap (λ (m : ℕ). scan m s) (omega arith))
 
-    by : scan 0 (digits k (n / 10) ++ (48 + n % 10) ∷ s) ≡ scan (n / 10) ((48 + n % 10) ∷ s) → Tested (ltb n 10) → scan 0 (cond (ltb n 10) ((48 + n) ∷ []) (digits k (n / 10) ++ (48 + n % 10) ∷ []) ++ s) ≡ scan n s
+    by : scan 0 (digits k (n / 10) ++ (48 + n % 10) ∷ s) ≡ scan (n / 10) ((48 + n % 10) ∷ s) → Tested (ltb n 10)
+        → scan 0 (cond (ltb n 10) ((48 + n) ∷ []) (digits k (n / 10) ++ (48 + n % 10) ∷ []) ++ s) ≡ scan n s
     by ih (holds e) = rw e (few (ltb-true n 10 e))
     by ih (fails e) = rw e (more ih)
 
@@ -111,12 +116,21 @@ pub record Head (l : List ℕ) (n : ℕ) : Type 0 where
   pub high : first ≤ 57
   pub nonzero : 1 ≤ n → 49 ≤ first
 
-heads : (k n : ℕ) → n < limit (suc k) → Head (digits (suc k) n) n
+heads : (k n : ℕ) → n < beyond (suc k) → Head (digits (suc k) n) n
 unfolding digits
-heads zero n h = record { first = 48 + n; rest = []; same = rw (lt-ltb n 10 (omega arith)) refl; low = omega arith; high = omega arith; nonzero = λ one. omega arith }
+heads zero n h = record {
+  first = 48 + n;
+  rest = [];
+  same = rw (lt-ltb n 10 (omega arith)) refl;
+  low = omega arith;
+  high =
+      omega arith;
+  nonzero = λ one. omega arith;
+}
 heads (suc k) n h = by (heads k (n / 10) (omega arith)) (tested (ltb n 10))
   where
-    by : Head (digits (suc k) (n / 10)) (n / 10) → Tested (ltb n 10) → Head (cond (ltb n 10) ((48 + n) ∷ []) (digits (suc k) (n / 10) ++ (48 + n % 10) ∷ [])) n
+    by : Head (digits (suc k) (n / 10)) (n / 10) → Tested (ltb n 10)
+        → Head (cond (ltb n 10) ((48 + n) ∷ []) (digits (suc k) (n / 10) ++ (48 + n % 10) ∷ [])) n
     by ih (holds e) =
         let l : n < 10 = ltb-true n 10 e in
         record { first = 48 + n; rest = []; same = rw e refl; low = omega arith; high = omega arith; nonzero = λ one. omega arith }
@@ -188,6 +202,7 @@ size-5 n l =
     )
 
 -- the size of a text of a byte, two numbers and the bytes after them
-pub two-sizes : (a b c d x y : ℕ) → x ≡ length (numberText a) → y ≡ length (numberText b) → x + y + 3 ≡ suc (length (numberText a ++ c ∷ (numberText b ++ d ∷ [])))
+pub two-sizes : (a b c d x y : ℕ) → x ≡ length (numberText a) → y ≡ length (numberText b)
+    → x + y + 3 ≡ suc (length (numberText a ++ c ∷ (numberText b ++ d ∷ [])))
 two-sizes a b c d x y e f =
     rw (length-append (numberText a) (c ∷ (numberText b ++ d ∷ [])), length-append (numberText b) (d ∷ [])) (omega arith)

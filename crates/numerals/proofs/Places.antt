@@ -39,13 +39,13 @@ starts t at b e l =
     here t at (inside t at h) ∙ ap (λ (x : ℕ). x ∷ drop (at + 1) t) e
 
 -- the first byte of a list, and 0 where there is none
-abbrev pub first : List ℕ → ℕ
-first [] = 0
-first (b ∷ t) = b
+abbrev pub firstByte : List ℕ → ℕ
+firstByte [] = 0
+firstByte (b ∷ t) = b
 
-pub first-here : (t : List ℕ) (at : ℕ) → first (drop at t) ≡ getD t at 0
-first-here t at = by (place t at)
+pub first-byte-here : (t : List ℕ) (at : ℕ) → firstByte (drop at t) ≡ getD t at 0
+first-byte-here t at = by (place t at)
   where
-    by : Place t at → first (drop at t) ≡ getD t at 0
-    by (byte l e) = ap first e
-    by (over l e z) = ap first e ∙ sym z
+    by : Place t at → firstByte (drop at t) ≡ getD t at 0
+    by (byte l e) = ap firstByte e
+    by (over l e z) = ap firstByte e ∙ sym z

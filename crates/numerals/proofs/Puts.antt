@@ -20,11 +20,13 @@ sets-append l i (b ∷ s) u = sets-append (set l i b) (suc i) s u ∙ ap (λ (k 
     more = omega arith
 
 -- one write after another
-pub put-then : {out mid after : List ℕ} {at next r : ℕ} (s u : List ℕ) → Put out at s next mid → Put mid next u r after → Put out at (s ++ u) r after
+pub put-then : {out mid after : List ℕ} {at next r : ℕ} (s u : List ℕ) → Put out at s next mid → Put mid next u r after
+    → Put out at (s ++ u) r after
 put-then {out} {mid} {after} {at} {next} {r} s u a b =
     record {
       next = rw (length-append s u) (omega (arith, a .next, b .next));
-      bytes = b .bytes ∙ ap (λ (l : List ℕ). sets l next u) (a .bytes) ∙ ap (λ (k : ℕ). sets (sets out at s) k u) (a .next) ∙ sym (sets-append out at s u);
+      bytes = b .bytes ∙ ap (λ (l : List ℕ). sets l next u) (a .bytes) ∙ ap (λ (k : ℕ). sets (sets out at s) k u) (a .next)
+          ∙ sym (sets-append out at s u);
     }
 
 -- a write of nothing

@@ -1,4 +1,4 @@
-// Numbers in a text: one is read with the byte after it, and one is written. Document 01: a number is one to five digits, with no
+// Numbers in a text, read and written. Document 01: a number is one to five digits, with no
 // leading zero unless it is `0`.
 ghost use Prim.Native.Nat.{_+_, _-_, _≤_, _<_};
 ghost use mathlib.Core.Bool.{false};
@@ -23,14 +23,14 @@ pub struct NumbersRead {
     pub next: usize,
 }
 
-// The byte at a place, and 0, which no text of the grammar has, past the end.
+// The byte at a place; past the end 0, which no text of the grammar has.
 pub fn byte_at(text: &[u8], at: usize) -> u8
     ensures { λ r. ⌜ r ≡ getD (now (text .entry)) at 0 ⌝ }
 {
     if at < text.len() { text[at] } else { 0 }
 }
 
-// What a digit's byte stands for.
+// The value of a digit's byte.
 fn digit_of(b: u8) -> u32
     requires { ⌜ (48 ≤ b) × (b ≤ 57) ⌝ }
     ensures { λ r. ⌜ r ≡ b - 48 ⌝ }
@@ -38,7 +38,7 @@ fn digit_of(b: u8) -> u32
     (b - b'0') as u32
 }
 
-// No number stands here.
+// The answer where no number stands.
 fn no_number() -> NumberRead
     ensures { λ r. ⌜ r .ok ≡ false ⌝ }
 {
@@ -49,8 +49,8 @@ fn no_number() -> NumberRead
     }
 }
 
-// The digits that follow the value so far, which is not 0, and the byte `close` after them. From 10,000 on five digits are
-// read, and a sixth is none of the number's.
+// Reads the rest of a number whose digits so far have this value, not 0, and the byte `close` after it. At 10,000 five digits are
+// read, and a sixth is refused.
 fn more_digits(text: &[u8], at: usize, value: u32, close: u8) -> NumberRead
     requires { ⌜ (1 ≤ value) × (value < 100000) × NoDigit close × (1 ≤ close) ⌝ }
     ensures { λ r. ⌜ NumberResult (numberText value) (now (text .entry)) at close r ⌝ }
@@ -76,7 +76,7 @@ fn more_digits(text: &[u8], at: usize, value: u32, close: u8) -> NumberRead
     }
 }
 
-// A number of document 01, one to five digits with no leading zero unless it is `0`, and the byte `close` after it.
+// Reads a number, and the byte `close` after it.
 fn number(text: &[u8], at: usize, close: u8) -> NumberRead
     requires { ⌜ Closing close ⌝ }
     ensures { λ r. ⌜ NumberResult [] (now (text .entry)) at close r ⌝ }
@@ -98,7 +98,7 @@ fn number(text: &[u8], at: usize, close: u8) -> NumberRead
     }
 }
 
-// Two numbers, the byte `middle` after the first and the byte `close` after the second.
+// Reads two numbers, the byte `middle` after the first and `close` after the second.
 pub fn two_numbers(text: &[u8], at: usize, middle: u8, close: u8) -> NumbersRead
     requires { ⌜ Closing middle × Closing close ⌝ }
     ensures { λ r. ⌜ NumbersResult (now (text .entry)) at middle close r ⌝ }
@@ -128,7 +128,7 @@ pub fn two_numbers(text: &[u8], at: usize, middle: u8, close: u8) -> NumbersRead
     }
 }
 
-// How many digits a number is written with.
+// The number of digits that a number is written with.
 pub fn number_size(n: u32) -> usize
     ensures { λ r. ⌜ (r ≡ length (numberText n)) × (r ≤ 5) ⌝ }
 {
@@ -147,7 +147,7 @@ pub fn number_size(n: u32) -> usize
     5
 }
 
-// One byte is written.
+// Writes one byte; returns the place after it.
 pub fn put_byte(out: &mut [u8], at: usize, b: u8) -> usize
     requires { ⌜ at < length (now out) ⌝ }
     ensures { λ r. ⌜ Put (now (out .entry)) at (b ∷ []) r (now (out .exit)) ⌝ }
@@ -156,7 +156,7 @@ pub fn put_byte(out: &mut [u8], at: usize, b: u8) -> usize
     at + 1
 }
 
-// A digit's byte.
+// The byte of a digit.
 fn digit_byte(n: u32) -> u8
     requires { ⌜ n < 10 ⌝ }
     ensures { λ r. ⌜ r ≡ 48 + n ⌝ }
@@ -164,7 +164,7 @@ fn digit_byte(n: u32) -> u8
     48 + (n % 10) as u8
 }
 
-// A number is written.
+// Writes a number; returns the place after it.
 fn put_number(out: &mut [u8], at: usize, n: u32) -> usize
     requires { ⌜ (n < 100000) × (at + length (numberText n) ≤ length (now out)) ⌝ }
     ensures { λ r. ⌜ Put (now (out .entry)) at (numberText n) r (now (out .exit)) ⌝ }
@@ -176,7 +176,7 @@ fn put_number(out: &mut [u8], at: usize, n: u32) -> usize
     put_byte(out, next, digit_byte(n % 10))
 }
 
-// A byte and two numbers, with a byte after each: a constant, or an until and its window.
+// Writes a byte and two numbers with a byte after each: a constant, or an until and its window.
 pub fn put_numbers(
     out: &mut [u8],
     at: usize,

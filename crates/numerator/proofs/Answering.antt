@@ -8,30 +8,30 @@ use borrow.Author.Tests.{eqb-false, ltb-false}
 use lib.Dec.{eqb, ltb}
 use lib.ListN.{length}
 use Rattle.refusal.specs.Answers.{refused, answered}
-use Rattle.refusal.specs.Rows.{Decided, refused as given, accepted}
+use Rattle.refusal.specs.Rows.{Decided, by-row as given, by-none}
 use Rattle.model.specs.declared.Model.{Model}
 use Rattle.model.specs.declared.ModelRead as Loaded
-use Rattle.model.specs.Rows.{Reads}
+use Rattle.model.specs.Contract.{ReadModelEnsures}
 use Rattle.sentence.specs.declared.Sentence.{Sentence}
 use Rattle.meaning.specs.Tree.{Formula, pathsOf}
 use Rattle.meaning.specs.Meaning.{numerator, denominator}
 use Rattle.chain.specs.Of.{chainOf}
 use Rattle.paths.specs.Tuples.{membersBelow}
-use Rattle.question.specs.Rows.{QuestionRow, cleared}
-use Rattle.question.specs.Working.{SentenceRead}
+use Rattle.question.specs.Contract.{QuestionRow, cleared, areaSize}
+use Rattle.question.specs.Working.{TextOfSentence}
 use Rattle.question.proofs.Numbers.{row-few}
 use Rattle.question.proofs.Pair.{letters-length}
 use Rattle.question.proofs.Stages.{one}
 use Rattle.question.proofs.Settled.{model-of}
 use Rattle.numerator.specs.declared.Answer.the-variants.{Counted, Refused}
 use Rattle.numerator.specs.declared.Ratio.{Ratio}
-use Rattle.numerator.specs.Calls.{numbered, NumeratorRow, question, long, member, missing, NumeratorAnswer}
+use Rattle.numerator.specs.Contract.{numbered, NumeratorRow, question, long, member, missing, NumeratorEnsures}
 use Rattle.numerator.specs.Working.{asksRight, CountedSo}
 use Rattle.numerator.proofs.Asking.{RightParts}
 
 module _ {file text tuple : List ℕ} {number : ℕ} where
   pub refused-so : {before : List ℕ} {n : ℕ} → Decided (QuestionRow file text (length before)) n → 0 < n →
-      NumeratorAnswer file text tuple number before (Refused n) before
+      NumeratorEnsures file text tuple number before (Refused n) before
   refused-so {before} {n} (given row least) h = record { ensured = refused refl refl (question row) from }
     where
       from : (k : ℕ) → NumeratorRow file text tuple number (length before) k → n ≤ k
@@ -39,13 +39,13 @@ module _ {file text tuple : List ℕ} {number : ℕ} where
       from k (long f s e) = let few = row-few row in omega arith
       from k (member e) = let few = row-few row in omega arith
       from k (missing f s e) = let few = row-few row in omega arith
-  refused-so (accepted none) h = absurd (omega arith)
+  refused-so (by-none none) h = absurd (omega arith)
 
   module _ (before : List ℕ) {m : Loaded.ModelRead} {s : Sentence} (none : (k : ℕ) → QuestionRow file text (length before) k → ⊥)
-      (reads : Reads file m) (b : SentenceRead text s) where
+      (reads : ReadModelEnsures file m) (b : TextOfSentence text s) where
     -- row 15
     pub refused-15 : asksRight (m .model) s (b .body) tuple number ≡ false →
-        NumeratorAnswer file text tuple number before (Refused 15) before
+        NumeratorEnsures file text tuple number before (Refused 15) before
     refused-15 e =
         record { ensured = refused refl refl (row (eqb (length tuple) (s .letters)) (membersBelow (m .model .n) tuple) refl refl e) from }
       where
@@ -69,11 +69,12 @@ module _ {file text tuple : List ℕ} {number : ℕ} where
           true≢false (sym (parts .members) ∙ ap (λ (x : Model). membersBelow (x .n) tuple) (model-of none reads .fields) ∙ e)
       free k (missing f sp e) =
           let low = parts .there in
-          let same : length (pathsOf f) ≡ length (pathsOf (b .body)) = ap (λ (x : Formula). length (pathsOf x)) (one (model-of none reads) b f sp .1) in
+          let same : length (pathsOf f) ≡ length (pathsOf (b .body)) = ap (λ (x : Formula). length (pathsOf x))
+          (one (model-of none reads) b f sp .1) in
           omega (arith, low, same, e)
 
-      pub answered-so : {after : List ℕ} {r : Ratio} → CountedSo (m .model) s tuple number r → after ≡ cleared 8192 before →
-          NumeratorAnswer file text tuple number before (Counted (r .top) (r .bottom)) after
+      pub answered-so : {after : List ℕ} {r : Ratio} → CountedSo (m .model) s tuple number r → after ≡ cleared areaSize before →
+          NumeratorEnsures file text tuple number before (Counted (r .top) (r .bottom)) after
       answered-so {after} {r} counts clear =
           let w = numbered (b .body) number in
           let n = letters-length b in

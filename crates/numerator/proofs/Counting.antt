@@ -18,10 +18,11 @@ use Rattle.chain.specs.Of.{chainOf}
 use Rattle.paths.specs.Places.{PathPlace, TupleReady, TuplePlace}
 use Rattle.paths.proofs.Joining.{Found, path-found}
 use Rattle.paths.proofs.Members.{right-ready, layer-there}
-use Rattle.question.specs.Working.{SentenceRead, SettingOf}
+use Rattle.question.specs.Working.{TextOfSentence, SettingOf}
 use Rattle.question.proofs.Pair.{nodes-few, one-sentence, letters-few, states-few}
 use Rattle.question.proofs.Settled.{body-ranged, sizes, fixed, variables-few, layers-fit}
-use Rattle.numerator.specs.Calls.{numbered}
+use Rattle.question.specs.Contract.{areaSize}
+use Rattle.numerator.specs.Contract.{numbered}
 use Rattle.numerator.specs.Working.{Asked}
 use Rattle.numerator.proofs.Asking.{held, counted, place-test, RightParts, right-parts}
 
@@ -61,7 +62,7 @@ module _ {m : Model} {s : Sentence} {g : Setting} {tuple : List ℕ} {number : �
       (ap (exceeds (b .body) (m .d)) (so .variables) ∙ a .ready .small) (next always)
 
   module _ {rows : List (List ℕ)} (e : rows ≡ m .weights .rows) {at : ℕ} (place : PathPlace (s .nodes) (s .count) number at) where
-    pub path-ready : {w : List ℕ} → length w ≡ 8192 → PathReady (s .nodes) g (m .masks) rows at w
+    pub path-ready : {w : List ℕ} → length w ≡ areaSize → PathReady (s .nodes) g (m .masks) rows at w
     path-ready long =
         let f = found place in
         let few = sizes (a .ready) so .few in
@@ -80,7 +81,7 @@ module _ {m : Model} {s : Sentence} {g : Setting} {tuple : List ℕ} {number : �
 
     -- the numerator at the tuple, and the denominator
     pub counted-so : {after : List ℕ} {r : Valued} {k : ℕ} → PathDone (s .nodes) g (m .masks) rows at after r →
-        TuplePlace (g .states) tuple k → {text : List ℕ} (b : SentenceRead text s) →
+        TuplePlace (g .states) tuple k → {text : List ℕ} (b : TextOfSentence text s) →
         (getD after k 0 ≡ numerator (numbered (b .body) number) (chainOf m) (s .letters) tuple) ×
         (r .bottom ≡ denominator (numbered (b .body) number) (m .d) (s .letters))
     unfolding numbered

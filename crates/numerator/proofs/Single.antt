@@ -13,10 +13,10 @@ use Rattle.trees.proofs.Once.{sentence-once}
 use Rattle.chain.specs.Of.{chainOf}
 use Rattle.numerator.specs.declared.Answer.{Answer}
 use Rattle.numerator.specs.declared.Answer.the-variants.{Counted, Refused}
-use Rattle.numerator.specs.Calls.{replyOf, numbered, Counts, NumeratorAnswer}
+use Rattle.numerator.specs.Contract.{numeratorReply, numbered, Counts, NumeratorEnsures}
 
 -- a reply tells its answer
-pub reply-told : (a b : Answer) → replyOf a ≡ replyOf b → a ≡ b
+pub reply-told : (a b : Answer) → numeratorReply a ≡ numeratorReply b → a ≡ b
 reply-told (Counted t u) (Counted t′ u′) e =
     let same : _≡_ {A = ℕ × ℕ} (t, u) (t′, u′) = cc e in
     ap (λ (x : ℕ × ℕ). Counted (x .0) (x .1)) same
@@ -29,15 +29,18 @@ one-right : {file text tuple before : List ℕ} {number : ℕ} (v v′ : ℕ × 
     Counts file text tuple number before v′ l′ → (v ≡ v′) × (l ≡ l′)
 one-right {file} {tuple = tuple} {number = number} v v′ l l′ x y =
     let one = sentence-once (x .sentence .body) (y .sentence .body) (x .sentence .spelled) (y .sentence .spelled) in
-    let top = ap₂ (λ (ps : List Bool) (h : Formula). numerator (numbered h number) (chainOf (fieldsOf file)) (length ps) tuple) (one .0) (one .1) in
-    let bottom = ap₂ (λ (ps : List Bool) (h : Formula). denominator (numbered h number) (fieldsOf file .d) (length ps)) (one .0) (one .1) in (
+    let top = ap₂ (λ (ps : List Bool) (h : Formula). numerator (numbered h number) (chainOf (fieldsOf file)) (length ps) tuple) (one .0)
+    (one .1) in
+    let bottom = ap₂ (λ (ps : List Bool) (h : Formula). denominator (numbered h number) (fieldsOf file .d) (length ps)) (one .0)
+    (one .1) in (
       ap₂ (λ (a b : ℕ). (a, b)) (x .top ∙ top ∙ sym (y .top)) (x .bottom ∙ bottom ∙ sym (y .bottom)),
       x .left ∙ sym (y .left),
     )
 
 -- any two results that the contract allows are equal
-pub one-numerator : {file text tuple before after after′ : List ℕ} {number : ℕ} {a b : Answer} → NumeratorAnswer file text tuple number before a after →
-    NumeratorAnswer file text tuple number before b after′ → (a ≡ b) × (after ≡ after′)
+pub one-numerator : {file text tuple before after after′ : List ℕ} {number : ℕ} {a b : Answer} →
+    NumeratorEnsures file text tuple number before a after →
+    NumeratorEnsures file text tuple number before b after′ → (a ≡ b) × (after ≡ after′)
 one-numerator {a = a} {b} x y =
     let one = one-result one-right (x .ensured) (y .ensured) in
     (reply-told a b (one .0), one .1)

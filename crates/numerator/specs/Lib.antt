@@ -1,3 +1,3 @@
 -- Numerator: its rows, and what it answers.
-pub mod Calls
+pub mod Contract
 pub mod Working

@@ -1,4 +1,4 @@
--- What the parts of the call promise one another. None of it has to be believed.
+-- Working: what the functions of this crate promise one another. Nothing here has to be believed.
 use Prim.Native.Nat.{ℕ}
 use mathlib.Core.Bool.{Bool, true, _&&_}
 use mathlib.Core.List.{List}
@@ -11,9 +11,9 @@ use Rattle.meaning.specs.Tree.{Formula, pathsOf}
 use Rattle.meaning.specs.Meaning.{numerator, denominator}
 use Rattle.chain.specs.Of.{chainOf}
 use Rattle.paths.specs.Tuples.{tupleRight}
-use Rattle.question.specs.Working.{SentenceRead, Ready}
+use Rattle.question.specs.Working.{TextOfSentence, Ready}
 use Rattle.numerator.specs.declared.Ratio.{Ratio}
-use Rattle.numerator.specs.Calls.{numbered}
+use Rattle.numerator.specs.Contract.{numbered}
 
 -- the tuple and the number are right for a body
 abbrev pub asksRight : Model → Sentence → Formula → List ℕ → ℕ → Bool
@@ -26,10 +26,10 @@ pub record Asked (m : Model) (s : Sentence) (tuple : List ℕ) (number : ℕ) : 
 
 -- whether the tuple and the number are right, of whatever text the sentence is read from
 pub record Right (m : Model) (s : Sentence) (tuple : List ℕ) (number : ℕ) (r : Bool) : Type 0 where
-  pub each : (text : List ℕ) (b : SentenceRead text s) → r ≡ asksRight m s (b .body) tuple number
+  pub each : (text : List ℕ) (b : TextOfSentence text s) → r ≡ asksRight m s (b .body) tuple number
 
 -- the numerator and the denominator, of whatever text the sentence is read from
 pub record CountedSo (m : Model) (s : Sentence) (tuple : List ℕ) (number : ℕ) (r : Ratio) : Type 0 where
-  pub each : (text : List ℕ) (b : SentenceRead text s) →
+  pub each : (text : List ℕ) (b : TextOfSentence text s) →
       (r .top ≡ numerator (numbered (b .body) number) (chainOf m) (s .letters) tuple) ×
       (r .bottom ≡ denominator (numbered (b .body) number) (m .d) (s .letters))

@@ -1,5 +1,5 @@
--- The place that the search answers and the path formulas of the tree that the record holds: the node there is that of the
--- path formula with the number, and where there is none the tree has too few. Assumes nothing.
+-- The place that the search returns and the path formulas of the tree that the record holds: the node there is that of the
+-- path formula with the number, and where there is none the tree has too few.
 use Prim.Native.Nat.{ℕ, _^_, _≤_, _<_}
 use mathlib.Core.Bool.{Bool, false}
 use mathlib.Core.List.{List}
@@ -37,7 +37,8 @@ module _
     paths-held : PathsAt nodes 0 (pathsOf f) count
     paths-held =
         subst (λ (l : List Slot). PathsAt l 0 (pathsOf f) count) (sym held)
-        (subst (λ (q : ℕ). PathsAt (recordOf ps (formulaNodes f) .nodes) 0 (pathsOf f) q) (sym counted) (record-paths ps (formulaNodes f) f few refl))
+        (subst (λ (q : ℕ). PathsAt (recordOf ps (formulaNodes f) .nodes) 0 (pathsOf f) q) (sym counted)
+        (record-paths ps (formulaNodes f) f few refl))
 
     -- a place below the count: the path formula with the number stands there
     pub path-stands : {path r : ℕ} → PathPlace nodes count path r → r < count → (d : PathFormula) →

@@ -1,5 +1,5 @@
 -- A tuple read from the front, member by member: whether each is a state, and the tuple's number. Both go by what is left of
--- the tuple. Assumes nothing.
+-- the tuple.
 use Prim.Native.Nat.{ℕ, zero, suc, _+_, _*_, _^_, _≤_, _<_}
 use mathlib.Core.Bool.{Bool, true, false, _&&_}
 use mathlib.Core.List.{List, [], _∷_}
@@ -14,6 +14,7 @@ use lib.Dec.{ltb, eqb}
 use lib.ListN.{length, getD, drop, drop-of-length-le}
 use lib.Seq.{drop-cons}
 use Rattle.layers.specs.Layers.{Layer}
+use Rattle.layers.specs.Held.{mostStates, mostVariables}
 use Rattle.layers.proofs.Places.{pow-some}
 use Rattle.meaning.specs.Lists.{every, nothing, further}
 use Rattle.meaning.specs.Chain.{Tuple, Inside}
@@ -29,29 +30,30 @@ left-more s i l = drop-cons s i 0 l ∙ ap (λ (k : ℕ). getD s i 0 ∷ drop k 
 -- ---- whether each member is a state
 
 -- the first i members are states, so that those left decide
-pub record Tested (N : ℕ) (s : List ℕ) (i : ℕ) : Type 0 where
+pub record MembersTested (N : ℕ) (s : List ℕ) (i : ℕ) : Type 0 where
   pub rest : membersBelow N (drop i s) ≡ membersBelow N s
 
 module _ {N : ℕ} {s : List ℕ} where
   -- before the first turn
-  pub tested-none : Tested N s 0
+  pub tested-none : MembersTested N s 0
   tested-none = record { rest = refl }
 
-  turn : {i : ℕ} → Tested N s i → i < length s → (t : Bool) → ltb (getD s i 0) N ≡ t → (t && membersBelow N (drop (i + 1) s)) ≡ membersBelow N s
+  turn : {i : ℕ} → MembersTested N s i → i < length s → (t : Bool) → ltb (getD s i 0) N ≡ t →
+      (t && membersBelow N (drop (i + 1) s)) ≡ membersBelow N s
   unfolding every
   turn {i} h l t e =
       ap (λ (b : Bool). b && membersBelow N (drop (i + 1) s)) (sym e) ∙ ap (membersBelow N) (sym (left-more s i l)) ∙ h .rest
 
   -- one member more is a state
-  pub tested-next : {i : ℕ} → Tested N s i → i < length s → ltb (getD s i 0) N ≡ true → Tested N s (i + 1)
+  pub tested-next : {i : ℕ} → MembersTested N s i → i < length s → ltb (getD s i 0) N ≡ true → MembersTested N s (i + 1)
   tested-next {i} h l e = record { rest = turn h l true e }
 
-  -- where one is none, the answer is no
-  pub tested-not : {i : ℕ} → Tested N s i → i < length s → ltb (getD s i 0) N ≡ false → false ≡ membersBelow N s
+  -- a member that is no state decides the test
+  pub tested-not : {i : ℕ} → MembersTested N s i → i < length s → ltb (getD s i 0) N ≡ false → false ≡ membersBelow N s
   tested-not h l e = turn h l false e
 
-  -- after the last turn the answer is yes
-  pub tested-all : {i : ℕ} → Tested N s i → length s ≤ i → true ≡ membersBelow N s
+  -- after the last turn every member is a state
+  pub tested-all : {i : ℕ} → MembersTested N s i → length s ≤ i → true ≡ membersBelow N s
   unfolding every
   tested-all {i} h done = ap (membersBelow N) (sym (drop-of-length-le s done)) ∙ h .rest
 
@@ -98,14 +100,14 @@ module _ {N : ℕ} {s : List ℕ} where
       omega arith
 
   -- there are at most 32^4 tuples
-  pub counted-small : {i place : ℕ} → Counted N s i place → TupleReady N s → 0 < length s → place < 1048576
+  pub counted-small : {i place : ℕ} → Counted N s i place → TupleReady N s → 0 < length s → place < mostStates ^ mostVariables
   counted-small {i} {place} h ready l =
       let inside = members-inside N s (ready .below) in
       let some = some-state inside l in
       let whole : numberOf N s < N ^ length s = number-below N inside in
       let scaled = mul-le-mul-left place (pow-some N (length (drop i s)) some) in
-      let states : N ^ length s ≤ 32 ^ length s = pow-le-pow-left (ready .states) (length s) in
-      let few : 32 ^ length s ≤ 32 ^ 4 = pow-le-pow-right {n = 32} (omega arith) (ready .few) in
+      let states : N ^ length s ≤ mostStates ^ length s = pow-le-pow-left (ready .states) (length s) in
+      let few : mostStates ^ length s ≤ mostStates ^ mostVariables = pow-le-pow-right {n = mostStates} (omega arith) (ready .few) in
       omega arith
 
   -- which is the tuple's place
@@ -119,13 +121,13 @@ module _ {N : ℕ} {s : List ℕ} where
       }
 
 -- one turn's product fits
-pub product-fits : {x N : ℕ} → x < 1048576 → N ≤ 32 → Fits w64 (x * N)
+pub product-fits : {x N : ℕ} → x < mostStates ^ mostVariables → N ≤ mostStates → Fits w64 (x * N)
 product-fits {x} h few =
     let scaled = mul-le-mul-left x few in
     record { fits = omega arith }
 
 -- with the member
-pub sum-fits : {x N y : ℕ} → x < 1048576 → N ≤ 32 → y < 1048576 → Fits w64 (x * N + y)
+pub sum-fits : {x N y : ℕ} → x < mostStates ^ mostVariables → N ≤ mostStates → y < mostStates ^ mostVariables → Fits w64 (x * N + y)
 sum-fits {x} h few less =
     let scaled = mul-le-mul-left x few in
     record { fits = omega arith }
@@ -137,7 +139,7 @@ pub right-long : (n N : ℕ) (s : List ℕ) → tupleRight n N s ≡ true → le
 right-long n N s e = eqb-true (length s) n (and-left (eqb (length s) n) (membersBelow N s) e)
 
 -- and its number can be computed
-pub right-ready : (n N : ℕ) (s : List ℕ) → tupleRight n N s ≡ true → n ≤ 4 → N ≤ 32 → TupleReady N s
+pub right-ready : (n N : ℕ) (s : List ℕ) → tupleRight n N s ≡ true → n ≤ mostVariables → N ≤ mostStates → TupleReady N s
 right-ready n N s e letters states =
     let long = right-long n N s e in
     record { few = omega arith; states = states; below = and-right (eqb (length s) n) (membersBelow N s) e }

@@ -1,4 +1,4 @@
--- The contracts allow one answer each: one place of a path formula, and one of a tuple. Assumes nothing.
+-- Each contract leaves one result: one place of a path formula, and one of a tuple.
 use Prim.Native.Nat.{ℕ, zero, suc, _+_, _-_, _≤_, _<_}
 use mathlib.Core.Bool.{true}
 use mathlib.Core.List.{List}

@@ -1,4 +1,4 @@
--- A search for the path formula with a number, place by place. Assumes nothing.
+-- A search for the path formula with a number, place by place.
 use Prim.Native.Nat.{ℕ, _+_, _≤_, _<_}
 use mathlib.Core.Bool.{true, false}
 use mathlib.Core.List.{List}

@@ -5,15 +5,16 @@ use mathlib.Core.Path.{_≡_, sym, ap, ap₂, _∙_}
 use native.Mathlib.Omega.{arith}
 use lib.ListN.{length, getD, take, drop, replicate, take-append-drop, length-replicate, getD-replicate, length-append, length-drop}
 use lib.Seq.{ext-getD, getD-take, length-take-le, drop-append-seam}
-use Rattle.layers.specs.Layers.{Written}
-use Rattle.question.specs.Rows.{cleared}
+use Rattle.layers.specs.Layers.{WrittenFront}
+use Rattle.question.specs.Contract.{cleared}
 
 -- the area that was lent of it is as long as before, and so is the whole
 pub back-long : {n : ℕ} (w area : List ℕ) → n ≤ length w → length area ≡ n → length (area ++ drop n w) ≡ length w
 back-long {n} w area room long = length-append area (drop n w) ∙ let d = length-drop n w in omega (arith, d, long, room)
 
 -- the first n numbers were used, as `area`, and then set to zero
-pub cleared-so : {n : ℕ} {after : List ℕ} (w area : List ℕ) → n ≤ length w → length area ≡ n → Written n (λ k. 0) (area ++ drop n w) after →
+pub cleared-so : {n : ℕ} {after : List ℕ} (w area : List ℕ) → n ≤ length w → length area ≡ n
+    → WrittenFront n (λ k. 0) (area ++ drop n w) after →
     after ≡ cleared n w
 unfolding cleared
 cleared-so {n} {after} w area room long zeros =

@@ -4,10 +4,10 @@ use mathlib.Core.List.{List, []}
 use mathlib.Core.Path.{_≡_, sym, ap, subst, _∙_}
 use native.Mathlib.Omega.{arith}
 use Rattle.refusal.specs.Answers.{numberIn, Ensured, refused as not-read, answered, replyOf}
-use Rattle.refusal.specs.Rows.{Decided, refused, accepted}
+use Rattle.refusal.specs.Rows.{Decided, by-row, by-none}
 use Rattle.refusal.proofs.Ensuring.{number-decided}
 use Rattle.model.specs.declared.ModelRead as Loaded
-use Rattle.model.specs.Rows.{fileNumber, Reads}
+use Rattle.model.specs.Contract.{fileNumber, ReadModelEnsures}
 use Rattle.model.proofs.Answer.{reads-value}
 use Rattle.sentence.specs.declared.Node.{Node}
 use Rattle.sentence_reader.specs.declared.SentenceRead as Parsed
@@ -15,32 +15,33 @@ use Rattle.sentence.specs.Grammar.{Spells}
 use Rattle.sentence_reader.specs.Contract.{ReadRow, Spelled, ReadSentenceEnsures}
 use Rattle.sentence.specs.Record.{recordOf}
 use Rattle.trees.proofs.Exists.{formula-of}
-use Rattle.question.specs.Rows.{QuestionRow, area, model, sentence, labels, size, tuples}
-use Rattle.question.specs.Working.{ModelRead, SentenceRead}
+use Rattle.question.specs.Contract.{QuestionRow, area, model, sentence, labels, size, tuples, areaSize}
+use Rattle.question.specs.Working.{FileOfModel, TextOfSentence}
 use Rattle.question.proofs.Numbers.{text-number, row-some, least-model}
 use Rattle.question.proofs.Stages.{none-of-file}
 
-pub gives-1 : {file text : List ℕ} {room : ℕ} → room < 8192 → Decided (QuestionRow file text room) 1
-gives-1 h = refused (area h) (λ k r. row-some r)
+pub gives-1 : {file text : List ℕ} {room : ℕ} → room < areaSize → Decided (QuestionRow file text room) 1
+gives-1 h = by-row (area h) (λ k r. row-some r)
 
 -- the file
 
-pub gives-file : {file text : List ℕ} {room n : ℕ} → 8192 ≤ room → fileNumber file ≡ n → 0 < n → Decided (QuestionRow file text room) n
+pub gives-file : {file text : List ℕ} {room n : ℕ} → areaSize ≤ room → fileNumber file ≡ n → 0 < n → Decided (QuestionRow file text room) n
 gives-file {n = zero} space e h = absurd (omega arith)
-gives-file {n = suc n} space e h = let least = least-model space e in refused (least .0) (least .1)
+gives-file {n = suc n} space e h = let least = least-model space e in by-row (least .0) (least .1)
 
-pub file-read : {file : List ℕ} {r : Loaded.ModelRead} → Reads file r → fileNumber file ≡ 0 → ModelRead file (r .model)
+pub file-read : {file : List ℕ} {r : Loaded.ModelRead} → ReadModelEnsures file r → fileNumber file ≡ 0 → FileOfModel file (r .model)
 file-read reads e = record { accepted = e; fields = reads-value reads e }
 
 -- the text
 
-pub gives-text : {file text : List ℕ} {room : ℕ} {r : Parsed.SentenceRead} → 8192 ≤ room → fileNumber file ≡ 0 → ReadSentenceEnsures text r →
+pub gives-text : {file text : List ℕ} {room : ℕ} {r : Parsed.SentenceRead} → areaSize ≤ room → fileNumber file ≡ 0
+    → ReadSentenceEnsures text r →
     0 < numberIn (replyOf (r .outcome)) → Decided (QuestionRow file text room) (numberIn (replyOf (r .outcome)))
 gives-text {file} {text} {room} space free said h = by (number-decided (said .ensured)) h
   where
     by : {n : ℕ} → Decided (ReadRow text) n → 0 < n → Decided (QuestionRow file text room) n
-    by (accepted none) h = absurd (omega arith)
-    by {n} (refused row least) h = refused (sentence row) from
+    by (by-none none) h = absurd (omega arith)
+    by {n} (by-row row least) h = by-row (sentence row) from
       where
         from : (j : ℕ) → QuestionRow file text room j → n ≤ j
         from j (area h) = absurd (omega arith)
@@ -50,10 +51,12 @@ gives-text {file} {text} {room} space free said h = by (number-decided (said .en
         from j (size f s b) = let x = text-number row in omega arith
         from j (tuples f s b) = let x = text-number row in omega arith
 
-pub text-read : {text : List ℕ} {r : Parsed.SentenceRead} → ReadSentenceEnsures text r → numberIn (replyOf (r .outcome)) ≡ 0 → SentenceRead text (r .sentence)
+pub text-read : {text : List ℕ} {r : Parsed.SentenceRead} → ReadSentenceEnsures text r → numberIn (replyOf (r .outcome)) ≡ 0 →
+    TextOfSentence text (r .sentence)
 text-read {text} {r} said free = by (said .ensured)
   where
-    by : Ensured (ReadRow text) (λ done. Spelled text) (recordOf [] []) (replyOf (r .outcome)) (r .sentence) → SentenceRead text (r .sentence)
+    by : Ensured (ReadRow text) (λ done. Spelled text) (recordOf [] []) (replyOf (r .outcome)) (r .sentence) →
+        TextOfSentence text (r .sentence)
     by (not-read e k row least) =
         let x = text-number row in
         let n = sym (ap numberIn e) ∙ free in

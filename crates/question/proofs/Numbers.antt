@@ -8,12 +8,12 @@ use native.Mathlib.Numerals.{add-one}
 use native.Mathlib.Omega.{arith}
 use lib.ListN.{length, getD, take, drop, drop-of-length-le}
 use lib.Seq.{drop-cons, getD-take, length-take-le}
-use Rattle.refusal.specs.Rows.{Applies, here, later, Decided, refused, accepted, Given}
-use Rattle.model.specs.Rows.{fileRows, fileNumber}
+use Rattle.refusal.specs.Rows.{Applies, here, later, Decided, by-row, by-none, Given}
+use Rattle.model.specs.Contract.{fileRows, fileNumber}
 use Rattle.model.proofs.Theorems.{read-smallest}
 use Rattle.sentence_reader.specs.Contract.{ReadRow, outside, long, range, many}
 use Rattle.meaning.specs.Lists.{every}
-use Rattle.question.specs.Rows.{QuestionRow, area, model, sentence, labels, size, tuples}
+use Rattle.question.specs.Contract.{QuestionRow, area, model, sentence, labels, size, tuples, areaSize}
 
 -- the numbers of a file's rows, and of a text's
 pub file-number : (file : List ℕ) {n : ℕ} → Applies n (fileRows file) → (2 ≤ n) × (n ≤ 5)
@@ -47,18 +47,19 @@ row-few (size f s e) = omega arith
 row-few (tuples f s e) = omega arith
 
 -- where the number given is 0, no row applies
-pub none-of : {file text : List ℕ} {room n : ℕ} → Decided (QuestionRow file text room) n → n ≤ 0 → (m : ℕ) → QuestionRow file text room m → ⊥
-none-of (refused row least) h m r = let some = row-some row in absurd (omega arith)
-none-of (accepted none) h m r = none m r
+pub none-of : {file text : List ℕ} {room n : ℕ} → Decided (QuestionRow file text room) n → n ≤ 0 → (m : ℕ) →
+    QuestionRow file text room m → ⊥
+none-of (by-row row least) h m r = let some = row-some row in absurd (omega arith)
+none-of (by-none none) h m r = none m r
 
-module _ {file text : List ℕ} {room : ℕ} (space : 8192 ≤ room) where
+module _ {file text : List ℕ} {room : ℕ} (space : areaSize ≤ room) where
   -- the file's number where it is not 0
   pub least-model : {k : ℕ} → fileNumber file ≡ suc k →
       QuestionRow file text room (suc k) × ((m : ℕ) → QuestionRow file text room m → suc k ≤ m)
   least-model {k} e = by (subst (Given (fileRows file)) e (read-smallest file))
     where
       by : Given (fileRows file) (suc k) → QuestionRow file text room (suc k) × ((m : ℕ) → QuestionRow file text room m → suc k ≤ m)
-      by (refused a least) = (model a, below (file-number file a .1) least)
+      by (by-row a least) = (model a, below (file-number file a .1) least)
         where
           below : suc k ≤ 5 → ((m : ℕ) → Applies m (fileRows file) → suc k ≤ m) → (m : ℕ) → QuestionRow file text room m → suc k ≤ m
           below low least m (area h) = absurd (omega arith)
@@ -108,17 +109,20 @@ begins test l n i d h room =
     ap (λ x. test x && every test (drop (suc i) (take n l))) (getD-take n l i d h) ∙
     ap (λ (k : ℕ). test (getD l i d) && every test (drop k (take n l))) (sym (add-one i))
 
-pub left-next : {A : Type 0} {test : A → Bool} {l : List A} {n : ℕ} {i : ℕ} (d : A) → Left test l n i → i < n → n ≤ length l → test (getD l i d) ≡ true → Left test l n (i + 1)
+pub left-next : {A : Type 0} {test : A → Bool} {l : List A} {n : ℕ} {i : ℕ} (d : A) → Left test l n i → i < n → n ≤ length l →
+    test (getD l i d) ≡ true → Left test l n (i + 1)
 left-next {test = test} {l} {n} {i} d left h room e = record {
   upTo = omega arith;
   same = sym (begins test l n i d h room ∙ ap (λ (b : Bool). b && every test (drop (i + 1) (take n l))) e) ∙ left .same;
 }
 
-pub left-failed : {A : Type 0} {test : A → Bool} {l : List A} {n : ℕ} {i : ℕ} (d : A) → Left test l n i → i < n → n ≤ length l → test (getD l i d) ≡ false → false ≡ every test (take n l)
+pub left-failed : {A : Type 0} {test : A → Bool} {l : List A} {n : ℕ} {i : ℕ} (d : A) → Left test l n i → i < n → n ≤ length l →
+    test (getD l i d) ≡ false → false ≡ every test (take n l)
 left-failed {test = test} {l} {n} {i} d left h room e =
     sym (begins test l n i d h room ∙ ap (λ (b : Bool). b && every test (drop (i + 1) (take n l))) e) ∙ left .same
 
-pub left-all : {A : Type 0} {test : A → Bool} {l : List A} {n : ℕ} {i : ℕ} → Left test l n i → n ≤ i → n ≤ length l → true ≡ every test (take n l)
+pub left-all : {A : Type 0} {test : A → Bool} {l : List A} {n : ℕ} {i : ℕ} → Left test l n i → n ≤ i → n ≤ length l →
+    true ≡ every test (take n l)
 unfolding every
 left-all {test = test} {l} {n} {i} left h room =
     let long = length-take-le n l room in

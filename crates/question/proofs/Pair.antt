@@ -16,13 +16,13 @@ use Rattle.trees.specs.Standing.{FormulaAt}
 use Rattle.trees.proofs.Once.{formula-once}
 use Rattle.trees.proofs.Stretch.{record-stands}
 use Rattle.chain.proofs.Accepted as accepted
-use Rattle.question.specs.Working.{ModelRead, SentenceRead}
+use Rattle.question.specs.Working.{FileOfModel, TextOfSentence}
 
-module _ {file : List ℕ} {m : Model} (a : ModelRead file m) where
+module _ {file : List ℕ} {m : Model} (a : FileOfModel file m) where
   pub states-few : m .n ≤ 32
   states-few = subst (λ (x : Model). x .n ≤ 32) (sym (a .fields)) (accepted.states-few file (a .accepted))
 
-module _ {text : List ℕ} {s : Sentence} (b : SentenceRead text s) where
+module _ {text : List ℕ} {s : Sentence} (b : TextOfSentence text s) where
   pub nodes-few : length (formulaNodes (b .body)) ≤ 64
   nodes-few = by (decLt 64 (length (formulaNodes (b .body))))
     where
@@ -49,7 +49,7 @@ module _ {text : List ℕ} {s : Sentence} (b : SentenceRead text s) where
   letters-length = ap (λ (x : Sentence). x .letters) (b .fields)
 
 -- a sentence has one prefix and one body
-pub one-sentence : {text text′ : List ℕ} {s : Sentence} (b : SentenceRead text s) (d : SentenceRead text′ s) →
+pub one-sentence : {text text′ : List ℕ} {s : Sentence} (b : TextOfSentence text s) (d : TextOfSentence text′ s) →
     (b .prefix ≡ d .prefix) × (b .body ≡ d .body)
 one-sentence {s = s} b d =
     let e = sym (b .fields) ∙ d .fields in

@@ -12,7 +12,7 @@ use Rattle.refusal.proofs.Ensuring.{right-of}
 use Rattle.model.specs.declared.Model.{Model}
 use Rattle.model.specs.declared.ModelRead as Loaded
 use Rattle.model.specs.Layout.{fieldsOf}
-use Rattle.model.specs.Rows.{fileNumber, Reads}
+use Rattle.model.specs.Contract.{fileNumber, ReadModelEnsures}
 use Rattle.sentence.specs.declared.Sentence.{Sentence}
 use Rattle.sentence_reader.specs.declared.SentenceRead as Parsed
 use Rattle.sentence.specs.Grammar.{someOutOfRange}
@@ -20,8 +20,7 @@ use Rattle.sentence_reader.specs.Contract.{ReadSentenceEnsures, range}
 use Rattle.sentence.specs.Record.{recordOf}
 use Rattle.meaning.specs.Chain.{Sound}
 use Rattle.meaning.specs.Size.{exceeds}
-use Rattle.layers.specs.Columns.{weightIn}
-use Rattle.layers.specs.Steps.{Sizes}
+use Rattle.layers.specs.Held.{weightIn, LayerSizes}
 use Rattle.evaluate.specs.declared.Setting.{Setting}
 use Rattle.evaluate.specs.Evaluation.{Fixed}
 use Rattle.trees.specs.Listed.{formulaNodes}
@@ -29,8 +28,8 @@ use Rattle.trees.specs.Ranged.{Ranged}
 use Rattle.trees.proofs.Ranges.{nests-in-range, formula-ranged}
 use Rattle.chain.specs.Of.{chainOf}
 use Rattle.chain.proofs.Accepted as accepted
-use Rattle.question.specs.Rows.{QuestionRow, area, model, sentence, size, tuples}
-use Rattle.question.specs.Working.{ModelRead, SentenceRead, Ready, SettingOf}
+use Rattle.question.specs.Contract.{QuestionRow, area, model, sentence, size, tuples, areaSize}
+use Rattle.question.specs.Working.{FileOfModel, TextOfSentence, Ready, SettingOf}
 use Rattle.question.proofs.Numbers.{least-model}
 use Rattle.question.proofs.Early.{file-read, text-read}
 use Rattle.question.proofs.Pair.{states-few, letters-few}
@@ -38,10 +37,10 @@ use Rattle.question.proofs.Stages.{size-same, tuples-same}
 
 module _ {file text : List ℕ} {room : ℕ} (none : (n : ℕ) → QuestionRow file text room n → ⊥) where
   -- the work area is long enough
-  pub space : 8192 ≤ room
-  space = by (decLt room 8192)
+  pub space : areaSize ≤ room
+  space = by (decLt room areaSize)
     where
-      by : Dec (room < 8192) → 8192 ≤ room
+      by : Dec (room < areaSize) → areaSize ≤ room
       by (yes h) = absurd (none 1 (area h))
       by (no h) = omega arith
 
@@ -57,23 +56,24 @@ module _ {file text : List ℕ} {room : ℕ} (none : (n : ℕ) → QuestionRow f
   text-free said = ap numberIn (right-of (λ n row. none n (sentence row)) (said .ensured) .1)
 
   -- the readers' answers, where no row applies
-  pub model-of : {m : Loaded.ModelRead} → Reads file m → ModelRead file (m .model)
+  pub model-of : {m : Loaded.ModelRead} → ReadModelEnsures file m → FileOfModel file (m .model)
   model-of reads = file-read reads file-free
 
-  pub sentence-of : {s : Parsed.SentenceRead} → ReadSentenceEnsures text s → SentenceRead text (s .sentence)
+  pub sentence-of : {s : Parsed.SentenceRead} → ReadSentenceEnsures text s → TextOfSentence text (s .sentence)
   sentence-of said = text-read said (text-free said)
 
-  pub ready-of : {m : Loaded.ModelRead} {s : Parsed.SentenceRead} → Reads file m → ReadSentenceEnsures text s → Ready (m .model) (s .sentence)
+  pub ready-of : {m : Loaded.ModelRead} {s : Parsed.SentenceRead} → ReadModelEnsures file m → ReadSentenceEnsures text s
+      → Ready (m .model) (s .sentence)
   ready-of {m} {s} reads said = record {
     read = record { file = file; text = text; model = a; sentence = b };
     small = size-same a b ∙ fits (exceeds (b .body) (fieldsOf file .d) (length (b .prefix))) refl;
     few = few (decLt 1024 (m .model .n ^ s .sentence .letters));
   }
     where
-      a : ModelRead file (m .model)
+      a : FileOfModel file (m .model)
       a = model-of reads
 
-      b : SentenceRead text (s .sentence)
+      b : TextOfSentence text (s .sentence)
       b = sentence-of said
 
       fits : (t : Bool) → exceeds (b .body) (fieldsOf file .d) (length (b .prefix)) ≡ t → t ≡ false
@@ -85,7 +85,7 @@ module _ {file text : List ℕ} {room : ℕ} (none : (n : ℕ) → QuestionRow f
       few (no h) = omega arith
 
 -- the body's numbers are in their ranges
-pub body-ranged : {text : List ℕ} {s : Sentence} (b : SentenceRead text s) → Ranged (s .letters) (b .body)
+pub body-ranged : {text : List ℕ} {s : Sentence} (b : TextOfSentence text s) → Ranged (s .letters) (b .body)
 unfolding recordOf
 body-ranged {s = s} b =
     subst (λ (x : Sentence). Ranged (x .letters) (b .body)) (sym (b .fields))
@@ -98,7 +98,7 @@ body-ranged {s = s} b =
 
 -- the model's masks and rows hold its chain, in the setting of the pair
 module _ {m : Model} {s : Sentence} {g : Setting} (r : Ready m s) (so : SettingOf m s g) where
-  pub sizes : Sizes (g .states) (g .variables) (g .tuples)
+  pub sizes : LayerSizes (g .states) (g .variables) (g .tuples)
   sizes =
       let a = r .read .model in
       let some = subst (λ (x : Model). 1 ≤ x .n) (sym (a .fields)) (accepted.states-some (r .read .file) (a .accepted)) in

@@ -6,10 +6,10 @@ use mathlib.Core.List.{List, [], _∷_, map}
 use mathlib.Core.Path.{_≡_, refl, sym, ap, ap₂, subst, _∙_}
 use native.Mathlib.Omega.{arith}
 use lib.ListN.{length, take}
-use Rattle.refusal.specs.Rows.{Applies, Decided, refused, accepted, Given}
+use Rattle.refusal.specs.Rows.{Applies, Decided, by-row, by-none, Given}
 use Rattle.model.specs.declared.Model.{Model}
 use Rattle.model.specs.Layout.{fieldsOf}
-use Rattle.model.specs.Rows.{fileRows, fileNumber}
+use Rattle.model.specs.Contract.{fileRows, fileNumber}
 use Rattle.model.proofs.Theorems.{read-smallest}
 use Rattle.sentence.specs.declared.Node.{Node}
 use Rattle.sentence.specs.declared.Slot.{Slot}
@@ -24,8 +24,8 @@ use Rattle.meaning.specs.Size.{exceeds}
 use Rattle.trees.specs.Listed.{formulaNodes}
 use Rattle.trees.proofs.Once.{sentence-once}
 use Rattle.chain.specs.Of.{chainOf}
-use Rattle.question.specs.Rows.{labelRight, QuestionRow, area, model, sentence, labels, size, tuples}
-use Rattle.question.specs.Working.{ModelRead, SentenceRead}
+use Rattle.question.specs.Contract.{labelRight, QuestionRow, area, model, sentence, labels, size, tuples, areaSize}
+use Rattle.question.specs.Working.{FileOfModel, TextOfSentence}
 use Rattle.question.proofs.Numbers.{file-number}
 use Rattle.question.proofs.Pair.{letters-length}
 
@@ -34,8 +34,8 @@ pub none-of-file : (file : List ℕ) → fileNumber file ≡ 0 → {n : ℕ} →
 none-of-file file e {n} a = by (subst (Given (fileRows file)) e (read-smallest file))
   where
     by : Given (fileRows file) 0 → ⊥
-    by (refused b least) = let m = file-number file b in absurd (omega arith)
-    by (accepted none) = none n a
+    by (by-row b least) = let m = file-number file b in absurd (omega arith)
+    by (by-none none) = none n a
 
 -- a test of the nodes, by the places that hold them
 every-places : (test : Node → Bool) (l : List Slot) → every (λ (x : Slot). test (x .node)) l ≡ every test (map (λ (x : Slot). x .node) l)
@@ -43,8 +43,9 @@ unfolding every
 every-places test [] = refl
 every-places test (x ∷ xs) = ap (λ (b : Bool). test (x .node) && b) (every-places test xs)
 
-module _ {file text : List ℕ} {m : Model} {s : Sentence} (a : ModelRead file m) (b : SentenceRead text s) where
-  pub labels-same : every (λ (x : Slot). labelRight (m .a) (x .node)) (take (s .count) (s .nodes)) ≡ every (labelRight (fieldsOf file .a)) (formulaNodes (b .body))
+module _ {file text : List ℕ} {m : Model} {s : Sentence} (a : FileOfModel file m) (b : TextOfSentence text s) where
+  pub labels-same : every (λ (x : Slot). labelRight (m .a) (x .node)) (take (s .count) (s .nodes)) ≡ every (labelRight (fieldsOf file .a))
+      (formulaNodes (b .body))
   labels-same =
       every-places (labelRight (m .a)) (take (s .count) (s .nodes)) ∙
       ap (λ (x : Sentence). every (labelRight (m .a)) (nodesOf x)) (b .fields) ∙
@@ -68,7 +69,7 @@ module _ {file text : List ℕ} {m : Model} {s : Sentence} (a : ModelRead file m
     ten : exceeds (b .body) (fieldsOf file .d) (length (b .prefix)) ≡ true → Late 10
     eleven : 1024 < tupleCount (chainOf (fieldsOf file)) (length (b .prefix)) → Late 11
 
-  late : {room k : ℕ} → 8192 ≤ room → QuestionRow file text room k → Late k
+  late : {room k : ℕ} → areaSize ≤ room → QuestionRow file text room k → Late k
   late space (area h) = absurd (omega arith)
   late space (model r) = absurd (none-of-file file (a .accepted) r)
   late {k = k} space (sentence r) = absurd (b .clean k r)
@@ -79,9 +80,9 @@ module _ {file text : List ℕ} {m : Model} {s : Sentence} (a : ModelRead file m
   late space (tuples {ps} f sp e) =
       eleven (subst (λ (qs : List Bool). 1024 < tupleCount (chainOf (fieldsOf file)) (length qs)) (one f sp .0) e)
 
-  module _ {room : ℕ} (space : 8192 ≤ room) where
+  module _ {room : ℕ} (space : areaSize ≤ room) where
     pub gives-9 : every (labelRight (fieldsOf file .a)) (formulaNodes (b .body)) ≡ false → Decided (QuestionRow file text room) 9
-    gives-9 e = refused (labels (b .body) (b .spelled) e) (λ k r. from (late space r))
+    gives-9 e = by-row (labels (b .body) (b .spelled) e) (λ k r. from (late space r))
       where
         from : {k : ℕ} → Late k → 9 ≤ k
         from (nine h) = omega arith
@@ -90,7 +91,7 @@ module _ {file text : List ℕ} {m : Model} {s : Sentence} (a : ModelRead file m
 
     module _ (right : every (labelRight (fieldsOf file .a)) (formulaNodes (b .body)) ≡ true) where
       pub gives-10 : exceeds (b .body) (fieldsOf file .d) (length (b .prefix)) ≡ true → Decided (QuestionRow file text room) 10
-      gives-10 e = refused (size (b .body) (b .spelled) e) (λ k r. from (late space r))
+      gives-10 e = by-row (size (b .body) (b .spelled) e) (λ k r. from (late space r))
         where
           from : {k : ℕ} → Late k → 10 ≤ k
           from (nine h) = absurd (true≢false (sym right ∙ h))
@@ -99,7 +100,7 @@ module _ {file text : List ℕ} {m : Model} {s : Sentence} (a : ModelRead file m
 
       module _ (small : exceeds (b .body) (fieldsOf file .d) (length (b .prefix)) ≡ false) where
         pub gives-11 : 1024 < tupleCount (chainOf (fieldsOf file)) (length (b .prefix)) → Decided (QuestionRow file text room) 11
-        gives-11 e = refused (tuples (b .body) (b .spelled) e) (λ k r. from (late space r))
+        gives-11 e = by-row (tuples (b .body) (b .spelled) e) (λ k r. from (late space r))
           where
             from : {k : ℕ} → Late k → 11 ≤ k
             from (nine h) = absurd (true≢false (sym right ∙ h))
@@ -107,7 +108,7 @@ module _ {file text : List ℕ} {m : Model} {s : Sentence} (a : ModelRead file m
             from (eleven h) = omega arith
 
         pub gives-none : tupleCount (chainOf (fieldsOf file)) (length (b .prefix)) ≤ 1024 → Decided (QuestionRow file text room) 0
-        gives-none few = accepted (λ k r. from (late space r))
+        gives-none few = by-none (λ k r. from (late space r))
           where
             from : {k : ℕ} → Late k → ⊥
             from (nine h) = absurd (true≢false (sym right ∙ h))

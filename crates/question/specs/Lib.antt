@@ -1,3 +1,3 @@
 -- The rows that verdict and numerator share.
-pub mod Rows
+pub mod Contract
 pub mod Working

@@ -1,4 +1,4 @@
--- What the parts of the two calls promise one another. None of it has to be believed.
+-- Working: what the functions of this crate promise one another. Nothing here has to be believed.
 use Prim.Native.Nat.{ℕ, _^_, _≤_}
 use mathlib.Core.Bool.{Bool, false}
 use mathlib.Core.List.{List}
@@ -7,7 +7,7 @@ use Rattle.refusal.specs.Rows.{Decided}
 use Rattle.model.specs.declared.Model.{Model}
 use Rattle.model.specs.declared.ModelRead as Loaded
 use Rattle.model.specs.Layout.{fieldsOf}
-use Rattle.model.specs.Rows.{fileNumber, Reads}
+use Rattle.model.specs.Contract.{fileNumber, ReadModelEnsures}
 use Rattle.sentence.specs.declared.Sentence.{Sentence}
 use Rattle.sentence_reader.specs.declared.SentenceRead as Parsed
 use Rattle.sentence.specs.Grammar.{Spells}
@@ -17,15 +17,15 @@ use Rattle.meaning.specs.Tree.{Formula}
 use Rattle.meaning.specs.Size.{exceeds}
 use Rattle.evaluate.specs.declared.Setting.{Setting}
 use Rattle.trees.specs.Listed.{formulaNodes}
-use Rattle.question.specs.Rows.{QuestionRow}
+use Rattle.question.specs.Contract.{QuestionRow, areaSize}
 
 -- the file is accepted and m is its model
-pub record ModelRead (file : List ℕ) (m : Model) : Type 0 where
+pub record FileOfModel (file : List ℕ) (m : Model) : Type 0 where
   pub accepted : fileNumber file ≡ 0
   pub fields : m ≡ fieldsOf file
 
 -- the text is accepted and s is its sentence
-pub record SentenceRead (text : List ℕ) (s : Sentence) : Type 0 where
+pub record TextOfSentence (text : List ℕ) (s : Sentence) : Type 0 where
   pub prefix : List Bool
   pub body : Formula
   pub spelled : Spells prefix (formulaNodes body) text
@@ -33,30 +33,31 @@ pub record SentenceRead (text : List ℕ) (s : Sentence) : Type 0 where
   pub fields : s ≡ recordOf prefix (formulaNodes body)
 
 -- m and s are a file's model and a text's sentence
-pub record Read (m : Model) (s : Sentence) : Type 0 where
+pub record BothRead (m : Model) (s : Sentence) : Type 0 where
   pub file : List ℕ
   pub text : List ℕ
-  pub model : ModelRead file m
-  pub sentence : SentenceRead text s
+  pub model : FileOfModel file m
+  pub sentence : TextOfSentence text s
 
 -- the number that the rows give, of whatever file and text m and s are read from
 pub record Late (m : Model) (s : Sentence) (number : ℕ) : Type 0 where
-  pub each : (file text : List ℕ) (room : ℕ) → 8192 ≤ room → ModelRead file m → SentenceRead text s → Decided (QuestionRow file text room) number
+  pub each : (file text : List ℕ) (room : ℕ) → areaSize ≤ room → FileOfModel file m → TextOfSentence text s →
+      Decided (QuestionRow file text room) number
 
 -- what the two readers answered, to some file and some text
-pub record Answered (m : Loaded.ModelRead) (s : Parsed.SentenceRead) : Type 0 where
+pub record BothAnswered (m : Loaded.ModelRead) (s : Parsed.SentenceRead) : Type 0 where
   pub file : List ℕ
   pub text : List ℕ
-  pub model : Reads file m
+  pub model : ReadModelEnsures file m
   pub sentence : ReadSentenceEnsures text s
 
 -- the number that the rows give, of whatever file and text the readers were asked
-pub record First (room : ℕ) (m : Loaded.ModelRead) (s : Parsed.SentenceRead) (number : ℕ) : Type 0 where
-  pub each : (file text : List ℕ) → Reads file m → ReadSentenceEnsures text s → Decided (QuestionRow file text room) number
+pub record FirstNumber (room : ℕ) (m : Loaded.ModelRead) (s : Parsed.SentenceRead) (number : ℕ) : Type 0 where
+  pub each : (file text : List ℕ) → ReadModelEnsures file m → ReadSentenceEnsures text s → Decided (QuestionRow file text room) number
 
 -- no row applies to the pair
 pub record Ready (m : Model) (s : Sentence) : Type 0 where
-  pub read : Read m s
+  pub read : BothRead m s
   pub small : exceeds (read .sentence .body) (m .d) (s .letters) ≡ false
   pub few : m .n ^ s .letters ≤ 1024
 

@@ -5,8 +5,8 @@ ghost use Prim.Native.Nat.{_^_, _≤_};
 ghost use lib.ListN.{take};
 ghost use Rattle.refusal.specs.Answers.{numberIn, replyOf};
 ghost use Rattle.meaning.specs.Lists.{every};
-ghost use Rattle.question.specs.Rows.{labelRight};
-ghost use Rattle.question.specs.Working.{Read, Late, Answered, First, Ready, SettingOf};
+ghost use Rattle.question.specs.Contract.{labelRight};
+ghost use Rattle.question.specs.Working.{BothRead, Late, BothAnswered, FirstNumber, Ready, SettingOf};
 use evaluate::Setting;
 use model::Model;
 use model::ModelRead;
@@ -17,18 +17,21 @@ use sentence::Slot;
 use sentence_reader::SentenceRead;
 use sizes::exceeds;
 
+// How many numbers of the work area a call uses, and row 1 asks for: `areaSize` of specs/.
+pub const AREA: usize = 8192;
+
 // Whether a node's label letter, if it has one, is below A.
-fn label_right(node: Node, a: u8) -> bool
+fn label_right(node: Node, a: u32) -> bool
     ensures { λ r. ⌜ r ≡ labelRight a node ⌝ }
 {
     match node {
-        Node::Label { label, variable: _ } => label < a,
+        Node::Label { label, variable: _ } => (label as u32) < a,
         _ => true,
     }
 }
 
 // Whether every label letter of the first nodes is below A.
-fn labels_right(nodes: [Slot; 64], count: usize, a: u8) -> bool
+fn labels_right(nodes: [Slot; 64], count: usize, a: u32) -> bool
     requires { ⌜ count ≤ 64 ⌝ }
     ensures { λ r. ⌜ r ≡ every (λ s. labelRight a (s .node)) (take count nodes) ⌝ }
 {
@@ -60,7 +63,7 @@ fn tuple_count(states: usize, letters: usize) -> usize
 
 // The number that the rows give of a model and a sentence that were read: 9, 10 or 11, or 0.
 fn late_number(m: Model, s: Sentence) -> u8
-    requires { ⌜ Read m s ⌝ }
+    requires { ⌜ BothRead m s ⌝ }
     ensures { λ r. ⌜ Late m s r ⌝ }
 {
     let nodes = s.nodes;
@@ -89,10 +92,10 @@ fn number_of(outcome: Outcome) -> u8
 // The number that the rows 1 to 11 give of what the readers answered, for a work area of so many numbers: the smallest that
 // applies, or 0.
 pub fn first_number(room: usize, m: ModelRead, s: SentenceRead) -> u8
-    requires { ⌜ Answered m s ⌝ }
-    ensures { λ r. ⌜ First room m s r ⌝ }
+    requires { ⌜ BothAnswered m s ⌝ }
+    ensures { λ r. ⌜ FirstNumber room m s r ⌝ }
 {
-    if room < 8192 {
+    if room < AREA {
         return 1;
     }
     let loaded = m.outcome;

@@ -9,8 +9,9 @@ use Rattle.refusal.specs.declared.Outcome.{Outcome}
 use Rattle.refusal.specs.declared.Outcome.the-variants.{Done, Refused}
 use Rattle.refusal.specs.declared.Written.{Written}
 use Rattle.refusal.specs.declared.Written.the-variants.{Wrote, Refused as Unwritten}
-use Rattle.refusal.specs.Answers.{Reply, gives, refuses, numberIn, filled, Ensured, refused, answered, replyOf, replyOfWritten, atFront, TextAtFront}
-use Rattle.refusal.specs.Rows.{Decided, refused as smallest, accepted}
+use Rattle.refusal.specs.Answers.{Reply, gives, refuses, numberIn, filled, Ensured, refused, answered, replyOf, replyOfWritten}
+use Rattle.refusal.specs.Answers.{atFront, TextAtFront}
+use Rattle.refusal.specs.Rows.{Decided, by-row as smallest, by-none}
 
 module _ {A L : Type 0} {R : ℕ → Type 0} {Right : A → L → Type 0} {before : L} where
   -- any two results that a contract allows are equal, where the right values and what is right to leave are
@@ -28,12 +29,12 @@ module _ {A L : Type 0} {R : ℕ → Type 0} {Right : A → L → Type 0} {befor
   -- the number of a reply is the one that the rows ask for
   pub number-decided : {r : Reply A} {after : L} → Ensured R Right before r after → Decided R (numberIn r)
   number-decided (refused e k row least) = subst (Decided R) (sym (ap numberIn e)) (smallest row least)
-  number-decided (answered e right none) = subst (Decided R) (sym (ap numberIn e)) (accepted none)
+  number-decided (answered e right none) = subst (Decided R) (sym (ap numberIn e)) (by-none none)
 
   -- a refusal with the number that the rows ask for
   pub refused-as : {n : ℕ} {r : Reply A} {after : L} → Decided R n → 0 < n → r ≡ refuses n → after ≡ before → Ensured R Right before r after
   refused-as (smallest row least) some e k = refused e k row least
-  refused-as (accepted none) some e k = absurd (omega arith)
+  refused-as (by-none none) some e k = absurd (omega arith)
 
   -- where no row applies the right values are given
   pub right-of : {r : Reply A} {after : L} → ((n : ℕ) → R n → ⊥) → Ensured R Right before r after → (v : A) × (r ≡ gives v) × Right v after
@@ -49,7 +50,8 @@ filled-refused {A} e value before = ap (λ (x : Reply A). filled x value before)
 
 -- what is right of a writer is one, where one text is asked for
 pub one-front : {Asked : List ℕ → Type 0} {before : List ℕ} → ((t t′ : List ℕ) → Asked t → Asked t′ → t ≡ t′) → (size size′ : ℕ)
-    (after after′ : List ℕ) → TextAtFront Asked before size after → TextAtFront Asked before size′ after′ → (size ≡ size′) × (after ≡ after′)
+    (after after′ : List ℕ) → TextAtFront Asked before size after → TextAtFront Asked before size′ after′
+    → (size ≡ size′) × (after ≡ after′)
 one-front {before = before} one size size′ after after′ f f′ =
     let same = one (f .text) (f′ .text) (f .asked) (f′ .asked) in
     (f .sized ∙ ap length same ∙ sym (f′ .sized), f .left ∙ ap (λ (t : List ℕ). atFront t before) same ∙ sym (f′ .left))

@@ -8,7 +8,7 @@ use native.Mathlib.Omega.{arith}
 use native.Mathlib.Nat.{le-antisymm}
 use borrow.Author.Tests.{ltb-true}
 use lib.Dec.{ltb}
-use Rattle.refusal.specs.Rows.{Row, orElse, first, Ascending, none, more, Applies, here, later, Decided, refused, accepted, Given}
+use Rattle.refusal.specs.Rows.{Row, orElse, first, Ascending, none, more, Applies, here, later, Decided, by-row, by-none, Given}
 
 -- whether the rows stand in the order of their numbers: of a list that is written out, by computing
 abbrev pub ascends : ℕ → List Row → Bool
@@ -53,22 +53,22 @@ least-first t m (later w) =
 -- one row more in front, with the number n and the answer a
 step : (n : ℕ) (a : Bool) {rows : List Row} → Ascending n rows → {k : ℕ} → Given rows k →
     Given (record { number = n; applies = a } ∷ rows) (orElse a n k)
-step n true t g = refused (here refl refl) (least-first t)
-step n false t (refused w least) = refused (later w) (λ m v. least m (is-later v))
-step n false t (accepted no-row) = accepted (λ m v. not-later no-row v)
+step n true t g = by-row (here refl refl) (least-first t)
+step n false t (by-row w least) = by-row (later w) (λ m v. least m (is-later v))
+step n false t (by-none no-row) = by-none (λ m v. not-later no-row v)
 
 -- document 01: of the rows belonging to a call, the smallest number that applies is given
 pub smallest : {low : ℕ} {rows : List Row} → Ascending low rows → Given rows (first rows)
 unfolding first
-smallest none = accepted (λ m. elim [ ])
+smallest none = by-none (λ m. elim [ ])
 smallest (more {r = r} h t) = step (r .number) (r .applies) t (smallest t)
 
 -- and no other number is
 pub one-number : {R : ℕ → Type 0} {m n : ℕ} → Decided R m → Decided R n → m ≡ n
-one-number (refused a la) (refused b lb) = le-antisymm (la _ b) (lb _ a)
-one-number (refused a la) (accepted no-row) = absurd (no-row _ a)
-one-number (accepted no-row) (refused b lb) = absurd (no-row _ b)
-one-number (accepted p) (accepted q) = refl
+one-number (by-row a la) (by-row b lb) = le-antisymm (la _ b) (lb _ a)
+one-number (by-row a la) (by-none no-row) = absurd (no-row _ a)
+one-number (by-none no-row) (by-row b lb) = absurd (no-row _ b)
+one-number (by-none p) (by-none q) = refl
 
 -- ---- the number, row by row: for a call that tests its rows in order
 

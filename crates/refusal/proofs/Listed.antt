@@ -6,8 +6,9 @@ use native.Mathlib.Omega.{arith}
 use lib.ListN.{length}
 use Rattle.refusal.specs.declared.Written.{Written}
 use Rattle.refusal.specs.declared.Written.the-variants.{Wrote, Refused as Unwritten}
-use Rattle.refusal.specs.Answers.{Reply, gives, refuses, numberIn, Ensured, refused, answered, replyOfWritten, atFront, TextAtFront, Writes}
-use Rattle.refusal.specs.Rows.{Row, first, Ascending, Applies, refused as smallest-of, accepted, Given}
+use Rattle.refusal.specs.Answers.{Reply, gives, refuses, numberIn, Ensured, refused, answered, replyOfWritten, atFront, TextAtFront}
+use Rattle.refusal.specs.Answers.{Writes}
+use Rattle.refusal.specs.Rows.{Row, first, Ascending, Applies, by-row as smallest-of, by-none, Given}
 use Rattle.refusal.proofs.Ensuring.{one-result, number-decided, refused-as, one-front, written-told}
 use Rattle.refusal.proofs.Laws.{above, smallest, one-number}
 
@@ -21,14 +22,15 @@ module _ {rows : List Row} (up : Ascending 0 rows) where
   none-applies e m a = by (given-first e)
     where
       by : Given rows 0 → ⊥
-      by (accepted none) = none m a
+      by (by-none none) = none m a
       by (smallest-of row least) =
           let low = above up 0 row in
           omega arith
 
   module _ {A L : Type 0} {Right : A → L → Type 0} {before : L} {reply : Reply A} {after : L} where
     -- a refusal
-    pub list-refused : (k : ℕ) → first rows ≡ suc k → reply ≡ refuses (suc k) → after ≡ before → Ensured (λ n. Applies n rows) Right before reply after
+    pub list-refused : (k : ℕ) → first rows ≡ suc k → reply ≡ refuses (suc k) → after ≡ before
+        → Ensured (λ n. Applies n rows) Right before reply after
     list-refused k e r l = refused-as (given-first e) (omega arith) r l
 
     -- an answer
@@ -40,7 +42,8 @@ module _ {rows : List Row} (up : Ascending 0 rows) where
     list-number w = one-number (number-decided w) (smallest up)
 
   -- a writer's refusal
-  pub writes-refused : (text : List ℕ) {before after : List ℕ} {r : Written} (k : ℕ) → first rows ≡ suc k → r ≡ Unwritten (suc k) → after ≡ before →
+  pub writes-refused : (text : List ℕ) {before after : List ℕ} {r : Written} (k : ℕ) → first rows ≡ suc k → r ≡ Unwritten (suc k)
+      → after ≡ before →
       Writes rows text before after r
   writes-refused text k e a l = record { ensured = list-refused k e (ap replyOfWritten a) l }
 
@@ -55,7 +58,8 @@ pub rows-changed : {rows rows′ : List Row} → Ascending 0 rows → Ascending 
     {text before after : List ℕ} {r : Written} → Writes rows text before after r → Writes rows′ text before after r
 rows-changed {rows} {rows′} up up′ same {text} {before} {after} {r} w = by (w .ensured)
   where
-    by : Ensured (λ n. Applies n rows) (TextAtFront (λ t. t ≡ text) before) before (replyOfWritten r) after → Writes rows′ text before after r
+    by : Ensured (λ n. Applies n rows) (TextAtFront (λ t. t ≡ text) before) before (replyOfWritten r) after
+        → Writes rows′ text before after r
     by (refused {n} e l row least) =
         let number = sym (ap numberIn e) ∙ list-number up (w .ensured) ∙ same in
         record { ensured = refused-as (given-first up′ (sym number)) (above up n row) e l }

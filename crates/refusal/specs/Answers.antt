@@ -21,15 +21,15 @@ abbrev pub numberIn : {A : Type 0} → Reply A → ℕ
 numberIn (gives values) = 0
 numberIn (refuses number) = number
 
--- what is lent is filled where the call gives values, and stays as it was where the call refuses
+-- what is lent is filled if the call gives values, and unchanged if it refuses
 abbrev pub filled : {A B : Type 0} → Reply A → B → B → B
 filled (gives values) value before = value
 filled (refuses number) value before = before
 
--- What a call ensures of its reply and of what it leaves. Where rows apply, it refuses with the smallest number, and leaves all as it
--- was; where none applies, it gives the right values, and leaves what is right.
--- `R n` says that the row with the number n applies, `Right v l` that the values v and what is left, l, are right. Of a reader, which
--- is lent nothing, 'left' is the record that it returns beside its reply, and 'before' the empty record.
+-- What a call ensures of its reply and of the memory that it was lent. If rows apply, it refuses with the smallest of their numbers, and
+-- the memory is unchanged. If none applies, it gives the correct values and leaves the correct contents.
+-- `R n` says that the row with the number n applies, `Right v l` that the values v and the contents l are correct. A reader is lent
+-- nothing: for it, 'after' is the record that it returns beside its reply, and 'before' the empty record.
 pub data Ensured {A L : Type 0} (R : ℕ → Type 0) (Right : A → L → Type 0) (before : L) (reply : Reply A) (after : L) : Type 0 where
   refused : {n : ℕ} → reply ≡ refuses n → after ≡ before → R n → ((m : ℕ) → R m → n ≤ m) → Ensured R Right before reply after
   answered : {v : A} → reply ≡ gives v → Right v after → ((m : ℕ) → R m → ⊥) → Ensured R Right before reply after
@@ -50,13 +50,13 @@ replyOfWritten (Unwritten number) = refuses number
 abbrev pub atFront : List ℕ → List ℕ → List ℕ
 atFront text before = text ++ drop (length text) before
 
--- what is right of a writer: a text that is asked for stands at the front, and its length is given
+-- the correct result of a writer: a text that is asked for stands at the front, and its length is given
 pub record TextAtFront (Asked : List ℕ → Type 0) (before : List ℕ) (size : ℕ) (after : List ℕ) : Type 0 where
   pub text : List ℕ
   pub asked : Asked text
   pub sized : size ≡ length text
   pub left : after ≡ atFront text before
 
--- what a writer ensures whose rows are a list and that writes a given text, of the output before and after, and its answer
+-- what a writer ensures that has these rows and writes this text, of the output before and after and of its answer
 pub record Writes (rows : List Row) (text before after : List ℕ) (answer : Written) : Type 0 where
   pub ensured : Ensured (λ n. Applies n rows) (TextAtFront (λ t. t ≡ text) before) before (replyOfWritten answer) after

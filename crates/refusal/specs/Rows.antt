@@ -34,8 +34,8 @@ pub data Applies (n : ℕ) : List Row → Type 0 where
 -- n is what the document asks for, `R n` saying that the row with the number n applies: that row applies, and no row that
 -- applies has a smaller number; or n is 0 and no row applies
 pub data Decided (R : ℕ → Type 0) : ℕ → Type 0 where
-  refused : {n : ℕ} → R n → ((m : ℕ) → R m → n ≤ m) → Decided R n
-  accepted : ((m : ℕ) → R m → ⊥) → Decided R 0
+  by-row : {n : ℕ} → R n → ((m : ℕ) → R m → n ≤ m) → Decided R n
+  by-none : ((m : ℕ) → R m → ⊥) → Decided R 0
 
 -- the same of the rows of a list
 abbrev pub Given : List Row → ℕ → Type 0

@@ -4,11 +4,13 @@ use mathlib.Core.Path.{refl, sym, ap, subst}
 use Rattle.sentence.specs.Grammar.{Writable, kindOf, wants, Nests}
 use Rattle.sentence.specs.Grammar.Nests.{end, node}
 use Rattle.sentence.specs.Forms.{Form}
-use Rattle.sentence.specs.Forms.Form.{truth, label, negation, conjunction, comparison, probability, constant, sum, difference, product, next, until}
+use Rattle.sentence.specs.Forms.Form.{truth, label, negation, conjunction, comparison, probability, constant, sum, difference}
+use Rattle.sentence.specs.Forms.Form.{product, next, until}
 use Rattle.sentence.specs.declared.Kind.{Kind}
 use Rattle.sentence.specs.declared.Kind.the-variants.{State, Expression, Path}
 use Rattle.sentence.specs.declared.Node.{Node}
-use Rattle.sentence.specs.declared.Node.the-variants.{True, Label, Not, And, Compare, Probability, Constant, Sum, Difference, Product, Next, Until}
+use Rattle.sentence.specs.declared.Node.the-variants.{True, Label, Not, And, Compare, Probability, Constant, Sum, Difference, Product}
+use Rattle.sentence.specs.declared.Node.the-variants.{Next, Until}
 
 -- two things that a node wants nest before what follows
 pair : {k : Kind} (ks : List Kind) (f g r : List Node) → Nests (k ∷ k ∷ ks) (f ++ (g ++ r)) → Nests (k ∷ k ∷ ks) ((f ++ g) ++ r)
@@ -19,7 +21,8 @@ form-nests truth ks r n = node refl refl n
 form-nests (label w) ks r n = node w refl n
 form-nests (negation a) ks r n = node refl refl (form-nests a ks r n)
 form-nests (conjunction {f} {g} a b) ks r n = node refl refl (pair ks f g r (form-nests a (State ∷ ks) (g ++ r) (form-nests b ks r n)))
-form-nests (comparison c {d} {e} a b) ks r n = node refl refl (pair ks d e r (form-nests a (Expression ∷ ks) (e ++ r) (form-nests b ks r n)))
+form-nests (comparison c {d} {e} a b) ks r n =
+    node refl refl (pair ks d e r (form-nests a (Expression ∷ ks) (e ++ r) (form-nests b ks r n)))
 form-nests (probability a) ks r n = node refl refl (form-nests a ks r n)
 form-nests (constant w) ks r n = node w refl n
 form-nests (sum {d} {e} a b) ks r n = node refl refl (pair ks d e r (form-nests a (Expression ∷ ks) (e ++ r) (form-nests b ks r n)))
@@ -34,11 +37,14 @@ data Parts : List Kind → List Node → Type 0 where
   part : {k : Kind} {ks : List Kind} (f r : List Node) → Form k f → Parts ks r → Parts (k ∷ ks) (f ++ r)
 
 -- a node and the parts that it wants make one part
-one : (n : Node) (k : Kind) (ks : List Kind) {r : List Node} → Parts (k ∷ ks) r → ((f : List Node) → Form k f → Form (kindOf n) (n ∷ f)) → Parts (kindOf n ∷ ks) (n ∷ r)
+one : (n : Node) (k : Kind) (ks : List Kind) {r : List Node} → Parts (k ∷ ks) r → ((f : List Node) → Form k f → Form (kindOf n) (n ∷ f))
+    → Parts (kindOf n ∷ ks) (n ∷ r)
 one n k ks (part f r a p) make = part (n ∷ f) r (make f a) p
 
-two : (n : Node) (k : Kind) (ks : List Kind) {r : List Node} → Parts (k ∷ k ∷ ks) r → ((f g : List Node) → Form k f → Form k g → Form (kindOf n) (n ∷ (f ++ g))) → Parts (kindOf n ∷ ks) (n ∷ r)
-two n k ks (part f s a (part g r b p)) make = subst (Parts (kindOf n ∷ ks)) (ap (λ (l : List Node). n ∷ l) (append-assoc f g r)) (part (n ∷ (f ++ g)) r (make f g a b) p)
+two : (n : Node) (k : Kind) (ks : List Kind) {r : List Node} → Parts (k ∷ k ∷ ks) r
+    → ((f g : List Node) → Form k f → Form k g → Form (kindOf n) (n ∷ (f ++ g))) → Parts (kindOf n ∷ ks) (n ∷ r)
+two n k ks (part f s a (part g r b p)) make =
+    subst (Parts (kindOf n ∷ ks)) (ap (λ (l : List Node). n ∷ l) (append-assoc f g r)) (part (n ∷ (f ++ g)) r (make f g a b) p)
 
 grown : (n : Node) (ks : List Kind) {r : List Node} → Writable n → Parts (wants n ++ ks) r → Parts (kindOf n ∷ ks) (n ∷ r)
 grown True ks {r} w p = part (True ∷ []) r truth p

@@ -19,6 +19,7 @@ spelled-text {ps} {ns} {t} s = s .text ∙ append-assoc (map letterByte ps) (46 
 
 pub spelled-once : {ps qs : List Bool} {ns ms : List Node} {t : List ℕ} → Spells ps ns t → Spells qs ms t → (ps ≡ qs) × (ns ≡ ms)
 spelled-once {ps} {qs} {ns} {ms} {t} a b =
-    let one : (ps ≡ qs) × (bodyText ns ≡ bodyText ms) = one-prefix ps qs (bodyText ns) (bodyText ms) (sym (spelled-text a) ∙ spelled-text b) in
+    let one : (ps ≡ qs) × (bodyText ns ≡ bodyText ms) =
+    one-prefix ps qs (bodyText ns) (bodyText ms) (sym (spelled-text a) ∙ spelled-text b) in
     let p : Peeled [] ns ms [] [] = peel [] ms [] [] (a .nests) (b .nests) (ap (λ (s : List ℕ). s ++ []) (one .1)) in
     (one .0, sym (p .split ∙ ap (λ (l : List Node). ns ++ l) (no-nodes (p .nests)) ∙ append-nil ns))

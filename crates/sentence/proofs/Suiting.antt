@@ -38,15 +38,19 @@ right false b e = absurd (true≢false (sym e))
 -- a label has a text exactly if its letter is one of `a`..`p` and its digit one of 1..4
 pub label-written : (l v : ℕ) → Writable (Label l v) → (l < 16) × (1 ≤ v) × (v ≤ 4)
 label-written l v e =
-    let ab : (ltb l 16 && leb 1 v) ≡ true = left (ltb l 16 && leb 1 v) (leb v 4) e in
-    (ltb-true l 16 (left (ltb l 16) (leb 1 v) ab), leb-true 1 v (right (ltb l 16) (leb 1 v) ab), leb-true v 4 (right (ltb l 16 && leb 1 v) (leb v 4) e))
+    let ab : (ltb l 16 && leb 1 v) ≡ true = left (ltb l 16 && leb 1 v) (leb v 4) e in (
+      ltb-true l 16 (left (ltb l 16) (leb 1 v) ab),
+      leb-true 1 v (right (ltb l 16) (leb 1 v) ab),
+      leb-true v 4 (right (ltb l 16 && leb 1 v) (leb v 4) e),
+    )
 
 pub label-writable : (l v : ℕ) → l < 16 → 1 ≤ v → v ≤ 4 → Writable (Label l v)
 label-writable l v a b c = rw (lt-ltb l 16 a, le-leb 1 v b, le-leb v 4 c) refl
 
 -- a constant and an until have a text exactly if their numbers have at most five digits
 pub numbers-written : (a b : ℕ) → (ltb a 100000 && ltb b 100000) ≡ true → (a < 100000) × (b < 100000)
-numbers-written a b e = (ltb-true a 100000 (left (ltb a 100000) (ltb b 100000) e), ltb-true b 100000 (right (ltb a 100000) (ltb b 100000) e))
+numbers-written a b e =
+    (ltb-true a 100000 (left (ltb a 100000) (ltb b 100000) e), ltb-true b 100000 (right (ltb a 100000) (ltb b 100000) e))
 
 pub numbers-writable : (a b : ℕ) → a < 100000 → b < 100000 → (ltb a 100000 && ltb b 100000) ≡ true
 numbers-writable a b la lb = rw (lt-ltb a 100000 la, lt-ltb b 100000 lb) refl

@@ -16,9 +16,10 @@ use Rattle.sentence.specs.Working.{operatorNode, AllWritable}
 use Rattle.sentence.specs.declared.Kind.{Kind}
 use Rattle.sentence.specs.declared.Relation.the-variants.{Less, AtMost, Equal, AtLeast, Greater}
 use Rattle.sentence.specs.declared.Node.{Node}
-use Rattle.sentence.specs.declared.Node.the-variants.{True, Label, Not, And, Compare, Probability, Constant, Sum, Difference, Product, Next, Until}
+use Rattle.sentence.specs.declared.Node.the-variants.{True, Label, Not, And, Compare, Probability, Constant, Sum, Difference, Product}
+use Rattle.sentence.specs.declared.Node.the-variants.{Next, Until}
 use Rattle.numerals.proofs.Numbers.{scan, scan-number, scan-other}
-use Rattle.numerals.proofs.Places.{first}
+use Rattle.numerals.proofs.Places.{firstByte}
 use Rattle.sentence.proofs.Suiting.{numbers-written}
 
 -- the two numbers at the front of a text, each with a byte after it, and the text after them
@@ -29,7 +30,7 @@ twoNumbers make t = (make (scan 0 t .0) (scan 0 (tail (scan 0 t .1)) .0), tail (
 unfoldable pub decode : List ℕ → Node × List ℕ
 decode [] = (True, [])
 decode (b ∷ t) =
-    cond (leb 97 b) (Label (b - 97) (first t - 48), tail t)
+    cond (leb 97 b) (Label (b - 97) (firstByte t - 48), tail t)
     (cond (eqb b 35) (twoNumbers Constant t)
     (cond (eqb b 85) (twoNumbers Until t)
     (operatorNode b, t)))
@@ -37,7 +38,8 @@ decode (b ∷ t) =
 -- two numbers are read back
 two-numbers : (make : ℕ → ℕ → Node) (a b c d : ℕ) (s : List ℕ) → a < 100000 → b < 100000 → NoDigit c → NoDigit d
     → twoNumbers make ((numberText a ++ c ∷ (numberText b ++ d ∷ [])) ++ s) ≡ (make a b, s)
-two-numbers make a b c d s la lb nc nd = rw (append-assoc (numberText a) (c ∷ (numberText b ++ d ∷ [])) s, one, append-assoc (numberText b) (d ∷ []) s, two) refl
+two-numbers make a b c d s la lb nc nd =
+    rw (append-assoc (numberText a) (c ∷ (numberText b ++ d ∷ [])) s, one, append-assoc (numberText b) (d ∷ []) s, two) refl
   where
     one : scan 0 (numberText a ++ c ∷ ((numberText b ++ d ∷ []) ++ s)) ≡ (a, c ∷ ((numberText b ++ d ∷ []) ++ s))
     one = scan-number a (c ∷ ((numberText b ++ d ∷ []) ++ s)) la ∙ scan-other a c ((numberText b ++ d ∷ []) ++ s) nc
@@ -61,12 +63,14 @@ decoded (Compare Equal) s w = refl
 decoded (Compare AtLeast) s w = refl
 decoded (Compare Greater) s w = refl
 decoded Probability s w = refl
-decoded (Constant a b) s w = two-numbers Constant a b 47 59 s (numbers-written a b w .0) (numbers-written a b w .1) (inl (omega arith)) (inr (omega arith))
+decoded (Constant a b) s w =
+    two-numbers Constant a b 47 59 s (numbers-written a b w .0) (numbers-written a b w .1) (inl (omega arith)) (inr (omega arith))
 decoded Sum s w = refl
 decoded Difference s w = refl
 decoded Product s w = refl
 decoded Next s w = refl
-decoded (Until a b) s w = two-numbers Until a b 44 58 s (numbers-written a b w .0) (numbers-written a b w .1) (inl (omega arith)) (inr (omega arith))
+decoded (Until a b) s w =
+    two-numbers Until a b 44 58 s (numbers-written a b w .0) (numbers-written a b w .1) (inl (omega arith)) (inr (omega arith))
 
 -- a text has one node at its front
 pub one-node : {n m : Node} (r s : List ℕ) → Writable n → Writable m → nodeText n ++ r ≡ nodeText m ++ s → (n ≡ m) × (r ≡ s)
@@ -102,11 +106,14 @@ peel-node : (n : Node) (k : Kind) (js : List Kind) (ms : List Node) (ks : List K
     → Nests (k ∷ (js ++ ks)) ns → bodyText (n ∷ ms) ++ r ≡ bodyText ns ++ s → Peeled ks (n ∷ ms) ns r s
 peel-node n k js ms ks ns r s w ih (node {n = m} {ns = ns′} wm e a) same =
     let one : (n ≡ m) × (bodyText ms ++ r ≡ bodyText ns′ ++ s) =
-    one-node (bodyText ms ++ r) (bodyText ns′ ++ s) w wm (sym (append-assoc (nodeText n) (bodyText ms) r) ∙ same ∙ append-assoc (nodeText m) (bodyText ns′) s) in
+    one-node (bodyText ms ++ r) (bodyText ns′ ++ s) w wm
+    (sym (append-assoc (nodeText n) (bodyText ms) r) ∙ same ∙ append-assoc (nodeText m) (bodyText ns′) s) in
     let p : Peeled ks ms ns′ r s =
     ih ns′ (rw append-assoc (subst (λ (x : Node). Nests (wants x ++ (js ++ ks)) ns′) (sym (one .0)) a)) (one .1) in
     record { rest = p .rest; split = cc (one .0, p .split); nests = p .nests; text = p .text }
 
-pub peel : {js : List Kind} {ms : List Node} (ks : List Kind) (ns : List Node) (r s : List ℕ) → Nests js ms → Nests (js ++ ks) ns → bodyText ms ++ r ≡ bodyText ns ++ s → Peeled ks ms ns r s
+pub peel : {js : List Kind} {ms : List Node} (ks : List Kind) (ns : List Node) (r s : List ℕ) → Nests js ms → Nests (js ++ ks) ns
+    → bodyText ms ++ r ≡ bodyText ns ++ s → Peeled ks ms ns r s
 peel ks ns r s end b same = record { rest = ns; split = refl; nests = b; text = same }
-peel ks ns r s (node {n = n} {k = k} {ks = js} {ns = ms} w e a) b same = peel-node n k js ms ks ns r s w (λ ns′ b′ same′. peel ks ns′ r s a b′ same′) b same
+peel ks ns r s (node {n = n} {k = k} {ks = js} {ns = ms} w e a) b same =
+    peel-node n k js ms ks ns r s w (λ ns′ b′ same′. peel ks ns′ r s a b′ same′) b same

@@ -7,7 +7,8 @@ use Rattle.sentence.specs.declared.Kind.{Kind}
 use Rattle.sentence.specs.declared.Kind.the-variants.{State, Expression, Path}
 use Rattle.sentence.specs.declared.Relation.{Relation}
 use Rattle.sentence.specs.declared.Node.{Node}
-use Rattle.sentence.specs.declared.Node.the-variants.{True, Label, Not, And, Compare, Probability, Constant, Sum, Difference, Product, Next, Until}
+use Rattle.sentence.specs.declared.Node.the-variants.{True, Label, Not, And, Compare, Probability, Constant, Sum, Difference, Product}
+use Rattle.sentence.specs.declared.Node.the-variants.{Next, Until}
 
 -- `Form k ns`: the list ns is a state formula, an expression or a path
 pub data Form : Kind → List Node → Type 0 where

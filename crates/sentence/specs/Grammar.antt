@@ -15,7 +15,8 @@ use Rattle.sentence.specs.declared.Relation.the-variants.{Less, AtMost, 
 use Rattle.sentence.specs.declared.Wants.{Wants}
 use Rattle.sentence.specs.declared.Wants.the-variants.{Nothing, One, Two}
 use Rattle.sentence.specs.declared.Node.{Node}
-use Rattle.sentence.specs.declared.Node.the-variants.{True, Label, Not, And, Compare, Probability, Constant, Sum, Difference, Product, Next, Until}
+use Rattle.sentence.specs.declared.Node.the-variants.{True, Label, Not, And, Compare, Probability, Constant, Sum, Difference, Product}
+use Rattle.sentence.specs.declared.Node.the-variants.{Next, Until}
 
 -- the five comparisons: `<` less, `L` at most, `=` equal, `G` at least, `>` greater
 abbrev pub relationByte : Relation → ℕ
@@ -103,7 +104,8 @@ wants n = wanted (wantsOf n)
 -- `Nests ks ns`: where things of the kinds ks are wanted, the nodes ns are just these, in written order
 pub data Nests : List Kind → List Node → Type 0 where
   end : Nests [] []
-  node : {n : Node} {k : Kind} {ks : List Kind} {ns : List Node} → Writable n → kindOf n ≡ k → Nests (wants n ++ ks) ns → Nests (k ∷ ks) (n ∷ ns)
+  node : {n : Node} {k : Kind} {ks : List Kind} {ns : List Node} → Writable n → kindOf n ≡ k → Nests (wants n ++ ks) ns
+      → Nests (k ∷ ks) (n ∷ ns)
 
 -- the text of a list of nodes: their own texts, one after another
 abbrev pub bodyText : List Node → List ℕ

@@ -3,6 +3,15 @@
 ghost use mathlib.Core.Path.{_≡_};
 ghost use Rattle.sentence.specs.Grammar.{outOfRange, wantsOf};
 
+// The longest text, in bytes.
+pub const TEXT_BYTES: usize = 400;
+
+// The nodes that a record has room for.
+pub const NODES: usize = 64;
+
+// The letters that a prefix has at most.
+pub const LETTERS: usize = 4;
+
 // The five comparisons.
 pub enum Relation {
     Less,
@@ -48,14 +57,14 @@ pub struct Sentence {
     pub nodes: [Slot; 64],
 }
 
-// What a node wants after it: nothing, one thing, or two of one kind.
+// What follows a node: nothing, one thing, or two of one kind.
 pub enum Wants {
     Nothing,
     One(Kind),
     Two(Kind),
 }
 
-// A node is out of its range, in a sentence of so many letters: only a node with numbers can be.
+// Whether row 7 applies to a node of a sentence with this many letters: only a node with numbers can be out of its range.
 pub fn is_fault(letters: usize, node: Node) -> bool
     ensures { λ r. ⌜ r ≡ outOfRange letters node ⌝ }
 {
@@ -67,7 +76,7 @@ pub fn is_fault(letters: usize, node: Node) -> bool
     }
 }
 
-// What a node wants after it.
+// Returns what follows a node.
 pub fn wants_of(node: Node) -> Wants
     ensures { λ r. ⌜ r ≡ wantsOf node ⌝ }
 {

@@ -47,7 +47,8 @@ kept-fault letters k [] = last (k .fault)
     last : (b : Bool) → b ≡ (b || false)
     last true = refl
     last false = refl
-kept-fault letters k (n ∷ ns) = kept-fault letters (keep letters k n) ns ∙ or-assoc (k .fault) (outOfRange letters n) (someOutOfRange letters ns)
+kept-fault letters k (n ∷ ns) =
+    kept-fault letters (keep letters k n) ns ∙ or-assoc (k .fault) (outOfRange letters n) (someOutOfRange letters ns)
 
 -- a list stored at the front of equal places
 drop-replicate : {A : Type 0} (n m : ℕ) (x : A) → drop n (replicate m x) ≡ replicate (m - n) x
@@ -90,7 +91,8 @@ row-spelled s h (range s′ e) = omega arith
 row-spelled s h (many s′ g) = omega arith
 
 -- and one in whose ranges all is leaves 8
-row-ranged : {t : List ℕ} {ps : List Bool} {ns : List Node} {m : ℕ} → Spells ps ns t → length t ≤ 400 → someOutOfRange (length ps) ns ≡ false → ReadRow t m → (m ≡ 8) × (64 < length ns)
+row-ranged : {t : List ℕ} {ps : List Bool} {ns : List Node} {m : ℕ} → Spells ps ns t → length t ≤ 400
+    → someOutOfRange (length ps) ns ≡ false → ReadRow t m → (m ≡ 8) × (64 < length ns)
 row-ranged {ps = ps} {ns = ns} s h f (outside g) = absurd (g ps ns s)
 row-ranged s h f (long g) = absurd (omega arith)
 row-ranged s h f (range s′ e) =
@@ -98,14 +100,21 @@ row-ranged s h f (range s′ e) =
     absurd (true≢false (sym e ∙ sym (ap₂ (λ (p : List Bool) (n : List Node). someOutOfRange (length p) n) (one .0) (one .1)) ∙ f))
 row-ranged s h f (many s′ g) = (refl, rw (spelled-once s s′ .1) g)
 
-pub answer-range : {t : List ℕ} {ps : List Bool} {ns : List Node} → Spells ps ns t → length t ≤ 400 → someOutOfRange (length ps) ns ≡ true → ReadSentenceEnsures t (refusal 7)
+pub answer-range : {t : List ℕ} {ps : List Bool} {ns : List Node} → Spells ps ns t → length t ≤ 400
+    → someOutOfRange (length ps) ns ≡ true → ReadSentenceEnsures t (refusal 7)
 answer-range s h e = record { ensured = refused refl refl (range s e) (λ m r. row-spelled s h r) }
 
-pub answer-many : {t : List ℕ} {ps : List Bool} {ns : List Node} → Spells ps ns t → length t ≤ 400 → someOutOfRange (length ps) ns ≡ false → 64 < length ns → ReadSentenceEnsures t (refusal 8)
+pub answer-many : {t : List ℕ} {ps : List Bool} {ns : List Node} → Spells ps ns t → length t ≤ 400
+    → someOutOfRange (length ps) ns ≡ false → 64 < length ns → ReadSentenceEnsures t (refusal 8)
 answer-many s h e g = record { ensured = refused refl refl (many s g) (λ m r. omega (arith, row-ranged s h e r .0)) }
 
-pub answer-done : {t : List ℕ} {ps : List Bool} {ns : List Node} → Spells ps ns t → length t ≤ 400 → someOutOfRange (length ps) ns ≡ false → length ns ≤ 64 → ReadSentenceEnsures t (record { outcome = Done; sentence = recordOf ps ns })
-answer-done {ps = ps} {ns} s h e g = record { ensured = answered refl (record { prefix = ps; nodes = ns; spells = s; fields = refl }) (λ m r. omega (arith, row-ranged s h e r .1)) }
+pub answer-done : {t : List ℕ} {ps : List Bool} {ns : List Node} → Spells ps ns t → length t ≤ 400
+    → someOutOfRange (length ps) ns ≡ false → length ns ≤ 64 → ReadSentenceEnsures t (record { outcome = Done; sentence = recordOf ps ns })
+answer-done {ps = ps} {ns} s h e g =
+    record {
+      ensured = answered refl (record { prefix = ps; nodes = ns; spells = s; fields = refl })
+          (λ m r. omega (arith, row-ranged s h e r .1));
+    }
 
 -- the contract leaves one answer
 pub one-answer : {t : List ℕ} {a b : SentenceRead} → ReadSentenceEnsures t a → ReadSentenceEnsures t b → a ≡ b
@@ -119,23 +128,29 @@ one-answer {t} {a} {b} x y =
         (refl, p .fields ∙ ap₂ recordOf (same .0) (same .1) ∙ sym (q .fields))
 
 -- the body follows the prefix that was read
-body-after : {t : List ℕ} (ps qs : List Bool) (r : List ℕ) {ms : List Node} → t ≡ map letterByte ps ++ 46 ∷ r → Spells qs ms t → (ps ≡ qs) × (r ≡ bodyText ms)
+body-after : {t : List ℕ} (ps qs : List Bool) (r : List ℕ) {ms : List Node} → t ≡ map letterByte ps ++ 46 ∷ r → Spells qs ms t
+    → (ps ≡ qs) × (r ≡ bodyText ms)
 body-after ps qs r {ms} same s = one-prefix ps qs r (bodyText ms) (sym same ∙ spelled-text s)
 
 -- no prefix
-pub outside-prefix : (t : List ℕ) (flags : List Bool) (r : PrefixRead) → PrefixResult t 0 flags r → r .ok ≡ false → (qs : List Bool) (ms : List Node) → Spells qs ms t → ⊥
+pub outside-prefix : (t : List ℕ) (flags : List Bool) (r : PrefixRead) → PrefixResult t 0 flags r → r .ok ≡ false
+    → (qs : List Bool) (ms : List Node) → Spells qs ms t → ⊥
 outside-prefix t flags r (prefix ps ok l h same n e x) bad qs ms s = true≢false (sym ok ∙ bad)
-outside-prefix t flags r (PrefixResult.none ok not) bad qs ms s = not qs (bodyText ms) (omega (arith, s .some)) (omega (arith, s .few)) (spelled-text s)
+outside-prefix t flags r (PrefixResult.none ok not) bad qs ms s =
+    not qs (bodyText ms) (omega (arith, s .some)) (omega (arith, s .few)) (spelled-text s)
 
 -- a prefix, and no state formula after it
-outside-stuck : (t : List ℕ) (ps : List Bool) (r : List ℕ) → t ≡ map letterByte ps ++ 46 ∷ r → Stuck (State ∷ []) r → (qs : List Bool) (ms : List Node) → Spells qs ms t → ⊥
+outside-stuck : (t : List ℕ) (ps : List Bool) (r : List ℕ) → t ≡ map letterByte ps ++ 46 ∷ r → Stuck (State ∷ []) r
+    → (qs : List Bool) (ms : List Node) → Spells qs ms t → ⊥
 outside-stuck t ps r same none-fits qs ms s = none-fits [] ms [] (s .nests) (body-after ps qs r same s .1 ∙ sym (append-nil (bodyText ms)))
 
 -- a prefix and a state formula, and something after it
-outside-more : (t : List ℕ) (ps : List Bool) (ns : List Node) (r : List ℕ) → t ≡ map letterByte ps ++ 46 ∷ (bodyText ns ++ r) → Nests (State ∷ []) ns → 1 ≤ length r
+outside-more : (t : List ℕ) (ps : List Bool) (ns : List Node) (r : List ℕ) → t ≡ map letterByte ps ++ 46 ∷ (bodyText ns ++ r)
+    → Nests (State ∷ []) ns → 1 ≤ length r
     → (qs : List Bool) (ms : List Node) → Spells qs ms t → ⊥
 outside-more t ps ns r same nests more qs ms s =
-    let p : Peeled [] ns ms r [] = peel [] ms r [] nests (s .nests) (body-after ps qs (bodyText ns ++ r) same s .1 ∙ sym (append-nil (bodyText ms))) in
+    let p : Peeled [] ns ms r [] =
+    peel [] ms r [] nests (s .nests) (body-after ps qs (bodyText ns ++ r) same s .1 ∙ sym (append-nil (bodyText ms))) in
     omega (arith, ap length (p .text ∙ ap (λ (l : List Node). bodyText l ++ []) (no-nodes (p .nests))))
 
 -- the whole text is a sentence
@@ -149,7 +164,8 @@ pub record Read (t : List ℕ) (at letters : ℕ) (flags : List Bool) (k : Tally
   pub body : Body t at ns
 
 -- the text after its prefix is no state formula
-pub outside-body : (t : List ℕ) (flags : List Bool) (p : PrefixRead) (r : Progress) → PrefixResult t 0 flags p → p .ok ≡ true → ReadsKinds (State ∷ []) t (p .letters) (begunAt (p .next)) r → r .ok ≡ false
+pub outside-body : (t : List ℕ) (flags : List Bool) (p : PrefixRead) (r : Progress) → PrefixResult t 0 flags p → p .ok ≡ true
+    → ReadsKinds (State ∷ []) t (p .letters) (begunAt (p .next)) r → r .ok ≡ false
     → (qs : List Bool) (ms : List Node) → Spells qs ms t → ⊥
 outside-body t flags p r (PrefixResult.none ok not) good body bad = absurd (true≢false (sym good ∙ ok))
 outside-body t flags p r (prefix ps ok l h same n e x) good body bad = by (body .result)
@@ -160,7 +176,8 @@ outside-body t flags p r (prefix ps ok l h same n e x) good body bad = by (body 
     by (stuck a b none-fits) = outside-stuck t ps (drop (p .next) t) same none-fits
 
 -- something follows the state formula
-pub outside-rest : (t : List ℕ) (flags : List Bool) (p : PrefixRead) (r : Progress) → PrefixResult t 0 flags p → p .ok ≡ true → ReadsKinds (State ∷ []) t (p .letters) (begunAt (p .next)) r → r .ok ≡ true
+pub outside-rest : (t : List ℕ) (flags : List Bool) (p : PrefixRead) (r : Progress) → PrefixResult t 0 flags p → p .ok ≡ true
+    → ReadsKinds (State ∷ []) t (p .letters) (begunAt (p .next)) r → r .ok ≡ true
     → (r .at ≡ length t → ⊥) → (qs : List Bool) (ms : List Node) → Spells qs ms t → ⊥
 outside-rest t flags p r (PrefixResult.none ok not) good body fine over = absurd (true≢false (sym good ∙ ok))
 outside-rest t flags p r (prefix ps ok l h same n e x) good body fine over = by (body .result)
@@ -173,7 +190,8 @@ outside-rest t flags p r (prefix ps ok l h same n e x) good body fine over = by 
         (rw (length-drop (r .at) t) (omega (arith, over, body .inside .within)))
 
 -- the whole text was read
-pub whole : (t : List ℕ) (p : PrefixRead) (r : Progress) → PrefixResult t 0 (replicate 4 false) p → p .ok ≡ true → ReadsKinds (State ∷ []) t (p .letters) (begunAt (p .next)) r → r .ok ≡ true
+pub whole : (t : List ℕ) (p : PrefixRead) (r : Progress) → PrefixResult t 0 (replicate 4 false) p → p .ok ≡ true
+    → ReadsKinds (State ∷ []) t (p .letters) (begunAt (p .next)) r → r .ok ≡ true
     → r .at ≡ length t → Read t (p .next) (p .letters) (p .exists) (r .kept)
 whole t p r (PrefixResult.none ok not) good body fine over = absurd (true≢false (sym good ∙ ok))
 whole t p r (prefix ps ok l h same n e x) good body fine over = by (body .result)
@@ -216,23 +234,29 @@ module _ (letters : ℕ) (ns : List Node) where
 
 -- the answer for a text in the grammar
 finish-kept : (t : List ℕ) (ps : List Bool) (ns : List Node) → Spells ps ns t → length t ≤ 400
-    → ReadSentenceEnsures t (finishedAs (length ps) (sets (replicate 4 false) 0 ps) (keepAll (length ps) (begunAt 0 .kept) ns) (placesOf ns))
+    → ReadSentenceEnsures t
+    (finishedAs (length ps) (sets (replicate 4 false) 0 ps) (keepAll (length ps) (begunAt 0 .kept) ns) (placesOf ns))
 unfolding recordOf
 finish-kept t ps ns s short = by (tested (someOutOfRange (length ps) ns)) (tested (ltb 64 (length ns)))
   where
-    by : Tested (someOutOfRange (length ps) ns) → Tested (ltb 64 (length ns)) → ReadSentenceEnsures t (finishedAs (length ps) (sets (replicate 4 false) 0 ps) (keepAll (length ps) (begunAt 0 .kept) ns) (placesOf ns))
+    by : Tested (someOutOfRange (length ps) ns) → Tested (ltb 64 (length ns))
+        → ReadSentenceEnsures t
+        (finishedAs (length ps) (sets (replicate 4 false) 0 ps) (keepAll (length ps) (begunAt 0 .kept) ns) (placesOf ns))
     by (holds e) m = rw (all-fault (length ps) ns, e) (answer-range s short e)
-    by (fails e) (holds m) = rw (all-fault (length ps) ns, e, all-count (length ps) ns, m) (answer-many s short e (ltb-true 64 (length ns) m))
+    by (fails e) (holds m) =
+        rw (all-fault (length ps) ns, e, all-count (length ps) ns, m) (answer-many s short e (ltb-true 64 (length ns) m))
     by (fails e) (fails m) =
         let h : length ns ≤ 64 = ltb-false 64 (length ns) m in
         rw (all-fault (length ps) ns, e, all-count (length ps) ns, m, stored 4 false ps (s .few)) (answer-done s short e h)
 
-pub finish : (t : List ℕ) (at letters : ℕ) (flags : List Bool) (k : Tally) (a : SentenceRead) → Read t at letters flags k → length t ≤ 400 → Finished t at letters flags k a → ReadSentenceEnsures t a
+pub finish : (t : List ℕ) (at letters : ℕ) (flags : List Bool) (k : Tally) (a : SentenceRead) → Read t at letters flags k
+    → length t ≤ 400 → Finished t at letters flags k a → ReadSentenceEnsures t a
 finish t at letters flags k a r short finished =
     let count : length (r .ns) ≡ k .count = sym (ap (λ (x : Tally). x .count) (r .kept) ∙ all-count (length (r .ps)) (r .ns)) in
     rw (finished (r .ns) count (r .body), r .lettered, r .flagged, r .kept) (finish-kept t (r .ps) (r .ns) (r .spells) short)
 
 -- the state in which the body is read lies inside the text
-pub begun-inside : (t : List ℕ) (flags : List Bool) (p : PrefixRead) → PrefixResult t 0 flags p → p .ok ≡ true → InText t (begunAt (p .next))
+pub begun-inside : (t : List ℕ) (flags : List Bool) (p : PrefixRead) → PrefixResult t 0 flags p → p .ok ≡ true
+    → InText t (begunAt (p .next))
 begun-inside t flags p (PrefixResult.none ok not) good = absurd (true≢false (sym good ∙ ok))
 begun-inside t flags p (prefix ps ok l h same n e x) good = record { within = n; counted = omega arith }

@@ -29,8 +29,12 @@ use Rattle.sentence_reader.specs.declared.PrefixRead.{PrefixRead}
 
 -- the letters of the prefix from the place `at` on, and the dot; `flags` has the letters before
 pub data PrefixResult (t : List ℕ) (at : ℕ) (flags : List Bool) (r : PrefixRead) : Type 0 where
-  prefix : (qs : List Bool) → r .ok ≡ true → 1 ≤ at + length qs → at + length qs ≤ 4 → drop at t ≡ map letterByte qs ++ 46 ∷ drop (r .next) t → r .next ≤ length t → r .letters ≡ at + length qs → r .exists ≡ sets flags at qs → PrefixResult t at flags r
-  none : r .ok ≡ false → ((qs : List Bool) (rest : List ℕ) → 1 ≤ at + length qs → at + length qs ≤ 4 → drop at t ≡ map letterByte qs ++ 46 ∷ rest → ⊥) → PrefixResult t at flags r
+  prefix : (qs : List Bool) → r .ok ≡ true → 1 ≤ at + length qs → at + length qs ≤ 4
+      → drop at t ≡ map letterByte qs ++ 46 ∷ drop (r .next) t → r .next ≤ length t → r .letters ≡ at + length qs
+      → r .exists ≡ sets flags at qs → PrefixResult t at flags r
+  none : r .ok ≡ false
+      → ((qs : List Bool) (rest : List ℕ) → 1 ≤ at + length qs → at + length qs ≤ 4 → drop at t ≡ map letterByte qs ++ 46 ∷ rest → ⊥)
+      → PrefixResult t at flags r
 
 -- a node that was read up to the place `next`
 abbrev pub nodeTo : Node → ℕ → NodeRead

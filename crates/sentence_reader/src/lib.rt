@@ -12,15 +12,18 @@ use numerals::NumbersRead;
 use numerals::byte_at;
 use numerals::two_numbers;
 use refusal::Outcome;
+use sentence::LETTERS;
+use sentence::NODES;
 use sentence::Node;
 use sentence::Relation;
 use sentence::Sentence;
 use sentence::Slot;
+use sentence::TEXT_BYTES;
 use sentence_scan::Tally;
 use sentence_scan::begun;
 use sentence_scan::state_formula;
 
-// What read sentence answers.
+// What read sentence returns: its answer, and the sentence beside it.
 pub struct SentenceRead {
     pub outcome: Outcome,
     pub sentence: Sentence,
@@ -40,7 +43,7 @@ pub struct PrefixRead {
     pub exists: [bool; 4],
 }
 
-// The letters of the prefix from the place `at` on, and the dot after them; `flags` has the letters before.
+// Reads the letters of the prefix from the place `at` on, and the dot after them; `flags` has the letters before.
 fn letters_from(text: &[u8], at: usize, flags: [bool; 4]) -> PrefixRead
     requires { ⌜ (at ≤ 4) × (length flags ≡ 4) ⌝ }
     ensures { λ r. ⌜ PrefixResult (now (text .entry)) at flags r ⌝ }
@@ -59,13 +62,13 @@ fn letters_from(text: &[u8], at: usize, flags: [bool; 4]) -> PrefixRead
             }
         }
         b'A' => {
-            if at == 4 {
+            if at == LETTERS {
                 return no_prefix();
             }
             letters_from(text, at + 1, with_letter(flags, at, false))
         }
         b'E' => {
-            if at == 4 {
+            if at == LETTERS {
                 return no_prefix();
             }
             letters_from(text, at + 1, with_letter(flags, at, true))
@@ -74,7 +77,7 @@ fn letters_from(text: &[u8], at: usize, flags: [bool; 4]) -> PrefixRead
     }
 }
 
-// One letter more: whether it is `E`.
+// The letters with one more, which `exists` says to be `E`.
 fn with_letter(flags: [bool; 4], at: usize, exists: bool) -> [bool; 4]
     requires { ⌜ (at < 4) × (length flags ≡ 4) ⌝ }
     ensures { λ r. ⌜ r ≡ set flags at exists ⌝ }
@@ -84,7 +87,7 @@ fn with_letter(flags: [bool; 4], at: usize, exists: bool) -> [bool; 4]
     all
 }
 
-// No prefix stands here.
+// The answer where no prefix stands.
 fn no_prefix() -> PrefixRead
     ensures { λ r. ⌜ r .ok ≡ false ⌝ }
 {
@@ -96,7 +99,7 @@ fn no_prefix() -> PrefixRead
     }
 }
 
-// Places that hold nothing.
+// Empty places.
 fn no_slots() -> [Slot; 64]
     ensures { λ r. ⌜ r ≡ replicate 64 (slot Node.True) ⌝ }
 {
@@ -104,7 +107,7 @@ fn no_slots() -> [Slot; 64]
     [slot; 64]
 }
 
-// What a byte stands for as a digit, and 0 for a byte below the digits.
+// The value of a digit's byte, and 0 for a byte below the digits.
 fn digit_or_zero(b: u8) -> u8
     ensures { λ r. ⌜ r ≡ b - 48 ⌝ }
 {
@@ -118,7 +121,7 @@ fn single(node: Node, next: usize) -> NodeRead
     NodeRead { node, next }
 }
 
-// The node of an operator's byte. Of another byte, what is answered means nothing.
+// The node of an operator's byte. Unspecified for other bytes.
 fn operator_node(b: u8) -> Node
     ensures { λ r. ⌜ r ≡ operatorNode b ⌝ }
 {
@@ -167,7 +170,7 @@ fn until_of(read: NumbersRead) -> NodeRead
     single(Node::Until { from, to }, read.next)
 }
 
-// The node whose own text stands at a place. Where none does, what is answered means nothing.
+// The node whose own text stands at a place. Unspecified where none does.
 fn node_at(text: &[u8], at: usize) -> NodeRead
     ensures { λ r. ⌜ NodeHere (now (text .entry)) at r ⌝ }
 {
@@ -205,7 +208,7 @@ fn nodes_from(text: &[u8], at: usize, count: usize) -> [Slot; 64]
     nodes
 }
 
-// A refusal carries only its number: the record is empty.
+// Returns a refusal with this number; the record is empty.
 fn refused(number: u8) -> SentenceRead
     ensures { λ r. ⌜ r ≡ refusal number ⌝ }
 {
@@ -221,11 +224,11 @@ fn refused(number: u8) -> SentenceRead
     }
 }
 
-// Read sentence: the prefix and the nodes of a text, in written order, or the refusal.
+// Read sentence. Returns the prefix and the nodes of a text, in written order, or refuses.
 pub fn read_sentence(text: &[u8]) -> SentenceRead
     ensures { λ r. ⌜ ReadSentenceEnsures (now (text .entry)) r ⌝ }
 {
-    if 400 < text.len() {
+    if TEXT_BYTES < text.len() {
         return refused(6);
     }
     let prefix = letters_from(text, 0, [false; 4]);
@@ -248,8 +251,8 @@ pub fn read_sentence(text: &[u8]) -> SentenceRead
     finished(text, body, letters, exists, kept)
 }
 
-// The answer for a text in the grammar, whose body starts at `body`: 7 before 8. Where it is neither, the nodes are read
-// once more, each to its place.
+// Returns the answer for a text in the grammar whose body starts at `body`: 7 before 8. If it is neither, the nodes are read once
+// more, each into its place.
 fn finished(
     text: &[u8],
     body: usize,
@@ -264,7 +267,7 @@ fn finished(
     if fault {
         return refused(7);
     }
-    if 64 < read {
+    if NODES < read {
         return refused(8);
     }
     let nodes = nodes_from(text, body, read);

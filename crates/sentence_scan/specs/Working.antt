@@ -48,7 +48,8 @@ Stuck js s = (ks : List Kind) (ns : List Node) (rest : List ℕ) → Nests (js +
 -- reading things of the kinds js from the state p ends in the state r
 pub data Result (js : List Kind) (t : List ℕ) (letters : ℕ) (p r : Progress) : Type 0 where
   stopped : p .ok ≡ false → r .ok ≡ false → Result js t letters p r
-  read : (ns : List Node) → p .ok ≡ true → r .ok ≡ true → Nests js ns → drop (p .at) t ≡ bodyText ns ++ drop (r .at) t → r .kept ≡ keepAll letters (p .kept) ns → Result js t letters p r
+  read : (ns : List Node) → p .ok ≡ true → r .ok ≡ true → Nests js ns → drop (p .at) t ≡ bodyText ns ++ drop (r .at) t
+      → r .kept ≡ keepAll letters (p .kept) ns → Result js t letters p r
   stuck : p .ok ≡ true → r .ok ≡ false → Stuck js (drop (p .at) t) → Result js t letters p r
 
 -- reading things of the kinds js goes forward, inside the text, to such a result
@@ -59,7 +60,8 @@ pub record ReadsKinds (js : List Kind) (t : List ℕ) (letters : ℕ) (p r : Pro
 
 -- reading one node of the kind k that wants the kinds js after it, its own text alone, from the state p ends in the state r
 pub data NodeResult (k : Kind) (js : List Kind) (t : List ℕ) (letters : ℕ) (p r : Progress) : Type 0 where
-  took : (n : Node) → r .ok ≡ true → Writable n → kindOf n ≡ k → wants n ≡ js → drop (p .at) t ≡ nodeText n ++ drop (r .at) t → r .kept ≡ keep letters (p .kept) n → NodeResult k js t letters p r
+  took : (n : Node) → r .ok ≡ true → Writable n → kindOf n ≡ k → wants n ≡ js → drop (p .at) t ≡ nodeText n ++ drop (r .at) t
+      → r .kept ≡ keep letters (p .kept) n → NodeResult k js t letters p r
   none : r .ok ≡ false → Stuck (k ∷ []) (drop (p .at) t) → NodeResult k js t letters p r
 
 -- reading one node goes forward by a byte or more, inside the text, to such a result

@@ -12,20 +12,20 @@ use sentence::Kind;
 use sentence::Node;
 use sentence::is_fault;
 
-// Of the nodes read so far: how many there are, and whether one is out of its range.
+// The nodes read so far: how many, and whether one is out of its range.
 pub struct Tally {
     pub count: usize,
     pub fault: bool,
 }
 
-// The reader's state: whether the text is in the grammar so far, the next byte's place, and the nodes.
+// The state of the scan: whether the text is in the grammar so far, the place of the next byte, and the nodes.
 pub struct Progress {
     pub ok: bool,
     pub at: usize,
     pub kept: Tally,
 }
 
-// One node more: it is counted, and its range is seen.
+// The tally with one node more; `bad` says that it is out of its range.
 fn keep(k: Tally, bad: bool) -> Tally
     requires { ⌜ k .count + 1 < 2 ^ 64 ⌝ }
     ensures { λ r. ⌜ r ≡ keepBad k bad ⌝ }
@@ -37,7 +37,7 @@ fn keep(k: Tally, bad: bool) -> Tally
     }
 }
 
-// The text is not in the grammar: nothing more is read.
+// The state for a text that is not in the grammar: nothing more is read.
 fn stopped(p: Progress, at: usize) -> Progress
     ensures { λ r. ⌜ r ≡ stoppedAt p at ⌝ }
 {
@@ -59,7 +59,7 @@ fn passed(p: Progress, at: usize, bad: bool) -> Progress
     Progress { ok: true, at, kept }
 }
 
-// A label: its letter, which is the next byte, and a digit 1..4.
+// Reads a label: its letter, which is the next byte, and a digit 1..4.
 fn label(text: &[u8], letters: usize, p: Progress) -> Progress
     requires { ⌜ InText (now text) p × (97 ≤ getD (now text) (p .at) 0) × (getD (now text) (p .at) 0 ≤ 112) ⌝ }
     ensures { λ r. ⌜ NodeReads Kind.State [] (now (text .entry)) letters p r ⌝ }
@@ -78,7 +78,7 @@ fn label(text: &[u8], letters: usize, p: Progress) -> Progress
     }
 }
 
-// A constant: the next byte is its `#`.
+// Reads a constant, whose `#` is the next byte.
 fn constant(text: &[u8], letters: usize, p: Progress) -> Progress
     requires { ⌜ InText (now text) p × (getD (now text) (p .at) 0 ≡ 35) ⌝ }
     ensures { λ r. ⌜ NodeReads Kind.Expression [] (now (text .entry)) letters p r ⌝ }
@@ -95,7 +95,7 @@ fn constant(text: &[u8], letters: usize, p: Progress) -> Progress
     passed(p, read.next, is_fault(letters, node))
 }
 
-// An until and its window: the next byte is its `U`.
+// Reads an until and its window; its `U` is the next byte.
 fn window(text: &[u8], letters: usize, p: Progress) -> Progress
     requires { ⌜ InText (now text) p × (getD (now text) (p .at) 0 ≡ 85) ⌝ }
     ensures { λ r. ⌜ NodeReads Kind.Path (Kind.State ∷ Kind.State ∷ []) (now (text .entry)) letters p r ⌝ }
@@ -112,7 +112,7 @@ fn window(text: &[u8], letters: usize, p: Progress) -> Progress
     passed(p, read.next, is_fault(letters, node))
 }
 
-// The state past an operator of one byte: none of them is ever out of its range.
+// The state past an operator of one byte, which is never out of its range.
 fn operator(p: Progress) -> Progress
     requires { ⌜ (p .at + 1 < 2 ^ 64) × (p .kept .count + 1 < 2 ^ 64) ⌝ }
     ensures { λ r. ⌜ r ≡ passedTo p (p .at + 1) false ⌝ }
@@ -121,7 +121,7 @@ fn operator(p: Progress) -> Progress
     passed(p, at + 1, false)
 }
 
-// A state formula, from the next byte on, in a sentence of n letters.
+// Reads a state formula from the next byte on, in a sentence of n letters. Each call has a smaller rest of the text.
 pub fn state_formula(text: &[u8], n: usize, p: Progress) -> Progress
     requires { ⌜ InText (now text) p ⌝ }
     ensures { λ r. ⌜ ReadsKinds (Kind.State ∷ []) (now (text .entry)) n p r ⌝ }
@@ -142,7 +142,7 @@ pub fn state_formula(text: &[u8], n: usize, p: Progress) -> Progress
     }
 }
 
-// An expression, from the next byte on, in a sentence of n letters.
+// Reads an expression, likewise.
 fn expression(text: &[u8], n: usize, p: Progress) -> Progress
     requires { ⌜ InText (now text) p ⌝ }
     ensures { λ r. ⌜ ReadsKinds (Kind.Expression ∷ []) (now (text .entry)) n p r ⌝ }
@@ -161,7 +161,7 @@ fn expression(text: &[u8], n: usize, p: Progress) -> Progress
     }
 }
 
-// A path, from the next byte on, in a sentence of n letters.
+// Reads a path, likewise.
 fn path(text: &[u8], n: usize, p: Progress) -> Progress
     requires { ⌜ InText (now text) p ⌝ }
     ensures { λ r. ⌜ ReadsKinds (Kind.Path ∷ []) (now (text .entry)) n p r ⌝ }
@@ -179,7 +179,7 @@ fn path(text: &[u8], n: usize, p: Progress) -> Progress
     }
 }
 
-// The state in which the body is read, from the place past the dot.
+// The state at the start of the body, the place past the dot.
 pub fn begun(at: usize) -> Progress
     ensures { λ r. ⌜ r ≡ begunAt at ⌝ }
 {

@@ -15,7 +15,8 @@ pub survey-none : (letters : ℕ) (l : List Node) (at : ℕ) → length l ≤ at
 survey-none letters l at h = rw (drop-of-length-le l h) (record { size = refl; fault = refl; small = omega arith })
 
 -- one node more
-survey-cons : (letters : ℕ) (n : Node) (l : List Node) (r : Survey) (size : ℕ) (fault : Bool) → size ≡ length (nodeText n) → size ≤ 14 → fault ≡ outOfRange letters n → Surveyed letters l r
+survey-cons : (letters : ℕ) (n : Node) (l : List Node) (r : Survey) (size : ℕ) (fault : Bool) → size ≡ length (nodeText n) → size ≤ 14
+    → fault ≡ outOfRange letters n → Surveyed letters l r
     → Surveyed letters (n ∷ l) (record { size = size + r .size; fault = fault || r .fault })
 survey-cons letters n l r size fault e small f s =
     record {
@@ -24,7 +25,9 @@ survey-cons letters n l r size fault e small f s =
       small = omega (arith, s .small);
     }
 
-pub survey-more : (letters : ℕ) (l : List Node) (at : ℕ) (n : Node) (r : Survey) (size : ℕ) (fault : Bool) → drop at l ≡ n ∷ drop (at + 1) l → size ≡ length (nodeText n) → size ≤ 14 → fault ≡ outOfRange letters n
+pub survey-more : (letters : ℕ) (l : List Node) (at : ℕ) (n : Node) (r : Survey) (size : ℕ) (fault : Bool)
+    → drop at l ≡ n ∷ drop (at + 1) l → size ≡ length (nodeText n) → size ≤ 14 → fault ≡ outOfRange letters n
     → Surveyed letters (drop (at + 1) l) r → Surveyed letters (drop at l) (record { size = size + r .size; fault = fault || r .fault })
 survey-more letters l at n r size fault here e small f s =
-    subst (λ (x : List Node). Surveyed letters x (record { size = size + r .size; fault = fault || r .fault })) (sym here) (survey-cons letters n (drop (at + 1) l) r size fault e small f s)
+    subst (λ (x : List Node). Surveyed letters x (record { size = size + r .size; fault = fault || r .fault })) (sym here)
+    (survey-cons letters n (drop (at + 1) l) r size fault e small f s)

@@ -38,10 +38,12 @@ pub refuse : {s : Sentence} {room : ℕ} → WriteRow s room 6 → Decision s ro
 refuse r = record { ensured = refused refl refl r (λ m q. row-low q) }
 
 -- the list does not nest
-pub refuse-unfit : (s : Sentence) (room : ℕ) (r : Place) → Fits (State ∷ []) (nodesOf s) (record { ok = true; at = 0 }) r → r .ok ≡ false → Decision s room (NotWritten 6)
+pub refuse-unfit : (s : Sentence) (room : ℕ) (r : Place) → Fits (State ∷ []) (nodesOf s) (record { ok = true; at = 0 }) r → r .ok ≡ false
+    → Decision s room (NotWritten 6)
 refuse-unfit s room r f bad = refuse (unspelled (by (f .result)))
   where
-    by : Fit (State ∷ []) (nodesOf s) (record { ok = true; at = 0 }) r → (t : List ℕ) → Spells (prefixOf s) (nodesOf s) t → length t ≤ 400 → ⊥
+    by : Fit (State ∷ []) (nodesOf s) (record { ok = true; at = 0 }) r → (t : List ℕ) → Spells (prefixOf s) (nodesOf s) t
+        → length t ≤ 400 → ⊥
     by (stopped a b) t p h = true≢false a
     by (fit ns a b n split) t p h = true≢false (sym b ∙ bad)
     by (unfit a b none-fits) t p h = none-fits [] (nodesOf s) [] (p .nests) (sym (append-nil (nodesOf s)))
@@ -49,7 +51,8 @@ refuse-unfit s room r f bad = refuse (unspelled (by (f .result)))
 -- the thing at the front is all of a list that nests
 all-of : (l ms r : List Node) → Nests (State ∷ []) ms → Nests (State ∷ []) l → l ≡ ms ++ r → r ≡ []
 all-of l ms r n nl split =
-    let texts : bodyText ms ++ bodyText r ≡ bodyText l ++ [] = sym (body-append ms r) ∙ ap bodyText (sym split) ∙ sym (append-nil (bodyText l)) in
+    let texts : bodyText ms ++ bodyText r ≡ bodyText l ++ [] =
+    sym (body-append ms r) ∙ ap bodyText (sym split) ∙ sym (append-nil (bodyText l)) in
     let p : Peeled [] ms l (bodyText r) [] = peel [] l (bodyText r) [] n nl texts in
     let same : length r ≡ 0 = omega (arith, simp length-append at (ap length (sym split ∙ p .split)), ap length (no-nodes (p .nests))) in
     empty r same
@@ -59,10 +62,13 @@ all-of l ms r n nl split =
     empty (y ∷ x) e = absurd (omega arith)
 
 -- the list goes on past its end
-pub refuse-more : (s : Sentence) (room : ℕ) (r : Place) → s .count ≤ length (s .nodes) → Fits (State ∷ []) (nodesOf s) (record { ok = true; at = 0 }) r → r .ok ≡ true → (r .at ≡ s .count → ⊥) → Decision s room (NotWritten 6)
+pub refuse-more : (s : Sentence) (room : ℕ) (r : Place) → s .count ≤ length (s .nodes)
+    → Fits (State ∷ []) (nodesOf s) (record { ok = true; at = 0 }) r → r .ok ≡ true → (r .at ≡ s .count → ⊥)
+    → Decision s room (NotWritten 6)
 refuse-more s room r room-for f good over = refuse (unspelled (by (f .result)))
   where
-    by : Fit (State ∷ []) (nodesOf s) (record { ok = true; at = 0 }) r → (t : List ℕ) → Spells (prefixOf s) (nodesOf s) t → length t ≤ 400 → ⊥
+    by : Fit (State ∷ []) (nodesOf s) (record { ok = true; at = 0 }) r → (t : List ℕ) → Spells (prefixOf s) (nodesOf s) t
+        → length t ≤ 400 → ⊥
     by (stopped a b) t p h = true≢false a
     by (unfit a b none-fits) t p h = true≢false (sym good ∙ b)
     by (fit ns a b n split) t p h =
@@ -76,14 +82,16 @@ refuse-more s room r room-for f good over = refuse (unspelled (by (f .result)))
         ))
 
 -- the list nests, and that is all of it
-pub nested : (s : Sentence) (r : Place) → s .count ≤ length (s .nodes) → Fits (State ∷ []) (nodesOf s) (record { ok = true; at = 0 }) r → r .ok ≡ true → r .at ≡ s .count → Nests (State ∷ []) (nodesOf s)
+pub nested : (s : Sentence) (r : Place) → s .count ≤ length (s .nodes) → Fits (State ∷ []) (nodesOf s) (record { ok = true; at = 0 }) r
+    → r .ok ≡ true → r .at ≡ s .count → Nests (State ∷ []) (nodesOf s)
 nested s r room-for f good over = by (f .result)
   where
     by : Fit (State ∷ []) (nodesOf s) (record { ok = true; at = 0 }) r → Nests (State ∷ []) (nodesOf s)
     by (stopped a b) = absurd (true≢false a)
     by (unfit a b none-fits) = absurd (true≢false (sym good ∙ b))
     by (fit ns a b n split) =
-        let gone : drop (r .at) (nodesOf s) ≡ [] = ap (λ (i : ℕ). drop i (nodesOf s)) (over ∙ sym (listed-length (s .nodes) (s .count) room-for)) ∙ drop-length (nodesOf s) in
+        let gone : drop (r .at) (nodesOf s) ≡ [] =
+        ap (λ (i : ℕ). drop i (nodesOf s)) (over ∙ sym (listed-length (s .nodes) (s .count) room-for)) ∙ drop-length (nodesOf s) in
         subst (λ (x : List Node). Nests (State ∷ []) x) (sym (split ∙ ap (λ (x : List Node). ns ++ x) gone ∙ append-nil ns)) n
 
 -- how long a sentence's text is
@@ -101,7 +109,8 @@ pub record Fine (s : Sentence) (size : ℕ) : Type 0 where
   pub few : s .letters ≤ 4
   pub room-for : s .count ≤ 64
 
-pub fine : (s : Sentence) (r : Survey) → length (s .exists) ≡ 4 → 1 ≤ s .letters → s .letters ≤ 4 → s .count ≤ 64 → Nests (State ∷ []) (nodesOf s) → Surveyed (s .letters) (nodesOf s) r → Fine s (s .letters + 1 + r .size)
+pub fine : (s : Sentence) (r : Survey) → length (s .exists) ≡ 4 → 1 ≤ s .letters → s .letters ≤ 4 → s .count ≤ 64
+    → Nests (State ∷ []) (nodesOf s) → Surveyed (s .letters) (nodesOf s) r → Fine s (s .letters + 1 + r .size)
 fine s r len one few room nests all =
     let letters : length (prefixOf s) ≡ s .letters = length-take-le (s .letters) (s .exists) (omega arith) in
     record {
@@ -123,21 +132,31 @@ row-fine f h (unspelled g) = absurd (g _ (f .spells) (omega (arith, f .sized)))
 row-fine f h (range e) = omega arith
 row-fine f h (short p g) = omega arith
 
-row-ranged : {s : Sentence} {size room n : ℕ} → Fine s size → size ≤ 400 → someOutOfRange (s .letters) (nodesOf s) ≡ false → WriteRow s room n → (n ≡ 14) × (room < size)
+row-ranged : {s : Sentence} {size room n : ℕ} → Fine s size → size ≤ 400 → someOutOfRange (s .letters) (nodesOf s) ≡ false
+    → WriteRow s room n → (n ≡ 14) × (room < size)
 row-ranged f h e (counted g) = absurd (omega (arith, f .room-for))
 row-ranged f h e (lettered g) = absurd (omega (arith, f .few))
 row-ranged f h e (unspelled g) = absurd (g _ (f .spells) (omega (arith, f .sized)))
 row-ranged f h e (range e′) = absurd (true≢false (sym e′ ∙ e))
 row-ranged f h e (short p g) = (refl, omega (arith, ap length (p .text), f .sized))
 
-pub refuse-range : {s : Sentence} {size : ℕ} (room : ℕ) → Fine s size → size ≤ 400 → someOutOfRange (s .letters) (nodesOf s) ≡ true → Decision s room (NotWritten 7)
+pub refuse-range : {s : Sentence} {size : ℕ} (room : ℕ) → Fine s size → size ≤ 400 → someOutOfRange (s .letters) (nodesOf s) ≡ true
+    → Decision s room (NotWritten 7)
 refuse-range room f h e = record { ensured = refused refl refl (range e) (λ m q. row-fine f h q) }
 
-pub refuse-short : {s : Sentence} {size : ℕ} (room : ℕ) → Fine s size → size ≤ 400 → someOutOfRange (s .letters) (nodesOf s) ≡ false → room < size → Decision s room (NotWritten 14)
-refuse-short room f h e g = record { ensured = refused refl refl (short (f .spells) (omega (arith, f .sized))) (λ m q. omega (arith, row-ranged f h e q .0)) }
+pub refuse-short : {s : Sentence} {size : ℕ} (room : ℕ) → Fine s size → size ≤ 400 → someOutOfRange (s .letters) (nodesOf s) ≡ false
+    → room < size → Decision s room (NotWritten 14)
+refuse-short room f h e g =
+    record { ensured = refused refl refl (short (f .spells) (omega (arith, f .sized))) (λ m q. omega (arith, row-ranged f h e q .0)) }
 
-pub decide-wrote : {s : Sentence} {size : ℕ} (room : ℕ) → Fine s size → size ≤ 400 → someOutOfRange (s .letters) (nodesOf s) ≡ false → size ≤ room → Decision s room (Wrote size)
-decide-wrote {s} room f h e g = record { ensured = answered refl (record { text = sentenceText (prefixOf s) (nodesOf s); spells = f .spells; sized = sym (f .sized) }) (λ m q. omega (arith, row-ranged f h e q .1)) }
+pub decide-wrote : {s : Sentence} {size : ℕ} (room : ℕ) → Fine s size → size ≤ 400 → someOutOfRange (s .letters) (nodesOf s) ≡ false
+    → size ≤ room → Decision s room (Wrote size)
+decide-wrote {s} room f h e g =
+    record {
+      ensured = answered refl
+          (record { text = sentenceText (prefixOf s) (nodesOf s); spells = f .spells; sized = sym (f .sized) })
+          (λ m q. omega (arith, row-ranged f h e q .1));
+    }
 
 -- what a decision to write says
 pub record Cleared (s : Sentence) (room : ℕ) : Type 0 where
@@ -159,7 +178,8 @@ cleared {s} {room} {size} {w} d h = by (d .ensured)
         let z : _≡_ {A = ℕ} 0 1 = cc in
         absurd (omega arith)
     by (answered e right none) =
-        let q : Spells (prefixOf s) (nodesOf s) (sentenceText (prefixOf s) (nodesOf s)) = subst (Spells (prefixOf s) (nodesOf s)) (right .spells .text) (right .spells) in
+        let q : Spells (prefixOf s) (nodesOf s) (sentenceText (prefixOf s) (nodesOf s)) =
+        subst (Spells (prefixOf s) (nodesOf s)) (right .spells .text) (right .spells) in
         record {
           spells = q;
           none = none;
@@ -169,10 +189,12 @@ cleared {s} {room} {size} {w} d h = by (d .ensured)
         }
 
 -- a refusal writes nothing
-pub answer-refused : {s : Sentence} {n : ℕ} {w : Written} (out : List ℕ) → Decision s (length out) w → w ≡ NotWritten n → WriteSentenceEnsures s out (NotWritten n) out
+pub answer-refused : {s : Sentence} {n : ℕ} {w : Written} (out : List ℕ) → Decision s (length out) w → w ≡ NotWritten n
+    → WriteSentenceEnsures s out (NotWritten n) out
 answer-refused {s} {n} {w} out d h = by (d .ensured)
   where
-    by : Ensured (WriteRow s (length out)) (λ size nothing. Sized s size) (tt {0}) (replyOfWritten w) (tt {0}) → WriteSentenceEnsures s out (NotWritten n) out
+    by : Ensured (WriteRow s (length out)) (λ size nothing. Sized s size) (tt {0}) (replyOfWritten w) (tt {0})
+        → WriteSentenceEnsures s out (NotWritten n) out
     by (refused e k row least) = record { ensured = refused (ap replyOfWritten (sym h) ∙ e) refl row least }
     by (answered {v = size} e right none) =
         let other : refuses n ≡ gives size = ap replyOfWritten (sym h) ∙ e in
@@ -186,10 +208,12 @@ front out t h = sets-eq t out 0 (omega arith) ∙ ap (λ (i : ℕ). t ++ drop i 
     none-before : 0 + length t ≡ length t
     none-before = omega arith
 
-pub answer-wrote : {s : Sentence} {r : ℕ} (out after : List ℕ) → Cleared s (length out) → Put out 0 (map letterByte (prefixOf s) ++ 46 ∷ bodyText (nodesOf s)) r after → WriteSentenceEnsures s out (Wrote r) after
+pub answer-wrote : {s : Sentence} {r : ℕ} (out after : List ℕ) → Cleared s (length out)
+    → Put out 0 (map letterByte (prefixOf s) ++ 46 ∷ bodyText (nodesOf s)) r after → WriteSentenceEnsures s out (Wrote r) after
 answer-wrote {s} {r} out after c p =
     let t = sentenceText (prefixOf s) (nodesOf s) in
-    let same : map letterByte (prefixOf s) ++ 46 ∷ bodyText (nodesOf s) ≡ t = sym (append-assoc (map letterByte (prefixOf s)) (46 ∷ []) (bodyText (nodesOf s))) in
+    let same : map letterByte (prefixOf s) ++ 46 ∷ bodyText (nodesOf s) ≡ t =
+    sym (append-assoc (map letterByte (prefixOf s)) (46 ∷ []) (bodyText (nodesOf s))) in
     let size : length t ≡ r = omega (arith, p .next, ap length same) in
     record {
       ensured =
@@ -199,7 +223,8 @@ answer-wrote {s} {r} out after c p =
     }
 
 -- the contract leaves one answer and one output
-pub one-writing : {s : Sentence} {out : List ℕ} {v w : Written} {a b : List ℕ} → WriteSentenceEnsures s out v a → WriteSentenceEnsures s out w b → (v ≡ w) × (a ≡ b)
+pub one-writing : {s : Sentence} {out : List ℕ} {v w : Written} {a b : List ℕ} → WriteSentenceEnsures s out v a
+    → WriteSentenceEnsures s out w b → (v ≡ w) × (a ≡ b)
 one-writing {v = v} {w} x y =
     let one = one-result (one-front (λ t t′ p q. p .text ∙ sym (q .text))) (x .ensured) (y .ensured) in
     (written-told v w (one .0), one .1)

@@ -15,10 +15,13 @@ use numerals::put_byte;
 use numerals::put_numbers;
 use refusal::Written;
 use sentence::Kind;
+use sentence::LETTERS;
+use sentence::NODES;
 use sentence::Node;
 use sentence::Relation;
 use sentence::Sentence;
 use sentence::Slot;
+use sentence::TEXT_BYTES;
 use sentence::Wants;
 use sentence::is_fault;
 use sentence::wants_of;
@@ -58,7 +61,7 @@ fn kind_of(node: Node) -> Kind
     }
 }
 
-// Two kinds are the same.
+// Whether two kinds are the same.
 fn same_kind(a: Kind, b: Kind) -> bool
     ensures { λ r. ⌜ r ≡ sameKind a b ⌝ }
 {
@@ -81,7 +84,7 @@ fn same_kind(a: Kind, b: Kind) -> bool
     }
 }
 
-// The grammar has a text for the node: its letter, its digit, its numbers. A node without any of them always has one.
+// Whether the grammar has a text for the node: its letter, its digit, its numbers. A node without them always has one.
 fn has_text(node: Node) -> bool
     ensures { λ r. ⌜ r ≡ writable node ⌝ }
 {
@@ -93,7 +96,7 @@ fn has_text(node: Node) -> bool
     }
 }
 
-// How many bytes a node's own text has.
+// The number of bytes of a node's own text.
 fn node_size(node: Node) -> usize
     ensures { λ r. ⌜ (r ≡ length (nodeText node)) × (r ≤ 14) ⌝ }
 {
@@ -116,7 +119,7 @@ fn node_size(node: Node) -> usize
     }
 }
 
-// From a place in the first `count` nodes on: does a thing of the kind stand there, and where does it end?
+// Whether a thing of the kind stands in the first `count` nodes from a place on, and where it ends. Each call starts at a later place.
 fn nest(nodes: [Slot; 64], count: usize, kind: Kind, p: Place) -> Place
     requires { ⌜ (count ≤ 64) × (p .at ≤ count) × (length nodes ≡ 64) ⌝ }
     ensures { λ r. ⌜ Fits (kind ∷ []) (listed nodes count) p r ⌝ }
@@ -183,7 +186,7 @@ fn relation_byte(r: Relation) -> u8
     }
 }
 
-// A label is written: its letter and its digit.
+// Writes a label, its letter and its digit.
 fn put_label(out: &mut [u8], at: usize, label: u8, variable: u8) -> usize
     requires { ⌜ (label < 16) × (variable ≤ 4) × (at + 2 ≤ length (now out)) ⌝ }
     ensures { λ r. ⌜ Put (now (out .entry)) at ((97 + label) ∷ (48 + variable) ∷ []) r (now (out .exit)) ⌝ }
@@ -192,7 +195,7 @@ fn put_label(out: &mut [u8], at: usize, label: u8, variable: u8) -> usize
     put_byte(out, next, b'0' + variable)
 }
 
-// A node's own text is written.
+// Writes a node's own text.
 fn put_node(out: &mut [u8], at: usize, node: Node) -> usize
     requires { ⌜ Writable node × (at + length (nodeText node) ≤ length (now out)) ⌝ }
     ensures { λ r. ⌜ Put (now (out .entry)) at (nodeText node) r (now (out .exit)) ⌝ }
@@ -213,9 +216,10 @@ fn put_node(out: &mut [u8], at: usize, node: Node) -> usize
     }
 }
 
-// The nodes from a place of the record on are written.
+// Writes the nodes from a place of the record on.
 fn put_nodes(out: &mut [u8], at: usize, nodes: [Slot; 64], count: usize, from: usize) -> usize
-    requires { ⌜ (count ≤ 64) × (from ≤ count) × (length nodes ≡ 64) × AllWritable (drop from (listed nodes count)) × (at + length (bodyText (drop from (listed nodes count))) ≤ length (now out)) ⌝ }
+    requires { ⌜ (count ≤ 64) × (from ≤ count) × (length nodes ≡ 64) × AllWritable (drop from (listed nodes count))
+        × (at + length (bodyText (drop from (listed nodes count))) ≤ length (now out)) ⌝ }
     ensures { λ r. ⌜ Put (now (out .entry)) at (bodyText (drop from (listed nodes count))) r (now (out .exit)) ⌝ }
 {
     if from == count {
@@ -227,7 +231,7 @@ fn put_nodes(out: &mut [u8], at: usize, nodes: [Slot; 64], count: usize, from: u
     put_nodes(out, next, nodes, count, from + 1)
 }
 
-// The letters of the prefix from a place on are written.
+// Writes the letters of the prefix from a place on.
 fn put_letters(out: &mut [u8], exists: [bool; 4], letters: usize, from: usize) -> usize
     requires { ⌜ (letters ≤ 4) × (from ≤ letters) × (length exists ≡ 4) × (letters ≤ length (now out)) ⌝ }
     ensures { λ r. ⌜ Put (now (out .entry)) from (map letterByte (drop from (take letters exists))) r (now (out .exit)) ⌝ }
@@ -240,7 +244,7 @@ fn put_letters(out: &mut [u8], exists: [bool; 4], letters: usize, from: usize) -
     put_letters(out, exists, letters, next)
 }
 
-// What write sentence answers to a record and an output of `room` bytes, before anything is written.
+// Returns what write sentence answers to a record and an output of `room` bytes; nothing is written yet.
 fn decide(s: Sentence, room: usize) -> Written
     requires { ⌜ (length (s .exists) ≡ 4) × (length (s .nodes) ≡ 64) ⌝ }
     ensures { λ r. ⌜ Decision s room r ⌝ }
@@ -248,10 +252,10 @@ fn decide(s: Sentence, room: usize) -> Written
     let letters = s.letters;
     let count = s.count;
     let nodes = s.nodes;
-    if 64 < count {
+    if NODES < count {
         return Written::Refused(6);
     }
-    if 4 < letters {
+    if LETTERS < letters {
         return Written::Refused(6);
     }
     if letters == 0 {
@@ -269,7 +273,7 @@ fn decide(s: Sentence, room: usize) -> Written
     let all = survey_from(nodes, letters, count, 0);
     let size = letters + 1 + all.size;
     let fault = all.fault;
-    if 400 < size {
+    if TEXT_BYTES < size {
         return Written::Refused(6);
     }
     if fault {
@@ -281,7 +285,7 @@ fn decide(s: Sentence, room: usize) -> Written
     Written::Wrote(size)
 }
 
-// Write sentence: the text of a record at the front of the output, or the refusal.
+// Write sentence. Writes the text of a record at the front of the output, or refuses.
 pub fn write_sentence(s: Sentence, out: &mut [u8]) -> Written
     ensures { λ r. ⌜ WriteSentenceEnsures s (now (out .entry)) r (now (out .exit)) ⌝ }
 {

@@ -1,4 +1,4 @@
--- What the walk finds of a node, from what it found of the nodes after it. Assumes nothing.
+-- What the walk finds of a node, from what it found of the nodes after it: one law for each node (`sized-true` and so on).
 use Prim.Native.Nat.{ℕ, _+_, _*_, _^_, _≤_, _<_}
 use mathlib.Core.Bool.{Bool, true, false, not, _||_}
 use mathlib.Core.List.{List, [], _∷_, map}
@@ -14,17 +14,20 @@ use Rattle.sentence.proofs.Node.{the-type}
 use Rattle.sentence.specs.declared.Relation as Spelled
 use Rattle.sentence.specs.declared.Slot.{Slot}
 use Rattle.sentence.specs.declared.Node.{Node}
-use Rattle.sentence.specs.declared.Node.the-variants.{True, Label, Not, And, Compare, Probability, Constant, Sum, Difference, Product, Next, Until}
+use Rattle.sentence.specs.declared.Node.the-variants.{True, Label, Not, And, Compare, Probability, Constant}
+use Rattle.sentence.specs.declared.Node.the-variants.{Sum, Difference, Product, Next, Until}
 use Rattle.meaning.specs.Tree.{Formula, Expression, PathFormula, sum, difference, product}
 use Rattle.meaning.specs.Meaning.{denominator}
 use Rattle.meaning.specs.Size.{size, addS, mulS, tooLarge, largeSize, largeCross, exceeds, exceedsIn, exceedsFrom}
 use Rattle.sentence.specs.Grammar.{wantsOf}
 use Rattle.trees.specs.Wanted.{operandCount}
 use Rattle.trees.specs.Standing.{nodeAt, FormulaAt, ExpressionAt}
-use Rattle.trees.proofs.Cases.{FormulaCase, ExpressionCase, PathCase, formula-case, expression-case, path-case, formula-place, expression-place, path-place}
+use Rattle.trees.proofs.Cases.{FormulaCase, ExpressionCase, PathCase, formula-case, expression-case, path-case}
+use Rattle.trees.proofs.Cases.{formula-place, expression-place, path-place}
 use Rattle.sizes.specs.declared.Measure.{Measure}
 use Rattle.sizes.specs.declared.MeasureTwo.{MeasureTwo}
-use Rattle.sizes.specs.Sizing.{capped, Sizes, SizesTwo}
+use Rattle.sizes.specs.Sizing.{capped, unmeasured, measured, ofPath, ofSum, ofProduct, ofComparison, ofProbability}
+use Rattle.sizes.specs.Sizing.{Sizes, SizesTwo}
 use Rattle.sizes.proofs.Capped.{capped-times, capped-plus, capped-too}
 
 -- a product of capped numbers
@@ -45,15 +48,23 @@ tested : {o p : Bool} (x y : ℕ) {u v : ℕ} → o ≡ p → u ≡ capped x →
 tested {o} {p} x y {u} {v} e f g =
     or-assoc o (tooLarge u) (tooLarge v) ∙ ap₂ _||_ e (ap₂ _||_ (too x f) (too y g))
 
+-- the same of an equal measure
+pub sized-as : {slots : List Slot} {at D n : ℕ} {r r′ : Measure} → r ≡ r′ → Sizes slots at D n r′ → Sizes slots at D n r
+sized-as {slots} {at} {D} {n} e s = subst (λ (r : Measure). Sizes slots at D n r) (sym e) s
+
 module _ (slots : List Slot) (at D n : ℕ) where
+  -- what is found of a formula, an expression, a path that ends at q
   abbrev OfFormula : Measure → Formula → ℕ → Type 0
-  OfFormula r f q = (r .next ≡ q) × (r .over ≡ exceeds f D n)
+  OfFormula r f q = (r .next ≡ q) × (r .over ≡ exceeds f D n) × (r .d ≡ 0) × (r .m ≡ 0)
 
   abbrev OfExpression : Measure → Expression → ℕ → Type 0
-  OfExpression r a q = (r .next ≡ q) × (r .over ≡ exceedsIn a D n) × (r .d ≡ capped (size a D n .d)) × (r .m ≡ capped (size a D n .m))
+  OfExpression r a q =
+      (r .next ≡ q) × (r .over ≡ exceedsIn a D n) × (r .d ≡ capped (size a D n .d)) × (r .m ≡ capped (size a D n .m))
 
   abbrev OfPath : Measure → PathFormula → ℕ → Type 0
-  OfPath r w q = (r .next ≡ q) × (r .over ≡ exceedsFrom w D n) × (r .d ≡ capped (denominator w D n))
+  OfPath r w q =
+      (r .next ≡ q) × (r .over ≡ exceedsFrom w D n) × (r .d ≡ capped (denominator w D n)) ×
+      (r .m ≡ capped (denominator w D n))
 
   -- by the node at the place
   by-node : (r : Measure) (x : Node) → nodeAt slots at ≡ x → at ≤ r .next → r .next ≤ 64 →
@@ -69,8 +80,8 @@ module _ (slots : List Slot) (at D n : ℕ) where
   }
 
   -- past the last place no tree stands
-  pub sized-past : (r : Measure) → 64 ≤ at → at ≤ 64 → r .next ≡ at → Sizes slots at D n r
-  sized-past r h l e = record {
+  pub sized-past : 64 ≤ at → at ≤ 64 → Sizes slots at D n (unmeasured at false)
+  sized-past h l = record {
     forward = omega arith;
     within = omega arith;
     formula = λ f q w. absurd (let p = formula-place slots at w in omega arith);
@@ -79,153 +90,159 @@ module _ (slots : List Slot) (at D n : ℕ) where
   }
 
   module _ (room : at < 64) where
-    pub sized-true : (r : Measure) → r .next ≡ at + 1 → r .over ≡ false → nodeAt slots at ≡ True → Sizes slots at D n r
+    pub sized-true : nodeAt slots at ≡ True → Sizes slots at D n (unmeasured (at + 1) false)
     unfolding exceeds
-    sized-true r e k x = by-node r True x (omega arith) (omega arith)
-        (λ f q w. (e ∙ sym (w .1), k ∙ ap (λ (f : Formula). exceeds f D n) (sym (w .0))))
+    sized-true x = by-node (unmeasured (at + 1) false) True x (omega arith) (omega arith)
+        (λ f q w. (sym (w .1), ap (λ (f : Formula). exceeds f D n) (sym (w .0)), refl, refl))
         (λ a q w. absurd w) (λ a q w. absurd w)
 
-    pub sized-label : (r : Measure) → r .next ≡ at + 1 → r .over ≡ false → (l i : ℕ) → nodeAt slots at ≡ Label l i → Sizes slots at D n r
+    pub sized-label : (l i : ℕ) → nodeAt slots at ≡ Label l i → Sizes slots at D n (unmeasured (at + 1) false)
     unfolding exceeds
-    sized-label r e k l i x = by-node r (Label l i) x (omega arith) (omega arith)
-        (λ f q w. (e ∙ sym (w .1), k ∙ ap (λ (f : Formula). exceeds f D n) (sym (w .0))))
+    sized-label l i x = by-node (unmeasured (at + 1) false) (Label l i) x (omega arith) (omega arith)
+        (λ f q w. (sym (w .1), ap (λ (f : Formula). exceeds f D n) (sym (w .0)), refl, refl))
         (λ a q w. absurd w) (λ a q w. absurd w)
 
-    pub sized-constant : (r : Measure) (a b : ℕ) → r .next ≡ at + 1 → r .over ≡ (false || tooLarge b || tooLarge a) → r .d ≡ capped b → r .m ≡ capped a →
-        nodeAt slots at ≡ Constant a b → Sizes slots at D n r
+    pub sized-constant : (a b : ℕ) → nodeAt slots at ≡ Constant a b →
+        Sizes slots at D n (measured (at + 1) (capped b) (capped a) false)
     unfolding exceedsIn size largeSize
-    sized-constant r a b e k d m x = by-node r (Constant a b) x (omega arith) (omega arith) (λ f q w. absurd w)
+    sized-constant a b x =
+        by-node (measured (at + 1) (capped b) (capped a) false) (Constant a b) x (omega arith) (omega arith)
+        (λ f q w. absurd w)
         (λ c q w. (
-          e ∙ sym (w .1),
-          k ∙ ap (λ (c : Expression). exceedsIn c D n) (sym (w .0)),
-          d ∙ ap (λ (c : Expression). capped (size c D n .d)) (sym (w .0)),
-          m ∙ ap (λ (c : Expression). capped (size c D n .m)) (sym (w .0)),
+          sym (w .1),
+          tested {o = false} {p = false} b a refl refl refl ∙ ap (λ (c : Expression). exceedsIn c D n) (sym (w .0)),
+          ap (λ (c : Expression). capped (size c D n .d)) (sym (w .0)),
+          ap (λ (c : Expression). capped (size c D n .m)) (sym (w .0)),
         ))
         (λ a q w. absurd w)
 
-    pub sized-not : (r : Measure) → Sizes slots (at + 1) D n r → nodeAt slots at ≡ Not → Sizes slots at D n r
-    unfolding exceeds
-    sized-not r s x = by-node r Not x (omega arith) (s .within)
-        (λ f q w.
-        let h = s .formula (w .0) q (w .2) in
-        (h .0, h .1 ∙ ap (λ (f : Formula). exceeds f D n) (sym (w .1))))
-        (λ a q w. absurd w) (λ a q w. absurd w)
-
-    pub sized-probability : (t r : Measure) → Sizes slots (at + 1) D n t → r .next ≡ t .next → r .over ≡ (t .over || tooLarge (t .d) || tooLarge (t .d)) →
-        r .d ≡ t .d → r .m ≡ t .d → nodeAt slots at ≡ Probability → Sizes slots at D n r
-    unfolding exceedsIn size largeSize
-    sized-probability t r s e k d m x = by-node r Probability x (omega arith) (omega arith) (λ f q w. absurd w)
-        (λ c q w.
-        let h = s .path (w .0) q (w .2) in
-        let v = denominator (w .0) D n in (
-          e ∙ h .0,
-          k ∙ (tested v v (h .1) (h .2) (h .2) ∙ ap (λ (c : Expression). exceedsIn c D n) (sym (w .1))),
-          d ∙ (h .2 ∙ ap (λ (c : Expression). capped (size c D n .d)) (sym (w .1))),
-          m ∙ (h .2 ∙ ap (λ (c : Expression). capped (size c D n .m)) (sym (w .1))),
-        ))
-        (λ a q w. absurd w)
-
-    pub sized-next : (t r : Measure) → Sizes slots (at + 1) D n t → r .next ≡ t .next → r .over ≡ t .over → r .d ≡ capped (D ^ n) →
-        nodeAt slots at ≡ Next → Sizes slots at D n r
-    unfolding exceedsFrom denominator
-    sized-next t r s e k d x = by-node r Next x (omega arith) (omega arith) (λ f q w. absurd w) (λ a q w. absurd w)
-        (λ c q w.
-        let h = s .formula (w .0) q (w .2) in (
-          e ∙ h .0,
-          k ∙ (h .1 ∙ ap (λ (c : PathFormula). exceedsFrom c D n) (sym (w .1))),
-          d ∙ ap (λ (c : PathFormula). capped (denominator c D n)) (sym (w .1)),
-        ))
-
-    module _ (t : MeasureTwo) (s : SizesTwo slots (at + 1) D n t) (r : Measure) (e : r .next ≡ t .next) where
-      pub sized-and : r .over ≡ t .over → nodeAt slots at ≡ And → Sizes slots at D n r
+    module _ (t : Measure) (s : Sizes slots (at + 1) D n t) where
+      pub sized-not : nodeAt slots at ≡ Not → Sizes slots at D n t
       unfolding exceeds
-      sized-and k x = by-node r And x (omega arith) (omega arith)
+      sized-not x = by-node t Not x (omega arith) (s .within)
           (λ f q w.
-          let h = s .formulas (w .0) (w .1) (w .2) q (w .4) (w .5) in
-          (e ∙ h .0, k ∙ (h .1 ∙ ap (λ (f : Formula). exceeds f D n) (sym (w .3)))))
+          let h = s .formula (w .0) q (w .2) in
+          (h .0, h .1 ∙ ap (λ (f : Formula). exceeds f D n) (sym (w .1)), h .2, h .3))
           (λ a q w. absurd w) (λ a q w. absurd w)
 
-      pub sized-compare : r .over ≡ (t .over || tooLarge (capped (t .m1 * t .d2)) || tooLarge (capped (t .m2 * t .d1))) →
-          (c : Spelled.Relation) → nodeAt slots at ≡ Compare c → Sizes slots at D n r
+      pub sized-probability : nodeAt slots at ≡ Probability → Sizes slots at D n (ofProbability t)
+      unfolding exceedsIn size largeSize
+      sized-probability x =
+          by-node (ofProbability t) Probability x (omega arith) (omega arith) (λ f q w. absurd w)
+          (λ c q w.
+          let h = s .path (w .0) q (w .2) in
+          let v = denominator (w .0) D n in (
+            h .0,
+            tested v v (h .1) (h .2) (h .3) ∙ ap (λ (c : Expression). exceedsIn c D n) (sym (w .1)),
+            h .2 ∙ ap (λ (c : Expression). capped (size c D n .d)) (sym (w .1)),
+            h .3 ∙ ap (λ (c : Expression). capped (size c D n .m)) (sym (w .1)),
+          ))
+          (λ a q w. absurd w)
+
+      pub sized-next : nodeAt slots at ≡ Next → Sizes slots at D n (ofPath (t .next) (capped (D ^ n)) (t .over))
+      unfolding exceedsFrom denominator
+      sized-next x =
+          by-node (ofPath (t .next) (capped (D ^ n)) (t .over)) Next x (omega arith) (omega arith)
+          (λ f q w. absurd w) (λ a q w. absurd w)
+          (λ c q w.
+          let h = s .formula (w .0) q (w .2) in
+          let d = ap (λ (c : PathFormula). capped (denominator c D n)) (sym (w .1)) in
+          (h .0, h .1 ∙ ap (λ (c : PathFormula). exceedsFrom c D n) (sym (w .1)), d, d))
+
+    module _ (t : MeasureTwo) (s : SizesTwo slots (at + 1) D n t) where
+      pub sized-and : nodeAt slots at ≡ And → Sizes slots at D n (unmeasured (t .next) (t .over))
+      unfolding exceeds
+      sized-and x = by-node (unmeasured (t .next) (t .over)) And x (omega arith) (omega arith)
+          (λ f q w.
+          let h = s .formulas (w .0) (w .1) (w .2) q (w .4) (w .5) in
+          (h .0, h .1 ∙ ap (λ (f : Formula). exceeds f D n) (sym (w .3)), refl, refl))
+          (λ a q w. absurd w) (λ a q w. absurd w)
+
+      pub sized-compare : (c : Spelled.Relation) → nodeAt slots at ≡ Compare c → Sizes slots at D n (ofComparison t)
       unfolding exceeds largeCross
-      sized-compare k c x = by-node r (Compare c) x (omega arith) (omega arith)
+      sized-compare c x = by-node (ofComparison t) (Compare c) x (omega arith) (omega arith)
           (λ f q w.
           let h = s .expressions (w .1) (w .2) (w .3) q (w .6) (w .7) in
           let a = size (w .1) D n in
           let b = size (w .2) D n in (
-            e ∙ h .0,
-            k ∙ (tested (a .m * b .d) (b .m * a .d) (h .1) (prod (a .m) (b .d) (h .3) (h .4)) (prod (b .m) (a .d) (h .5) (h .2)) ∙ ap (λ (f : Formula). exceeds f D n) (sym (w .4))),
+            h .0,
+            tested (a .m * b .d) (b .m * a .d) (h .1) (prod (a .m) (b .d) (h .3) (h .4))
+                (prod (b .m) (a .d) (h .5) (h .2)) ∙
+                ap (λ (f : Formula). exceeds f D n) (sym (w .4)),
+            refl,
+            refl,
           ))
           (λ a q w. absurd w) (λ a q w. absurd w)
 
-      pub sized-until : (k1 k2 : ℕ) → r .over ≡ t .over → r .d ≡ capped (D ^ (n * k2)) → nodeAt slots at ≡ Until k1 k2 → Sizes slots at D n r
+      pub sized-until : (k1 k2 : ℕ) → nodeAt slots at ≡ Until k1 k2 →
+          Sizes slots at D n (ofPath (t .next) (capped (D ^ (n * k2))) (t .over))
       unfolding exceedsFrom denominator
-      sized-until k1 k2 k d x = by-node r (Until k1 k2) x (omega arith) (omega arith) (λ f q w. absurd w) (λ a q w. absurd w)
+      sized-until k1 k2 x =
+          by-node (ofPath (t .next) (capped (D ^ (n * k2))) (t .over)) (Until k1 k2) x (omega arith) (omega arith)
+          (λ f q w. absurd w) (λ a q w. absurd w)
           (λ c q w.
-          let h = s .formulas (w .0) (w .1) (w .2) q (w .4) (w .5) in (
-            e ∙ h .0,
-            k ∙ (h .1 ∙ ap (λ (c : PathFormula). exceedsFrom c D n) (sym (w .3))),
-            d ∙ ap (λ (c : PathFormula). capped (denominator c D n)) (sym (w .3)),
-          ))
+          let h = s .formulas (w .0) (w .1) (w .2) q (w .4) (w .5) in
+          let d = ap (λ (c : PathFormula). capped (denominator c D n)) (sym (w .3)) in
+          (h .0, h .1 ∙ ap (λ (c : PathFormula). exceedsFrom c D n) (sym (w .3)), d, d))
 
-      module _ (k : r .over ≡ (t .over || tooLarge (r .d) || tooLarge (r .m))) (d : r .d ≡ capped (t .d1 * t .d2)) where
-        -- what is found of an expression that is made of two others
-        made-of-two : (make : Expression → Expression → Expression) →
-            ((a b : Expression) →
-            exceedsIn (make a b) D n ≡ (exceedsIn a D n || exceedsIn b D n || largeSize (size (make a b) D n))) →
-            ((a b : Expression) (p q : ℕ) → ExpressionAt slots (at + 1) a p → ExpressionAt slots p b q →
-            (r .d ≡ capped (size (make a b) D n .d)) × (r .m ≡ capped (size (make a b) D n .m))) →
-            (c : Expression) (q : ℕ) →
-            (a : Expression) × (b : Expression) × (p : ℕ) × (c ≡ make a b) × ExpressionAt slots (at + 1) a p × ExpressionAt slots p b q →
-            OfExpression r c q
-        unfolding largeSize
-        made-of-two make exceeding found c q (a, b, p, is, v, w) =
-            let h = s .expressions a b p q v w in
-            let g = found a b p q v w in (
-              e ∙ h .0,
-              k ∙
-                  (tested _ _ (h .1) (g .0) (g .1) ∙ sym (exceeding a b) ∙ ap (λ (c : Expression). exceedsIn c D n) (sym is)),
-              g .0 ∙ ap (λ (c : Expression). capped (size c D n .d)) (sym is),
-              g .1 ∙ ap (λ (c : Expression). capped (size c D n .m)) (sym is),
-            )
+      -- what is found of an expression that is made of two others, from its d and m
+      made-of-two : (d m : ℕ) (make : Expression → Expression → Expression) →
+          ((a b : Expression) →
+          exceedsIn (make a b) D n ≡ (exceedsIn a D n || exceedsIn b D n || largeSize (size (make a b) D n))) →
+          ((a b : Expression) (p q : ℕ) → ExpressionAt slots (at + 1) a p → ExpressionAt slots p b q →
+          (d ≡ capped (size (make a b) D n .d)) × (m ≡ capped (size (make a b) D n .m))) →
+          (c : Expression) (q : ℕ) →
+          (a : Expression) × (b : Expression) × (p : ℕ) × (c ≡ make a b) × ExpressionAt slots (at + 1) a p ×
+          ExpressionAt slots p b q → OfExpression (measured (t .next) d m (t .over)) c q
+      unfolding largeSize
+      made-of-two d m make exceeding found c q (a, b, p, is, v, w) =
+          let h = s .expressions a b p q v w in
+          let g = found a b p q v w in (
+            h .0,
+            tested _ _ (h .1) (g .0) (g .1) ∙ sym (exceeding a b) ∙ ap (λ (c : Expression). exceedsIn c D n) (sym is),
+            g .0 ∙ ap (λ (c : Expression). capped (size c D n .d)) (sym is),
+            g .1 ∙ ap (λ (c : Expression). capped (size c D n .m)) (sym is),
+          )
 
-        -- a sum and a difference have one size
-        module _ (m : r .m ≡ capped (capped (t .m1 * t .d2) + capped (t .m2 * t .d1))) where
-          added : (a b : Expression) (p q : ℕ) → ExpressionAt slots (at + 1) a p → ExpressionAt slots p b q →
-              (r .d ≡ capped (addS (size a D n) (size b D n) .d)) × (r .m ≡ capped (addS (size a D n) (size b D n) .m))
-          unfolding addS
-          added a b p q v w =
-              let h = s .expressions a b p q v w in
-              let x = size a D n in
-              let y = size b D n in (
-                d ∙ prod (x .d) (y .d) (h .2) (h .4),
-                m ∙ (ap₂ (λ (i j : ℕ). capped (i + j)) (prod (x .m) (y .d) (h .3) (h .4)) (prod (y .m) (x .d) (h .5) (h .2)) ∙ capped-plus (x .m * y .d) (y .m * x .d)),
-              )
+      -- a sum and a difference have one size
+      sum-sizes : (a b : Expression) (p q : ℕ) → ExpressionAt slots (at + 1) a p → ExpressionAt slots p b q →
+          (ofSum t .d ≡ capped (addS (size a D n) (size b D n) .d)) ×
+          (ofSum t .m ≡ capped (addS (size a D n) (size b D n) .m))
+      unfolding addS
+      sum-sizes a b p q v w =
+          let h = s .expressions a b p q v w in
+          let x = size a D n in
+          let y = size b D n in (
+            prod (x .d) (y .d) (h .2) (h .4),
+            ap₂ (λ (i j : ℕ). capped (i + j)) (prod (x .m) (y .d) (h .3) (h .4)) (prod (y .m) (x .d) (h .5) (h .2)) ∙
+                capped-plus (x .m * y .d) (y .m * x .d),
+          )
 
-          pub sized-sum : nodeAt slots at ≡ Sum → Sizes slots at D n r
-          unfolding exceedsIn size
-          sized-sum x = by-node r Sum x (omega arith) (omega arith) (λ f q w. absurd w)
-              (made-of-two sum (λ a b. refl) added) (λ a q w. absurd w)
+      pub sized-sum : nodeAt slots at ≡ Sum → Sizes slots at D n (ofSum t)
+      unfolding exceedsIn size
+      sized-sum x = by-node (ofSum t) Sum x (omega arith) (omega arith) (λ f q w. absurd w)
+          (made-of-two (ofSum t .d) (ofSum t .m) sum (λ a b. refl) sum-sizes) (λ a q w. absurd w)
 
-          pub sized-difference : nodeAt slots at ≡ Difference → Sizes slots at D n r
-          unfolding exceedsIn size
-          sized-difference x = by-node r Difference x (omega arith) (omega arith) (λ f q w. absurd w)
-              (made-of-two difference (λ a b. refl) added) (λ a q w. absurd w)
+      pub sized-difference : nodeAt slots at ≡ Difference → Sizes slots at D n (ofSum t)
+      unfolding exceedsIn size
+      sized-difference x = by-node (ofSum t) Difference x (omega arith) (omega arith) (λ f q w. absurd w)
+          (made-of-two (ofSum t .d) (ofSum t .m) difference (λ a b. refl) sum-sizes) (λ a q w. absurd w)
 
-        pub sized-product : r .m ≡ capped (t .m1 * t .m2) → nodeAt slots at ≡ Product → Sizes slots at D n r
-        unfolding exceedsIn size mulS
-        sized-product m x = by-node r Product x (omega arith) (omega arith) (λ f q w. absurd w)
-            (made-of-two product (λ a b. refl)
-            (λ a b p q v w.
-            let h = s .expressions a b p q v w in (
-              d ∙ prod (size a D n .d) (size b D n .d) (h .2) (h .4),
-              m ∙ prod (size a D n .m) (size b D n .m) (h .3) (h .5),
-            )))
-            (λ a q w. absurd w)
+      pub sized-product : nodeAt slots at ≡ Product → Sizes slots at D n (ofProduct t)
+      unfolding exceedsIn size mulS
+      sized-product x = by-node (ofProduct t) Product x (omega arith) (omega arith) (λ f q w. absurd w)
+          (made-of-two (ofProduct t .d) (ofProduct t .m) product (λ a b. refl)
+          (λ a b p q v w.
+          let h = s .expressions a b p q v w in (
+            prod (size a D n .d) (size b D n .d) (h .2) (h .4),
+            prod (size a D n .m) (size b D n .m) (h .3) (h .5),
+          )))
+          (λ a q w. absurd w)
 
 -- two trees, one after another
 pub sized-two : (slots : List Slot) (at D n : ℕ) (a b : Measure) → Sizes slots at D n a → Sizes slots (a .next) D n b →
-    SizesTwo slots at D n (record { next = b .next; d1 = a .d; m1 = a .m; d2 = b .d; m2 = b .m; over = a .over || b .over })
+    SizesTwo slots at D n
+    (record { next = b .next; d1 = a .d; m1 = a .m; d2 = b .d; m2 = b .m; over = a .over || b .over })
 sized-two slots at D n a b s t = record {
   forward = omega arith;
   within = t .within;

@@ -1,64 +1,71 @@
-// The size rule, refusal 10, over the places of a sentence's record. No number here grows past 2^62 + 1: above 2^62 it only
-// matters that it is above.
+// The size rule, refusal 10, over the places of a sentence's record. No number here grows past 2^62 + 1: of a number above 2^62
+// only that matters.
 ghost use Prim.Native.Nat.{ℕ, _+_, _*_, _^_, _≤_, _<_};
-ghost use mathlib.Core.Bool.{false, _||_};
+ghost use mathlib.Core.Bool.{false};
 ghost use mathlib.Core.Path.{_≡_};
-ghost use Rattle.meaning.specs.Size.{exceeds as exceedsRule, tooLarge};
+ghost use Rattle.meaning.specs.Size.{exceeds as exceedsRule, sizeLimit, tooLarge};
 ghost use Rattle.meaning.specs.Tree.{Formula};
 ghost use Rattle.trees.specs.Standing.{FormulaAt};
-ghost use Rattle.sizes.specs.Sizing.{capped, Sizes, SizesTwo, OfNone, OfOne, OfTwo};
+ghost use Rattle.sizes.specs.Sizing.{capped, unmeasured, measured, ofPath, ofSum, ofProduct, ofComparison, ofProbability};
+ghost use Rattle.sizes.specs.Sizing.{Sizes, SizesTwo, OfNone, OfOne, OfTwo};
 use sentence::Node;
 use sentence::Sentence;
 use sentence::Slot;
 use sentence::Wants;
 use sentence::wants_of;
 
-// What is found of a tree: where its nodes end, an expression's d and m (a path's denominator as both), capped, and whether
-// some number of the size rule is above 2^62.
-pub struct Measure {
-    pub next: usize,
-    pub d: u64,
-    pub m: u64,
-    pub over: bool,
+// The largest number that the size rule lets through: 2^62.
+const LIMIT: u64 = 4611686018427387904;
+
+// What a larger number is kept as.
+const CAP: u64 = LIMIT + 1;
+
+// What is found of a tree: where its nodes end; an expression's d and m (a path's denominator as both, 0 for a formula),
+// capped; and whether some number of the size rule is above 2^62.
+struct Measure {
+    next: usize,
+    d: u64,
+    m: u64,
+    over: bool,
 }
 
 // What is found of two trees, one after another.
-pub struct MeasureTwo {
-    pub next: usize,
-    pub d1: u64,
-    pub m1: u64,
-    pub d2: u64,
-    pub m2: u64,
-    pub over: bool,
+struct MeasureTwo {
+    next: usize,
+    d1: u64,
+    m1: u64,
+    d2: u64,
+    m2: u64,
+    over: bool,
 }
 
-// A product, capped.
-pub fn times(a: u64, b: u64) -> u64
+// The product, capped.
+fn times(a: u64, b: u64) -> u64
     ensures { λ r. ⌜ r ≡ capped (a * b) ⌝ }
 {
     if b == 0 {
         return 0;
     }
-    if 4611686018427387904 / b < a {
-        return 4611686018427387905;
+    if LIMIT / b < a {
+        return CAP;
     }
     a * b
 }
 
-// A sum of capped numbers, capped.
+// The sum of two capped numbers, capped.
 fn plus(a: u64, b: u64) -> u64
-    requires { ⌜ (a ≤ 4611686018427387905) × (b ≤ 4611686018427387905) ⌝ }
+    requires { ⌜ (a ≤ sizeLimit + 1) × (b ≤ sizeLimit + 1) ⌝ }
     ensures { λ r. ⌜ r ≡ capped (a + b) ⌝ }
 {
     let s = a + b;
-    if 4611686018427387904 < s {
-        return 4611686018427387905;
+    if LIMIT < s {
+        return CAP;
     }
     s
 }
 
-// A power, capped.
-pub fn power(base: u64, exponent: u64) -> u64
+// The power, capped.
+fn power(base: u64, exponent: u64) -> u64
     ensures { λ r. ⌜ r ≡ capped (base ^ exponent) ⌝ }
 {
     let mut r: u64 = 1;
@@ -70,16 +77,16 @@ pub fn power(base: u64, exponent: u64) -> u64
     r
 }
 
-// The number is above 2^62.
+// Whether the number is above 2^62.
 fn too_large(x: u64) -> bool
     ensures { λ r. ⌜ r ≡ tooLarge x ⌝ }
 {
-    4611686018427387904 < x
+    LIMIT < x
 }
 
-// A tree that has no d and no m of its own.
+// A formula, which has no d and no m: both are 0.
 fn plain(next: usize, over: bool) -> Measure
-    ensures { λ r. ⌜ (r .next ≡ next) × (r .over ≡ over) ⌝ }
+    ensures { λ r. ⌜ r ≡ unmeasured next over ⌝ }
 {
     Measure {
         next,
@@ -89,9 +96,9 @@ fn plain(next: usize, over: bool) -> Measure
     }
 }
 
-// An expression of d and m, whose parts exceed or not.
+// An expression of d and m; `over` is what was found of its parts.
 fn judged(next: usize, d: u64, m: u64, over: bool) -> Measure
-    ensures { λ r. ⌜ (r .next ≡ next) × (r .over ≡ (over || tooLarge d || tooLarge m)) × (r .d ≡ d) × (r .m ≡ m) ⌝ }
+    ensures { λ r. ⌜ r ≡ measured next d m over ⌝ }
 {
     let over = over | too_large(d) | too_large(m);
     Measure { next, d, m, over }
@@ -99,7 +106,7 @@ fn judged(next: usize, d: u64, m: u64, over: bool) -> Measure
 
 // A sum or a difference: d1 × d2 and m1 × d2 + m2 × d1.
 fn added(t: MeasureTwo) -> Measure
-    ensures { λ r. ⌜ (r .next ≡ t .next) × (r .over ≡ (t .over || tooLarge (r .d) || tooLarge (r .m))) × (r .d ≡ capped (t .d1 * t .d2)) × (r .m ≡ capped (capped (t .m1 * t .d2) + capped (t .m2 * t .d1))) ⌝ }
+    ensures { λ r. ⌜ r ≡ ofSum t ⌝ }
 {
     let d = times(t.d1, t.d2);
     let m = plus(times(t.m1, t.d2), times(t.m2, t.d1));
@@ -108,7 +115,7 @@ fn added(t: MeasureTwo) -> Measure
 
 // A product: d1 × d2 and m1 × m2.
 fn multiplied(t: MeasureTwo) -> Measure
-    ensures { λ r. ⌜ (r .next ≡ t .next) × (r .over ≡ (t .over || tooLarge (r .d) || tooLarge (r .m))) × (r .d ≡ capped (t .d1 * t .d2)) × (r .m ≡ capped (t .m1 * t .m2)) ⌝ }
+    ensures { λ r. ⌜ r ≡ ofProduct t ⌝ }
 {
     let d = times(t.d1, t.d2);
     let m = times(t.m1, t.m2);
@@ -117,16 +124,16 @@ fn multiplied(t: MeasureTwo) -> Measure
 
 // A comparison: its m1 × d2 and m2 × d1.
 fn crossed(t: MeasureTwo) -> Measure
-    ensures { λ r. ⌜ (r .next ≡ t .next) × (r .over ≡ (t .over || tooLarge (capped (t .m1 * t .d2)) || tooLarge (capped (t .m2 * t .d1)))) ⌝ }
+    ensures { λ r. ⌜ r ≡ ofComparison t ⌝ }
 {
     let first = times(t.m1, t.d2);
     let second = times(t.m2, t.d1);
     plain(t.next, t.over | too_large(first) | too_large(second))
 }
 
-// A path of a denominator, whose formulas exceed or not.
+// A path of a denominator; `over` is what was found of its formulas.
 fn stepped(next: usize, d: u64, over: bool) -> Measure
-    ensures { λ r. ⌜ (r .next ≡ next) × (r .over ≡ over) × (r .d ≡ d) ⌝ }
+    ensures { λ r. ⌜ r ≡ ofPath next d over ⌝ }
 {
     Measure {
         next,
@@ -136,25 +143,25 @@ fn stepped(next: usize, d: u64, over: bool) -> Measure
     }
 }
 
-// Two formulas.
+// A conjunction of two formulas.
 fn joined(t: MeasureTwo) -> Measure
-    ensures { λ r. ⌜ (r .next ≡ t .next) × (r .over ≡ t .over) ⌝ }
+    ensures { λ r. ⌜ r ≡ unmeasured (t .next) (t .over) ⌝ }
 {
     plain(t.next, t.over)
 }
 
 // A constant: d is its bottom, m its top.
 fn constant(next: usize, top: u32, bottom: u32) -> Measure
-    ensures { λ r. ⌜ (r .next ≡ next) × (r .over ≡ (false || tooLarge bottom || tooLarge top)) × (r .d ≡ capped bottom) × (r .m ≡ capped top) ⌝ }
+    ensures { λ r. ⌜ r ≡ measured next (capped bottom) (capped top) false ⌝ }
 {
     judged(next, bottom as u64, top as u64, false)
 }
 
-// The probability of a path: d and m are the path's denominator.
+// The probability of a path: its d and m are the path's.
 fn probable(w: Measure) -> Measure
-    ensures { λ r. ⌜ (r .next ≡ w .next) × (r .over ≡ (w .over || tooLarge (w .d) || tooLarge (w .d))) × (r .d ≡ w .d) × (r .m ≡ w .d) ⌝ }
+    ensures { λ r. ⌜ r ≡ ofProbability w ⌝ }
 {
-    judged(w.next, w.d, w.d, w.over)
+    judged(w.next, w.d, w.m, w.over)
 }
 
 // The denominator of an until with a window that ends at `to`.
@@ -182,7 +189,7 @@ fn operands(nodes: [Slot; 64], at: usize, base: u64, n: u64) -> MeasureTwo
     }
 }
 
-// What is found of a node that wants nothing; of another nothing is said.
+// What is found of a node that wants nothing. Unspecified for other nodes.
 fn of_none(node: Node, at: usize) -> Measure
     requires { ⌜ at < 64 ⌝ }
     ensures { λ r. ⌜ OfNone node at r ⌝ }
@@ -198,7 +205,7 @@ fn of_none(node: Node, at: usize) -> Measure
     }
 }
 
-// What is found of a node that wants one thing, from what is found of that; of another nothing is said.
+// What is found of a node that wants one thing, from what is found of that. Unspecified for other nodes.
 fn of_one(node: Node, t: Measure, base: u64, n: u64) -> Measure
     ensures { λ r. ⌜ OfOne node t base n r ⌝ }
 {
@@ -210,7 +217,7 @@ fn of_one(node: Node, t: Measure, base: u64, n: u64) -> Measure
     }
 }
 
-// What is found of a node that wants two things, from what is found of those; of another nothing is said.
+// What is found of a node that wants two things, from what is found of both. Unspecified for other nodes.
 fn of_two(node: Node, t: MeasureTwo, base: u64, n: u64) -> Measure
     requires { ⌜ n ≤ 4 ⌝ }
     ensures { λ r. ⌜ OfTwo node t base n r ⌝ }
@@ -226,8 +233,9 @@ fn of_two(node: Node, t: MeasureTwo, base: u64, n: u64) -> Measure
     }
 }
 
-// What is found of the tree at a place, with D and the number of variables: by what its node wants.
-pub fn size_at(nodes: [Slot; 64], at: usize, base: u64, n: u64) -> Measure
+// What is found of the tree at a place, for D = `base` and n variables, by what its node wants. Where no tree stands only the
+// bounds of `next` hold.
+fn size_at(nodes: [Slot; 64], at: usize, base: u64, n: u64) -> Measure
     requires { ⌜ (at ≤ 64) × (n ≤ 4) ⌝ }
     ensures { λ r. ⌜ Sizes nodes at base n r ⌝ }
 {
@@ -244,8 +252,8 @@ pub fn size_at(nodes: [Slot; 64], at: usize, base: u64, n: u64) -> Measure
     }
 }
 
-// The size rule for a sentence of n letters whose record holds a formula from place 0 on: some number of the rule is above
-// 2^62.
+// Whether some number of the size rule is above 2^62, in a sentence of n letters whose record holds a formula from place 0
+// on. Unspecified for a record that holds none.
 pub fn exceeds(s: Sentence, d: u64, n: usize) -> bool
     requires { ⌜ n ≤ 4 ⌝ }
     ensures { λ r. ⌜ ((f : Formula) (q : ℕ) → FormulaAt (s .nodes) 0 f q → r ≡ exceedsRule f d n) ⌝ }

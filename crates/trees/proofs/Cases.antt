@@ -4,12 +4,14 @@ use mathlib.Core.List.{List}
 use mathlib.Core.Path.{_≡_, refl, sym, subst}
 use Rattle.sentence.specs.declared.Slot.{Slot}
 use Rattle.sentence.specs.declared.Node.{Node}
-use Rattle.sentence.specs.declared.Node.the-variants.{True, Label, Not, And, Compare, Probability, Constant, Sum, Difference, Product, Next, Until}
+use Rattle.sentence.specs.declared.Node.the-variants.{True, Label, Not, And, Compare, Probability, Constant, Sum, Difference, Product, Next}
+use Rattle.sentence.specs.declared.Node.the-variants.{Until}
 use Rattle.meaning.specs.Tree.{Relation, Formula, always, labelled, negation, both, compare, PathFormula, next, until}
 use Rattle.meaning.specs.Tree.{Expression, probability, constant, sum, difference, product}
-use Rattle.trees.specs.Listed.{relationOf}
+use Rattle.trees.specs.Listed.{relationSpelled}
 use Rattle.trees.specs.Standing.{nodeAt, FormulaAt, always-at, labelled-at, negation-at, both-at, compare-at}
-use Rattle.trees.specs.Standing.{ExpressionAt, probability-at, constant-at, sum-at, difference-at, product-at, PathAt, next-at, until-at}
+use Rattle.trees.specs.Standing.{ExpressionAt, probability-at, constant-at, sum-at, difference-at, product-at, PathAt, next-at}
+use Rattle.trees.specs.Standing.{until-at}
 
 module _ (slots : List Slot) (p : ℕ) where
   -- a state formula
@@ -18,7 +20,9 @@ module _ (slots : List Slot) (p : ℕ) where
   FormulaCase (Label l i) f q = (f ≡ labelled l i) × (q ≡ p + 1)
   FormulaCase Not f q = (g : Formula) × (f ≡ negation g) × FormulaAt slots (p + 1) g q
   FormulaCase And f q = (g : Formula) × (h : Formula) × (m : ℕ) × (f ≡ both g h) × FormulaAt slots (p + 1) g m × FormulaAt slots m h q
-  FormulaCase (Compare r) f q = (e : Relation) × (a : Expression) × (b : Expression) × (m : ℕ) × (f ≡ compare e a b) × (r ≡ relationOf e) × ExpressionAt slots (p + 1) a m × ExpressionAt slots m b q
+  FormulaCase (Compare r) f q =
+      (e : Relation) × (a : Expression) × (b : Expression) × (m : ℕ) × (f ≡ compare e a b) × (r ≡ relationSpelled e)
+      × ExpressionAt slots (p + 1) a m × ExpressionAt slots m b q
   FormulaCase Probability f q = ⊥
   FormulaCase (Constant a b) f q = ⊥
   FormulaCase Sum f q = ⊥
@@ -36,9 +40,12 @@ module _ (slots : List Slot) (p : ℕ) where
   ExpressionCase (Compare r) f q = ⊥
   ExpressionCase Probability f q = (w : PathFormula) × (f ≡ probability w) × PathAt slots (p + 1) w q
   ExpressionCase (Constant a b) f q = (f ≡ constant a b) × (q ≡ p + 1)
-  ExpressionCase Sum f q = (a : Expression) × (b : Expression) × (m : ℕ) × (f ≡ sum a b) × ExpressionAt slots (p + 1) a m × ExpressionAt slots m b q
-  ExpressionCase Difference f q = (a : Expression) × (b : Expression) × (m : ℕ) × (f ≡ difference a b) × ExpressionAt slots (p + 1) a m × ExpressionAt slots m b q
-  ExpressionCase Product f q = (a : Expression) × (b : Expression) × (m : ℕ) × (f ≡ product a b) × ExpressionAt slots (p + 1) a m × ExpressionAt slots m b q
+  ExpressionCase Sum f q =
+      (a : Expression) × (b : Expression) × (m : ℕ) × (f ≡ sum a b) × ExpressionAt slots (p + 1) a m × ExpressionAt slots m b q
+  ExpressionCase Difference f q =
+      (a : Expression) × (b : Expression) × (m : ℕ) × (f ≡ difference a b) × ExpressionAt slots (p + 1) a m × ExpressionAt slots m b q
+  ExpressionCase Product f q =
+      (a : Expression) × (b : Expression) × (m : ℕ) × (f ≡ product a b) × ExpressionAt slots (p + 1) a m × ExpressionAt slots m b q
   ExpressionCase Next f q = ⊥
   ExpressionCase (Until k1 k2) f q = ⊥
 
@@ -55,25 +62,32 @@ module _ (slots : List Slot) (p : ℕ) where
   PathCase Difference f q = ⊥
   PathCase Product f q = ⊥
   PathCase Next f q = (g : Formula) × (f ≡ next g) × FormulaAt slots (p + 1) g q
-  PathCase (Until k1 k2) f q = (g : Formula) × (h : Formula) × (m : ℕ) × (f ≡ until k1 k2 g h) × FormulaAt slots (p + 1) g m × FormulaAt slots m h q
+  PathCase (Until k1 k2) f q =
+      (g : Formula) × (h : Formula) × (m : ℕ) × (f ≡ until k1 k2 g h) × FormulaAt slots (p + 1) g m × FormulaAt slots m h q
 
   own-formula : {f : Formula} {q : ℕ} → FormulaAt slots p f q → FormulaCase (nodeAt slots p) f q
   own-formula (always-at h e) = subst (λ (n : Node). FormulaCase n always (p + 1)) (sym e) (refl, refl)
   own-formula (labelled-at {l = l} {i = i} h e) = subst (λ (n : Node). FormulaCase n (labelled l i) (p + 1)) (sym e) (refl, refl)
   own-formula (negation-at {q = q} {f = f} h e w) = subst (λ (n : Node). FormulaCase n (negation f) q) (sym e) (f, refl, w)
-  own-formula (both-at {q = q} {r = r} {f = f} {g = g} h e v w) = subst (λ (n : Node). FormulaCase n (both f g) r) (sym e) (f, g, q, refl, v, w)
-  own-formula (compare-at {q = q} {r = r} {e = rel} {a = a} {b = b} h e v w) = subst (λ (n : Node). FormulaCase n (compare rel a b) r) (sym e) (rel, a, b, q, refl, refl, v, w)
+  own-formula (both-at {q = q} {r = r} {f = f} {g = g} h e v w) =
+      subst (λ (n : Node). FormulaCase n (both f g) r) (sym e) (f, g, q, refl, v, w)
+  own-formula (compare-at {q = q} {r = r} {e = rel} {a = a} {b = b} h e v w) =
+      subst (λ (n : Node). FormulaCase n (compare rel a b) r) (sym e) (rel, a, b, q, refl, refl, v, w)
 
   own-expression : {f : Expression} {q : ℕ} → ExpressionAt slots p f q → ExpressionCase (nodeAt slots p) f q
   own-expression (probability-at {q = q} {w = w} h e v) = subst (λ (n : Node). ExpressionCase n (probability w) q) (sym e) (w, refl, v)
   own-expression (constant-at {a = a} {b = b} h e) = subst (λ (n : Node). ExpressionCase n (constant a b) (p + 1)) (sym e) (refl, refl)
-  own-expression (sum-at {q = q} {r = r} {a = a} {b = b} h e v w) = subst (λ (n : Node). ExpressionCase n (sum a b) r) (sym e) (a, b, q, refl, v, w)
-  own-expression (difference-at {q = q} {r = r} {a = a} {b = b} h e v w) = subst (λ (n : Node). ExpressionCase n (difference a b) r) (sym e) (a, b, q, refl, v, w)
-  own-expression (product-at {q = q} {r = r} {a = a} {b = b} h e v w) = subst (λ (n : Node). ExpressionCase n (product a b) r) (sym e) (a, b, q, refl, v, w)
+  own-expression (sum-at {q = q} {r = r} {a = a} {b = b} h e v w) =
+      subst (λ (n : Node). ExpressionCase n (sum a b) r) (sym e) (a, b, q, refl, v, w)
+  own-expression (difference-at {q = q} {r = r} {a = a} {b = b} h e v w) =
+      subst (λ (n : Node). ExpressionCase n (difference a b) r) (sym e) (a, b, q, refl, v, w)
+  own-expression (product-at {q = q} {r = r} {a = a} {b = b} h e v w) =
+      subst (λ (n : Node). ExpressionCase n (product a b) r) (sym e) (a, b, q, refl, v, w)
 
   own-path : {f : PathFormula} {q : ℕ} → PathAt slots p f q → PathCase (nodeAt slots p) f q
   own-path (next-at {q = q} {f = f} h e w) = subst (λ (n : Node). PathCase n (next f) q) (sym e) (f, refl, w)
-  own-path (until-at {q = q} {r = r} {k1 = k1} {k2 = k2} {f = f} {g = g} h e v w) = subst (λ (n : Node). PathCase n (until k1 k2 f g) r) (sym e) (f, g, q, refl, v, w)
+  own-path (until-at {q = q} {r = r} {k1 = k1} {k2 = k2} {f = f} {g = g} h e v w) =
+      subst (λ (n : Node). PathCase n (until k1 k2 f g) r) (sym e) (f, g, q, refl, v, w)
 
   -- a state formula, by the node that the code found there
   pub formula-case : {f : Formula} {q : ℕ} (n : Node) → nodeAt slots p ≡ n → FormulaAt slots p f q → FormulaCase n f q

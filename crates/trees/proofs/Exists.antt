@@ -8,10 +8,11 @@ use Rattle.sentence.specs.declared.Kind.the-variants.{State, Expression as Expr
 use Rattle.sentence.specs.declared.Relation.the-variants.{Less, AtMost, Equal, AtLeast, Greater}
 use Rattle.sentence.specs.declared.Relation as Spelled
 use Rattle.sentence.specs.declared.Node.{Node}
-use Rattle.sentence.specs.declared.Node.the-variants.{True, Label, Not, And, Compare, Probability, Constant, Sum, Difference, Product, Next, Until}
+use Rattle.sentence.specs.declared.Node.the-variants.{True, Label, Not, And, Compare, Probability, Constant, Sum, Difference, Product, Next}
+use Rattle.sentence.specs.declared.Node.the-variants.{Until}
 use Rattle.meaning.specs.Tree.{Relation, less, atMost, equal, atLeast, greater, Formula, always, labelled, negation, both, compare}
 use Rattle.meaning.specs.Tree.{Expression, probability, constant, sum, difference, product, PathFormula, next, until}
-use Rattle.trees.specs.Listed.{relationOf, formulaNodes, expressionNodes, pathNodes}
+use Rattle.trees.specs.Listed.{relationSpelled, formulaNodes, expressionNodes, pathNodes}
 
 -- the trees of a kind
 abbrev pub Tree : Kind → Type 0
@@ -38,11 +39,12 @@ one n j k ks (tree _ t r h p) make e = subst (Trees (j ∷ ks)) (ap (λ (l : Lis
 two : (n : Node) (j k : Kind) (ks : List Kind) {r : List Node} → Trees (k ∷ k ∷ ks) r → (make : Tree k → Tree k → Tree j) →
     ((t u : Tree k) → treeNodes j (make t u) ≡ n ∷ (treeNodes k t ++ treeNodes k u)) → Trees (j ∷ ks) (n ∷ r)
 two n j k ks (tree _ t _ _ (tree _ u r h p)) make e =
-    subst (Trees (j ∷ ks)) (ap (λ (l : List Node). l ++ r) (e t u) ∙ ap (λ (l : List Node). n ∷ l) (append-assoc (treeNodes k t) (treeNodes k u) r))
+    subst (Trees (j ∷ ks))
+    (ap (λ (l : List Node). l ++ r) (e t u) ∙ ap (λ (l : List Node). n ∷ l) (append-assoc (treeNodes k t) (treeNodes k u) r))
     (tree j (make t u) r h p)
 
 -- every relation of a node is one of a comparison
-pub relation-of : (r : Spelled.Relation) → (e : Relation) × (relationOf e ≡ r)
+pub relation-of : (r : Spelled.Relation) → (e : Relation) × (relationSpelled e ≡ r)
 relation-of Less = (less, refl)
 relation-of AtMost = (atMost, refl)
 relation-of Equal = (equal, refl)
@@ -69,13 +71,16 @@ grown (Until k1 k2) ks h p = two (Until k1 k2) PathKind State ks p (until k1 k2)
 -- a list that nests is the nodes of trees of those kinds
 pub nests-trees : {ks : List Kind} {ns : List Node} → Nests ks ns → Trees ks ns
 nests-trees end = none
-nests-trees (node {n = n} {ks = ks} {ns = ns} w e rest) = subst (λ (k : Kind). Trees (k ∷ ks) (n ∷ ns)) e (grown n ks rest (nests-trees rest))
+nests-trees (node {n = n} {ks = ks} {ns = ns} w e rest) =
+    subst (λ (k : Kind). Trees (k ∷ ks) (n ∷ ns)) e (grown n ks rest (nests-trees rest))
 
 -- a list that nests begins with a tree of the first kind, and what follows nests
-pub first-tree : {k : Kind} {ks : List Kind} {ns : List Node} → Nests (k ∷ ks) ns → (t : Tree k) × (r : List Node) × (ns ≡ treeNodes k t ++ r) × Nests ks r
+pub first-tree : {k : Kind} {ks : List Kind} {ns : List Node} → Nests (k ∷ ks) ns
+    → (t : Tree k) × (r : List Node) × (ns ≡ treeNodes k t ++ r) × Nests ks r
 first-tree n = by (nests-trees n)
   where
-    by : {k : Kind} {ks : List Kind} {ns : List Node} → Trees (k ∷ ks) ns → (t : Tree k) × (r : List Node) × (ns ≡ treeNodes k t ++ r) × Nests ks r
+    by : {k : Kind} {ks : List Kind} {ns : List Node} → Trees (k ∷ ks) ns
+        → (t : Tree k) × (r : List Node) × (ns ≡ treeNodes k t ++ r) × Nests ks r
     by (tree k t r h p) = (t, r, refl, h)
 
 -- a list that nests as nothing is empty

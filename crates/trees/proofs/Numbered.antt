@@ -36,7 +36,11 @@ module _ (slots : List Slot) where
 
   -- a node that starts no path
   quiet-one : (p : ℕ) (n : Node) → nodeAt slots p ≡ n → startsPath n ≡ false → Quiet p (p + 1)
-  quiet-one p n e s = (omega arith, λ i l h. let same : i ≡ p = omega arith in subst (λ (x : ℕ). startsPath (nodeAt slots x) ≡ false) (sym same) (ap startsPath e ∙ s))
+  quiet-one p n e s = (
+    omega arith,
+    λ i l h. let same : i ≡ p = omega arith in
+        subst (λ (x : ℕ). startsPath (nodeAt slots x) ≡ false) (sym same) (ap startsPath e ∙ s),
+  )
 
   after-quiet : (p m : ℕ) (ws : List PathFormula) (q : ℕ) → Quiet p m → PathsAt m ws q → PathsAt p ws q
   after-quiet p m [] q a b = quiet-more p m q a b
@@ -69,7 +73,8 @@ module _ (slots : List Slot) where
 
     -- those of an expression
     pub expression-paths : (a : Expression) (p q : ℕ) → Stretch slots p (expressionNodes a) q → PathsAt p (pathsIn a) q
-    expression-paths (probability w) p q h = after-quiet p (p + 1) (pathsFrom w) q (quiet-one p _ (h .1) refl) (path-paths w (p + 1) q (h .2))
+    expression-paths (probability w) p q h =
+        after-quiet p (p + 1) (pathsFrom w) q (quiet-one p _ (h .1) refl) (path-paths w (p + 1) q (h .2))
     expression-paths (constant a b) p q h = leaf p q _ (h .1) refl (h .2)
     expression-paths (sum a b) p q h =
         let s = split slots (expressionNodes a) (expressionNodes b) (p + 1) q (h .2) in
@@ -86,8 +91,13 @@ module _ (slots : List Slot) where
 
     -- a path and those of its formulas
     pub path-paths : (w : PathFormula) (p q : ℕ) → Stretch slots p (pathNodes w) q → PathsAt p (pathsFrom w) q
-    path-paths (next f) p q h =
-        (p, (omega arith, λ i l u. absurd (omega arith)), ap startsPath (h .1), (q, path-stands slots (next f) p q h), formula-paths f (p + 1) q (h .2))
+    path-paths (next f) p q h = (
+      p,
+      (omega arith, λ i l u. absurd (omega arith)),
+      ap startsPath (h .1),
+      (q, path-stands slots (next f) p q h),
+      formula-paths f (p + 1) q (h .2),
+    )
     path-paths (until k1 k2 f g) p q h =
         let s = split slots (formulaNodes f) (formulaNodes g) (p + 1) q (h .2) in (
           p,
@@ -108,7 +118,8 @@ module _ (slots : List Slot) where
       let e : p + suc d ≡ (p + d) + 1 = omega arith in
       let here : startsPath (nodeAt slots (p + d)) ≡ false = h .1 (p + d) (omega arith) (omega arith) in
       let rest : pathsBelow slots (p + d) ≡ pathsBelow slots p = quiet-below d p (omega arith, λ i l u. h .1 i l (omega arith)) in
-      ap (pathsBelow slots) e ∙ (below-more (p + d) false here ∙ let z : pathsBelow slots (p + d) + 0 ≡ pathsBelow slots (p + d) = omega arith in z ∙ rest)
+      ap (pathsBelow slots) e
+      ∙ (below-more (p + d) false here ∙ let z : pathsBelow slots (p + d) + 0 ≡ pathsBelow slots (p + d) = omega arith in z ∙ rest)
 
   below-quiet : (p m : ℕ) → Quiet p m → pathsBelow slots m ≡ pathsBelow slots p
   below-quiet p m h =
@@ -126,10 +137,12 @@ module _ (slots : List Slot) where
 
   -- at the place m stands the path formula with the number of paths that start from p on before m
   abbrev pub NumberedAt : PathFormula → ℕ → List PathFormula → ℕ → Type 0
-  NumberedAt d p ws m = (k : ℕ) × (pathsBelow slots m ≡ pathsBelow slots p + k) × (k < length ws) × ((e : ℕ) × PathAt slots m (getD ws k d) e)
+  NumberedAt d p ws m =
+      (k : ℕ) × (pathsBelow slots m ≡ pathsBelow slots p + k) × (k < length ws) × ((e : ℕ) × PathAt slots m (getD ws k d) e)
 
   -- every place where a path starts is the place of the path formula with the number of those before it
-  pub path-numbered : (d : PathFormula) (p : ℕ) (ws : List PathFormula) (q : ℕ) → PathsAt p ws q → (m : ℕ) → p ≤ m → m < q → startsPath (nodeAt slots m) ≡ true → NumberedAt d p ws m
+  pub path-numbered : (d : PathFormula) (p : ℕ) (ws : List PathFormula) (q : ℕ) → PathsAt p ws q → (m : ℕ) → p ≤ m → m < q
+      → startsPath (nodeAt slots m) ≡ true → NumberedAt d p ws m
   path-numbered d p [] q h m l u s = absurd (true≢false (sym s ∙ h .1 m l u))
   path-numbered d p (w ∷ ws) q h m l u s = by (λ v. path-numbered d (h .0 + 1) ws q (h .4) m v u s) (decLt m (h .0)) (ℕ-discrete m (h .0))
     where
@@ -151,7 +164,8 @@ unfolding pathsBelow
 below-zero slots = refl
 
 -- the record of a formula's nodes: its path formulas, each at its place
-pub record-paths : (ps : List Bool) (ns : List Node) (f : Formula) → length ns ≤ 64 → ns ≡ formulaNodes f → PathsAt (recordOf ps ns .nodes) 0 (pathsOf f) (length ns)
+pub record-paths : (ps : List Bool) (ns : List Node) (f : Formula) → length ns ≤ 64 → ns ≡ formulaNodes f
+    → PathsAt (recordOf ps ns .nodes) 0 (pathsOf f) (length ns)
 record-paths ps ns f h e =
     formula-paths (recordOf ps ns .nodes) f 0 (length ns)
     (subst (λ (l : List Node). Stretch (recordOf ps ns .nodes) 0 l (length ns)) e (record-stretch ps ns h))

@@ -4,15 +4,16 @@ use mathlib.Core.Bool.{Bool}
 use mathlib.Core.List.{List, [], _∷_, _++_, append-assoc}
 use mathlib.Core.Path.{_≡_, refl, sym, ap, ap₂, subst, _∙_}
 use Rattle.sentence.specs.declared.Node.{Node}
-use Rattle.sentence.specs.declared.Node.the-variants.{True, Label, Not, And, Compare, Probability, Constant, Sum, Difference, Product, Next, Until}
+use Rattle.sentence.specs.declared.Node.the-variants.{True, Label, Not, And, Compare, Probability, Constant, Sum, Difference, Product, Next}
+use Rattle.sentence.specs.declared.Node.the-variants.{Until}
 use Rattle.sentence.specs.Grammar.{Spells}
 use Rattle.sentence.proofs.Once.{spelled-once}
 use Rattle.meaning.specs.Tree.{Relation, less, atMost, equal, atLeast, greater, Formula, always, labelled, negation, both, compare}
 use Rattle.meaning.specs.Tree.{Expression, probability, constant, sum, difference, product, PathFormula, next, until}
-use Rattle.trees.specs.Listed.{relationOf, unspelled, formulaNodes, expressionNodes, pathNodes}
+use Rattle.trees.specs.Listed.{relationSpelled, relationRead, formulaNodes, expressionNodes, pathNodes}
 
 -- the relation of a comparison's node is the comparison's
-pub spelled-relation : (r : Relation) → unspelled (relationOf r) ≡ r
+pub spelled-relation : (r : Relation) → relationRead (relationSpelled r) ≡ r
 spelled-relation less = refl
 spelled-relation atMost = refl
 spelled-relation equal = refl
@@ -25,7 +26,8 @@ FormulaBegins True l f s = (f ≡ always) × (l ≡ s)
 FormulaBegins (Label a i) l f s = (f ≡ labelled a i) × (l ≡ s)
 FormulaBegins Not l f s = (g : Formula) × (f ≡ negation g) × (l ≡ formulaNodes g ++ s)
 FormulaBegins And l f s = (g : Formula) × (h : Formula) × (f ≡ both g h) × (l ≡ formulaNodes g ++ (formulaNodes h ++ s))
-FormulaBegins (Compare r) l f s = (a : Expression) × (b : Expression) × (f ≡ compare (unspelled r) a b) × (l ≡ expressionNodes a ++ (expressionNodes b ++ s))
+FormulaBegins (Compare r) l f s =
+    (a : Expression) × (b : Expression) × (f ≡ compare (relationRead r) a b) × (l ≡ expressionNodes a ++ (expressionNodes b ++ s))
 FormulaBegins Probability l f s = ⊥
 FormulaBegins (Constant a b) l f s = ⊥
 FormulaBegins Sum l f s = ⊥
@@ -43,8 +45,10 @@ ExpressionBegins (Compare r) l e s = ⊥
 ExpressionBegins Probability l e s = (w : PathFormula) × (e ≡ probability w) × (l ≡ pathNodes w ++ s)
 ExpressionBegins (Constant a b) l e s = (e ≡ constant a b) × (l ≡ s)
 ExpressionBegins Sum l e s = (a : Expression) × (b : Expression) × (e ≡ sum a b) × (l ≡ expressionNodes a ++ (expressionNodes b ++ s))
-ExpressionBegins Difference l e s = (a : Expression) × (b : Expression) × (e ≡ difference a b) × (l ≡ expressionNodes a ++ (expressionNodes b ++ s))
-ExpressionBegins Product l e s = (a : Expression) × (b : Expression) × (e ≡ product a b) × (l ≡ expressionNodes a ++ (expressionNodes b ++ s))
+ExpressionBegins Difference l e s =
+    (a : Expression) × (b : Expression) × (e ≡ difference a b) × (l ≡ expressionNodes a ++ (expressionNodes b ++ s))
+ExpressionBegins Product l e s =
+    (a : Expression) × (b : Expression) × (e ≡ product a b) × (l ≡ expressionNodes a ++ (expressionNodes b ++ s))
 ExpressionBegins Next l e s = ⊥
 ExpressionBegins (Until k1 k2) l e s = ⊥
 
@@ -73,7 +77,8 @@ formula-begun always s = (refl, refl)
 formula-begun (labelled l i) s = (refl, refl)
 formula-begun (negation f) s = (f, refl, refl)
 formula-begun (both f g) s = (f, g, refl, append-assoc (formulaNodes f) (formulaNodes g) s)
-formula-begun (compare r a b) s = (a, b, ap (λ (x : Relation). compare x a b) (sym (spelled-relation r)), append-assoc (expressionNodes a) (expressionNodes b) s)
+formula-begun (compare r a b) s =
+    (a, b, ap (λ (x : Relation). compare x a b) (sym (spelled-relation r)), append-assoc (expressionNodes a) (expressionNodes b) s)
 
 expression-begun : (e : Expression) (s : List Node) → Begun (λ n l. ExpressionBegins n l e s) (expressionNodes e ++ s)
 unfolding formulaNodes expressionNodes pathNodes
@@ -111,15 +116,20 @@ mutual
   formula-once (both f h) g r s e =
       let b = formula-begins And ((formulaNodes f ++ formulaNodes h) ++ r) g s e in
       let i : (f ≡ b .0) × (formulaNodes h ++ r ≡ formulaNodes (b .1) ++ s) =
-      formula-once f (b .0) (formulaNodes h ++ r) (formulaNodes (b .1) ++ s) (sym (append-assoc (formulaNodes f) (formulaNodes h) r) ∙ b .3) in
+      formula-once f (b .0) (formulaNodes h ++ r) (formulaNodes (b .1) ++ s)
+      (sym (append-assoc (formulaNodes f) (formulaNodes h) r) ∙ b .3) in
       let j : (h ≡ b .1) × (r ≡ s) = formula-once h (b .1) r s (i .1) in
       (ap₂ both (i .0) (j .0) ∙ sym (b .2), j .1)
   formula-once (compare c a d) g r s e =
-      let b = formula-begins (Compare (relationOf c)) ((expressionNodes a ++ expressionNodes d) ++ r) g s e in
+      let b = formula-begins (Compare (relationSpelled c)) ((expressionNodes a ++ expressionNodes d) ++ r) g s e in
       let i : (a ≡ b .0) × (expressionNodes d ++ r ≡ expressionNodes (b .1) ++ s) =
-      expression-once a (b .0) (expressionNodes d ++ r) (expressionNodes (b .1) ++ s) (sym (append-assoc (expressionNodes a) (expressionNodes d) r) ∙ b .3) in
-      let j : (d ≡ b .1) × (r ≡ s) = expression-once d (b .1) r s (i .1) in
-      (ap (λ (x : Relation). compare x a d) (sym (spelled-relation c)) ∙ ap₂ (compare (unspelled (relationOf c))) (i .0) (j .0) ∙ sym (b .2), j .1)
+      expression-once a (b .0) (expressionNodes d ++ r) (expressionNodes (b .1) ++ s)
+      (sym (append-assoc (expressionNodes a) (expressionNodes d) r) ∙ b .3) in
+      let j : (d ≡ b .1) × (r ≡ s) = expression-once d (b .1) r s (i .1) in (
+        ap (λ (x : Relation). compare x a d) (sym (spelled-relation c)) ∙ ap₂ (compare (relationRead (relationSpelled c))) (i .0) (j .0)
+            ∙ sym (b .2),
+        j .1,
+      )
 
   -- with equal expressions
   pub expression-once : (a g : Expression) (r s : List Node) → expressionNodes a ++ r ≡ expressionNodes g ++ s → (a ≡ g) × (r ≡ s)
@@ -131,19 +141,22 @@ mutual
   expression-once (sum a d) g r s e =
       let b = expression-begins Sum ((expressionNodes a ++ expressionNodes d) ++ r) g s e in
       let i : (a ≡ b .0) × (expressionNodes d ++ r ≡ expressionNodes (b .1) ++ s) =
-      expression-once a (b .0) (expressionNodes d ++ r) (expressionNodes (b .1) ++ s) (sym (append-assoc (expressionNodes a) (expressionNodes d) r) ∙ b .3) in
+      expression-once a (b .0) (expressionNodes d ++ r) (expressionNodes (b .1) ++ s)
+      (sym (append-assoc (expressionNodes a) (expressionNodes d) r) ∙ b .3) in
       let j : (d ≡ b .1) × (r ≡ s) = expression-once d (b .1) r s (i .1) in
       (ap₂ sum (i .0) (j .0) ∙ sym (b .2), j .1)
   expression-once (difference a d) g r s e =
       let b = expression-begins Difference ((expressionNodes a ++ expressionNodes d) ++ r) g s e in
       let i : (a ≡ b .0) × (expressionNodes d ++ r ≡ expressionNodes (b .1) ++ s) =
-      expression-once a (b .0) (expressionNodes d ++ r) (expressionNodes (b .1) ++ s) (sym (append-assoc (expressionNodes a) (expressionNodes d) r) ∙ b .3) in
+      expression-once a (b .0) (expressionNodes d ++ r) (expressionNodes (b .1) ++ s)
+      (sym (append-assoc (expressionNodes a) (expressionNodes d) r) ∙ b .3) in
       let j : (d ≡ b .1) × (r ≡ s) = expression-once d (b .1) r s (i .1) in
       (ap₂ difference (i .0) (j .0) ∙ sym (b .2), j .1)
   expression-once (product a d) g r s e =
       let b = expression-begins Product ((expressionNodes a ++ expressionNodes d) ++ r) g s e in
       let i : (a ≡ b .0) × (expressionNodes d ++ r ≡ expressionNodes (b .1) ++ s) =
-      expression-once a (b .0) (expressionNodes d ++ r) (expressionNodes (b .1) ++ s) (sym (append-assoc (expressionNodes a) (expressionNodes d) r) ∙ b .3) in
+      expression-once a (b .0) (expressionNodes d ++ r) (expressionNodes (b .1) ++ s)
+      (sym (append-assoc (expressionNodes a) (expressionNodes d) r) ∙ b .3) in
       let j : (d ≡ b .1) × (r ≡ s) = expression-once d (b .1) r s (i .1) in
       (ap₂ product (i .0) (j .0) ∙ sym (b .2), j .1)
 
@@ -156,12 +169,14 @@ mutual
   path-once (until k1 k2 f h) g r s e =
       let b = path-begins (Until k1 k2) ((formulaNodes f ++ formulaNodes h) ++ r) g s e in
       let i : (f ≡ b .0) × (formulaNodes h ++ r ≡ formulaNodes (b .1) ++ s) =
-      formula-once f (b .0) (formulaNodes h ++ r) (formulaNodes (b .1) ++ s) (sym (append-assoc (formulaNodes f) (formulaNodes h) r) ∙ b .3) in
+      formula-once f (b .0) (formulaNodes h ++ r) (formulaNodes (b .1) ++ s)
+      (sym (append-assoc (formulaNodes f) (formulaNodes h) r) ∙ b .3) in
       let j : (h ≡ b .1) × (r ≡ s) = formula-once h (b .1) r s (i .1) in
       (ap₂ (until k1 k2) (i .0) (j .0) ∙ sym (b .2), j .1)
 
 -- a text is spelled by one prefix and one body
-pub sentence-once : {text : List ℕ} {ps qs : List Bool} (f g : Formula) → Spells ps (formulaNodes f) text → Spells qs (formulaNodes g) text →
+pub sentence-once : {text : List ℕ} {ps qs : List Bool} (f g : Formula) → Spells ps (formulaNodes f) text
+    → Spells qs (formulaNodes g) text →
     (ps ≡ qs) × (f ≡ g)
 sentence-once f g s t =
     let e = spelled-once s t in

@@ -40,8 +40,11 @@ behind n (m ∷ ms) ns h = behind n ms ns (h .2)
 constant-range : (a b : ℕ) → (ltb 65535 a || eqb b 0 || ltb 65535 b) ≡ false → (a ≤ 65535) × (1 ≤ b) × (b ≤ 65535)
 constant-range a b e =
     let x : (ltb 65535 a || eqb b 0) ≡ false = or-left (ltb 65535 a || eqb b 0) (ltb 65535 b) e in
-    let z : (b ≡ 0) → ⊥ = eqb-false b 0 (or-right (ltb 65535 a) (eqb b 0) x) in
-    (ltb-false 65535 a (or-left (ltb 65535 a) (eqb b 0) x), positive b z, ltb-false 65535 b (or-right (ltb 65535 a || eqb b 0) (ltb 65535 b) e))
+    let z : (b ≡ 0) → ⊥ = eqb-false b 0 (or-right (ltb 65535 a) (eqb b 0) x) in (
+      ltb-false 65535 a (or-left (ltb 65535 a) (eqb b 0) x),
+      positive b z,
+      ltb-false 65535 b (or-right (ltb 65535 a || eqb b 0) (ltb 65535 b) e),
+    )
   where
     positive : (x : ℕ) → ((x ≡ 0) → ⊥) → 1 ≤ x
     positive x h = omega arith
@@ -56,8 +59,10 @@ mutual
       let written = label-written l i (h .0) in
       (written .0, written .1, ltb-false n i (h .1))
   formula-ranged (negation f) n h = formula-ranged f n (h .2)
-  formula-ranged (both f g) n h =
-      (formula-ranged f n (in-front n (formulaNodes f) (formulaNodes g) (h .2)), formula-ranged g n (behind n (formulaNodes f) (formulaNodes g) (h .2)))
+  formula-ranged (both f g) n h = (
+    formula-ranged f n (in-front n (formulaNodes f) (formulaNodes g) (h .2)),
+    formula-ranged g n (behind n (formulaNodes f) (formulaNodes g) (h .2)),
+  )
   formula-ranged (compare r a b) n h = (
     expression-ranged a n (in-front n (expressionNodes a) (expressionNodes b) (h .2)),
     expression-ranged b n (behind n (expressionNodes a) (expressionNodes b) (h .2)),
@@ -86,5 +91,8 @@ mutual
   path-ranged (until k1 k2 f g) n h = (
     ltb-false k2 k1 (or-left (ltb k2 k1) (ltb 60 k2) (h .1)),
     ltb-false 60 k2 (or-right (ltb k2 k1) (ltb 60 k2) (h .1)),
-    (formula-ranged f n (in-front n (formulaNodes f) (formulaNodes g) (h .2)), formula-ranged g n (behind n (formulaNodes f) (formulaNodes g) (h .2))),
+    (
+      formula-ranged f n (in-front n (formulaNodes f) (formulaNodes g) (h .2)),
+      formula-ranged g n (behind n (formulaNodes f) (formulaNodes g) (h .2)),
+    ),
   )

@@ -13,7 +13,8 @@ use Rattle.meaning.specs.Tree.{Formula, always, labelled, negation, both, compa
 use Rattle.meaning.specs.Tree.{Expression, probability, constant, sum, difference, product}
 use Rattle.trees.specs.Listed.{formulaNodes, expressionNodes, pathNodes}
 use Rattle.trees.specs.Standing.{nodeAt, FormulaAt, always-at, labelled-at, negation-at, both-at, compare-at}
-use Rattle.trees.specs.Standing.{ExpressionAt, probability-at, constant-at, sum-at, difference-at, product-at, PathAt, next-at, until-at}
+use Rattle.trees.specs.Standing.{ExpressionAt, probability-at, constant-at, sum-at, difference-at, product-at, PathAt, next-at}
+use Rattle.trees.specs.Standing.{until-at}
 
 -- the nodes ns stand at the places from p on, up to q
 abbrev pub Stretch : List Slot → ℕ → List Node → ℕ → Type 0
@@ -21,7 +22,8 @@ Stretch slots p [] q = p ≡ q
 Stretch slots p (n ∷ ns) q = (p < 64) × (nodeAt slots p ≡ n) × Stretch slots (p + 1) ns q
 
 -- two lists one after the other
-pub split : (slots : List Slot) (ms ns : List Node) (p q : ℕ) → Stretch slots p (ms ++ ns) q → (m : ℕ) × Stretch slots p ms m × Stretch slots m ns q
+pub split : (slots : List Slot) (ms ns : List Node) (p q : ℕ) → Stretch slots p (ms ++ ns) q
+    → (m : ℕ) × Stretch slots p ms m × Stretch slots m ns q
 split slots [] ns p q h = (p, refl, h)
 split slots (m ∷ ms) ns p q h = let r = split slots ms ns (p + 1) q (h .2) in (r .0, (h .0, h .1, r .1), r .2)
 
@@ -75,13 +77,16 @@ laid front (n ∷ ns) rest h =
     let longer : length (front ++ (slot n ∷ [])) ≡ length front + 1 = length-append front (slot n ∷ []) in
     let places : length (front ++ (slot n ∷ [])) + length ns ≡ length front + suc (length ns) = omega (arith, longer) in
     let h′ : length (front ++ (slot n ∷ [])) + length ns ≤ 64 = omega (arith, longer) in
-    let more : Stretch ((front ++ (slot n ∷ [])) ++ (map slot ns ++ rest)) (length (front ++ (slot n ∷ []))) ns (length (front ++ (slot n ∷ [])) + length ns) =
+    let more : Stretch ((front ++ (slot n ∷ [])) ++ (map slot ns ++ rest)) (length (front ++ (slot n ∷ []))) ns
+    (length (front ++ (slot n ∷ [])) + length ns) =
     laid (front ++ (slot n ∷ [])) ns rest h′ in (
       omega arith,
       ap (λ (s : Slot). s .node) (past-front front (slot n) (map slot ns ++ rest)),
-      subst (λ (l : List Slot). Stretch l (length front + 1) ns (length front + suc (length ns))) (append-assoc front (slot n ∷ []) (map slot ns ++ rest))
+      subst (λ (l : List Slot). Stretch l (length front + 1) ns (length front + suc (length ns)))
+          (append-assoc front (slot n ∷ []) (map slot ns ++ rest))
           (subst (λ (q : ℕ). Stretch ((front ++ (slot n ∷ [])) ++ (map slot ns ++ rest)) (length front + 1) ns q) places
-          (subst (λ (p : ℕ). Stretch ((front ++ (slot n ∷ [])) ++ (map slot ns ++ rest)) p ns (length (front ++ (slot n ∷ [])) + length ns)) longer more)),
+          (subst (λ (p : ℕ). Stretch ((front ++ (slot n ∷ [])) ++ (map slot ns ++ rest)) p ns
+          (length (front ++ (slot n ∷ [])) + length ns)) longer more)),
     )
 
 -- the record of a list of at most 64 nodes holds it from place 0 on
@@ -93,7 +98,8 @@ record-stretch ps ns h =
     subst (Stretch (map slot ns ++ replicate (64 - length ns) (slot True)) 0 ns) e (laid [] ns (replicate (64 - length ns) (slot True)) h′)
 
 -- so the formula stands there
-pub record-stands : (ps : List Bool) (ns : List Node) (f : Formula) → length ns ≤ 64 → ns ≡ formulaNodes f → FormulaAt (recordOf ps ns .nodes) 0 f (length ns)
+pub record-stands : (ps : List Bool) (ns : List Node) (f : Formula) → length ns ≤ 64 → ns ≡ formulaNodes f
+    → FormulaAt (recordOf ps ns .nodes) 0 f (length ns)
 record-stands ps ns f h e =
     formula-stands (recordOf ps ns .nodes) f 0 (length ns)
     (subst (λ (l : List Node). Stretch (recordOf ps ns .nodes) 0 l (length ns)) e (record-stretch ps ns h))

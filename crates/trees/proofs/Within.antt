@@ -14,7 +14,7 @@ use Rattle.meaning.specs.Meaning.{denominator}
 use Rattle.meaning.specs.Size.{size, largeSize, largeCross, exceeds, exceedsIn, exceedsFrom}
 use Rattle.meaning.proofs.Tests.{or-left, or-right}
 use Rattle.meaning.proofs.Bounds.{size-fits}
-use Rattle.trees.specs.Listed.{relationOf, formulaNodes, expressionNodes, pathNodes}
+use Rattle.trees.specs.Listed.{relationSpelled, formulaNodes, expressionNodes, pathNodes}
 use Rattle.trees.specs.Need.{needFrom}
 use Rattle.trees.specs.Ranged.{Ranged, RangedIn, RangedFrom}
 use Rattle.trees.proofs.Needs.{seven, needFrom-allowed}
@@ -63,12 +63,15 @@ module _ (n D : ℕ) where
   PassesFrom w = Known (RangedFrom n w) (exceedsFrom w D n) (pathNodes w) → denominator w D n ≤ 2 ^ 62 → All (pathsFrom w)
 
   two-formulas : (m : Node) (f g : Formula) → Passes f → Passes g →
-      Known (Ranged n f × Ranged n g) (exceeds f D n || exceeds g D n) (m ∷ (formulaNodes f ++ formulaNodes g)) → All (pathsOf f ++ pathsOf g)
-  two-formulas m f g first second h = pair (exceeds f D n) (exceeds g D n) m (formulaNodes f) (formulaNodes g) (pathsOf f) (pathsOf g) h first second
+      Known (Ranged n f × Ranged n g) (exceeds f D n || exceeds g D n) (m ∷ (formulaNodes f ++ formulaNodes g))
+      → All (pathsOf f ++ pathsOf g)
+  two-formulas m f g first second h =
+      pair (exceeds f D n) (exceeds g D n) m (formulaNodes f) (formulaNodes g) (pathsOf f) (pathsOf g) h first second
 
   -- with a test of the size rule on both
   two-expressions : (m : Node) (a b : Expression) (y : Bool) → PassesIn a → PassesIn b →
-      Known (RangedIn n a × RangedIn n b) (exceedsIn a D n || exceedsIn b D n || y) (m ∷ (expressionNodes a ++ expressionNodes b)) → All (pathsIn a ++ pathsIn b)
+      Known (RangedIn n a × RangedIn n b) (exceedsIn a D n || exceedsIn b D n || y) (m ∷ (expressionNodes a ++ expressionNodes b))
+      → All (pathsIn a ++ pathsIn b)
   two-expressions m a b y first second h =
       let x = exceedsIn a D n || exceedsIn b D n in
       pair (exceedsIn a D n) (exceedsIn b D n) m (expressionNodes a) (expressionNodes b) (pathsIn a) (pathsIn b)
@@ -86,21 +89,26 @@ module _ (n D : ℕ) where
     formula-within (negation f) = λ h. formula-within f (h .0, h .1, omega (arith, h .2))
     formula-within (both f g) = two-formulas And f g (formula-within f) (formula-within g)
     formula-within (compare r a b) =
-        two-expressions (Compare (relationOf r)) a b (largeCross (size a D n) (size b D n)) (expression-within a) (expression-within b)
+        two-expressions (Compare (relationSpelled r)) a b (largeCross (size a D n) (size b D n)) (expression-within a) (expression-within b)
 
     expression-within : (a : Expression) → PassesIn a
     expression-within (probability w) =
-        λ h. path-within w (h .0, or-left (exceedsFrom w D n) (largeSize (size (probability w) D n)) (h .1), omega (arith, h .2)) (size-fits (probability w) D n (h .1) .0)
+        λ h. path-within w (h .0, or-left (exceedsFrom w D n) (largeSize (size (probability w) D n)) (h .1), omega (arith, h .2))
+        (size-fits (probability w) D n (h .1) .0)
     expression-within (constant a b) = λ h. tt
     expression-within (sum a b) = two-expressions Sum a b (largeSize (size (sum a b) D n)) (expression-within a) (expression-within b)
-    expression-within (difference a b) = two-expressions Difference a b (largeSize (size (difference a b) D n)) (expression-within a) (expression-within b)
-    expression-within (product a b) = two-expressions Product a b (largeSize (size (product a b) D n)) (expression-within a) (expression-within b)
+    expression-within (difference a b) =
+        two-expressions Difference a b (largeSize (size (difference a b) D n)) (expression-within a) (expression-within b)
+    expression-within (product a b) =
+        two-expressions Product a b (largeSize (size (product a b) D n)) (expression-within a) (expression-within b)
 
     path-within : (w : PathFormula) → PassesFrom w
     path-within (next f) = λ h s. (own (next f) h s, formula-within f (h .0, h .1, omega (arith, h .2)))
-    path-within (until k1 k2 f g) = λ h s. (own (until k1 k2 f g) h s, two-formulas (Until k1 k2) f g (formula-within f) (formula-within g) (h .0 .2, h .1, h .2))
+    path-within (until k1 k2 f g) =
+        λ h s. (own (until k1 k2 f g) h s, two-formulas (Until k1 k2) f g (formula-within f) (formula-within g) (h .0 .2, h .1, h .2))
 
   -- the k-th path formula of a formula of at most 64 nodes
-  pub path-inherits : (f : Formula) → Ranged n f → exceeds f D n ≡ false → length (formulaNodes f) ≤ 64 → (k : ℕ) (d : PathFormula) → k < length (pathsOf f) →
+  pub path-inherits : (f : Formula) → Ranged n f → exceeds f D n ≡ false → length (formulaNodes f) ≤ 64 → (k : ℕ) (d : PathFormula)
+      → k < length (pathsOf f) →
       Inherits n D (getD (pathsOf f) k d)
   path-inherits f r e h k d l = at (pathsOf f) (formula-within f (r, e, h)) k d l

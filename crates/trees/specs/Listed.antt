@@ -3,25 +3,26 @@ use mathlib.Core.List.{List, [], _∷_, _++_}
 use Rattle.sentence.specs.declared.Relation.the-variants.{Less, AtMost, Equal, AtLeast, Greater}
 use Rattle.sentence.specs.declared.Relation as Spelled
 use Rattle.sentence.specs.declared.Node.{Node}
-use Rattle.sentence.specs.declared.Node.the-variants.{True, Label, Not, And, Compare, Probability, Constant, Sum, Difference, Product, Next, Until}
+use Rattle.sentence.specs.declared.Node.the-variants.{True, Label, Not, And, Compare, Probability, Constant, Sum, Difference, Product, Next}
+use Rattle.sentence.specs.declared.Node.the-variants.{Until}
 use Rattle.meaning.specs.Tree.{Relation, less, atMost, equal, atLeast, greater, Formula, always, labelled, negation, both, compare}
 use Rattle.meaning.specs.Tree.{Expression, probability, constant, sum, difference, product, PathFormula, next, until}
 
 -- the relation of a comparison's node
-abbrev pub relationOf : Relation → Spelled.Relation
-relationOf less = Less
-relationOf atMost = AtMost
-relationOf equal = Equal
-relationOf atLeast = AtLeast
-relationOf greater = Greater
+abbrev pub relationSpelled : Relation → Spelled.Relation
+relationSpelled less = Less
+relationSpelled atMost = AtMost
+relationSpelled equal = Equal
+relationSpelled atLeast = AtLeast
+relationSpelled greater = Greater
 
 -- and the comparison of a node's relation
-abbrev pub unspelled : Spelled.Relation → Relation
-unspelled Less = less
-unspelled AtMost = atMost
-unspelled Equal = equal
-unspelled AtLeast = atLeast
-unspelled Greater = greater
+abbrev pub relationRead : Spelled.Relation → Relation
+relationRead Less = less
+relationRead AtMost = atMost
+relationRead Equal = equal
+relationRead AtLeast = atLeast
+relationRead Greater = greater
 
 -- one node for each state formula, expression and path, the node of the whole before those of its parts
 unfoldable mutual
@@ -31,7 +32,7 @@ unfoldable mutual
   formulaNodes (labelled l i) = Label l i ∷ []
   formulaNodes (negation f) = Not ∷ formulaNodes f
   formulaNodes (both f g) = And ∷ (formulaNodes f ++ formulaNodes g)
-  formulaNodes (compare r a b) = Compare (relationOf r) ∷ (expressionNodes a ++ expressionNodes b)
+  formulaNodes (compare r a b) = Compare (relationSpelled r) ∷ (expressionNodes a ++ expressionNodes b)
 
   -- those of an expression
   pub expressionNodes : Expression → List Node

@@ -7,11 +7,12 @@ use mathlib.Core.Path.{_≡_}
 use lib.ListN.{getD}
 use Rattle.sentence.specs.declared.Slot.{Slot}
 use Rattle.sentence.specs.declared.Node.{Node}
-use Rattle.sentence.specs.declared.Node.the-variants.{True, Label, Not, And, Compare, Probability, Constant, Sum, Difference, Product, Next, Until}
+use Rattle.sentence.specs.declared.Node.the-variants.{True, Label, Not, And, Compare, Probability, Constant, Sum, Difference, Product, Next}
+use Rattle.sentence.specs.declared.Node.the-variants.{Until}
 use Rattle.sentence.specs.Record.{slot}
 use Rattle.meaning.specs.Tree.{Relation, Formula, always, labelled, negation, both, compare, PathFormula, next, until}
 use Rattle.meaning.specs.Tree.{Expression, probability, constant, sum, difference, product}
-use Rattle.trees.specs.Listed.{relationOf}
+use Rattle.trees.specs.Listed.{relationSpelled}
 
 -- the node at a place of the record
 abbrev pub nodeAt : List Slot → ℕ → Node
@@ -26,7 +27,7 @@ mutual
     negation-at : {p q : ℕ} {f : Formula} → p < 64 → nodeAt slots p ≡ Not → FormulaAt slots (p + 1) f q → FormulaAt slots p (negation f) q
     both-at : {p q r : ℕ} {f g : Formula} → p < 64 → nodeAt slots p ≡ And → FormulaAt slots (p + 1) f q → FormulaAt slots q g r →
         FormulaAt slots p (both f g) r
-    compare-at : {p q r : ℕ} {e : Relation} {a b : Expression} → p < 64 → nodeAt slots p ≡ Compare (relationOf e) →
+    compare-at : {p q r : ℕ} {e : Relation} {a b : Expression} → p < 64 → nodeAt slots p ≡ Compare (relationSpelled e) →
         ExpressionAt slots (p + 1) a q → ExpressionAt slots q b r → FormulaAt slots p (compare e a b) r
 
   -- so does the expression

@@ -2,25 +2,28 @@
 use Prim.Native.Nat.{ℕ, zero, suc, _%_, _≤_, _<_}
 use mathlib.Core.Bool.{Bool, true, false, _&&_}
 use mathlib.Core.List.{List}
-use mathlib.Core.Path.{_≡_, refl, subst}
+use mathlib.Core.Path.{_≡_, refl, sym, ap, subst, _∙_}
+use native.Mathlib.Nat.{le-of-eq}
 use native.Mathlib.Omega.{arith}
 use borrow.Author.Tests.{lt-leb}
 use lib.Dec.{leb, eqb}
 use lib.ListN.{length, take}
-use Rattle.refusal.specs.Rows.{Decided, refused}
-use Rattle.model.specs.Rows.{lengthRight, fileNumber}
+use Rattle.refusal.specs.Rows.{Decided, by-row}
+use Rattle.model.specs.Rules.{lengthRight}
+use Rattle.model.specs.Contract.{fileNumber}
 use Rattle.model.proofs.Answer.{number-2}
 use Rattle.sentence_reader.specs.Contract.{long}
-use Rattle.question.specs.Rows.{QuestionRow, area, model, sentence, labels, size, tuples}
+use Rattle.question.specs.Contract.{QuestionRow, area, model, sentence, labels, size, tuples, areaSize}
 use Rattle.question.proofs.Numbers.{text-number}
 use Rattle.question.proofs.Stages.{none-of-file}
 use Rattle.question.proofs.Early.{gives-file}
 use Rattle.verdict.specs.declared.Answer.{Answer}
 use Rattle.verdict.specs.declared.Answer.the-variants.{Refused}
-use Rattle.verdict.specs.Calls.{VerdictAnswer}
+use Rattle.verdict.specs.Contract.{VerdictEnsures}
 use Rattle.verdict.proofs.Answering.{refused-so}
 use Rattle.verdict.proofs.Single.{one-verdict}
-use Rattle.twolsken.specs.Texts.{withoutNewline}
+use Rattle.lines.specs.Texts.{withoutNewline}
+use Rattle.twolsken.specs.Contract.{AnswersFiles, AnswersBuffers}
 use Rattle.twolsken.proofs.Enough.{Alike, same, over, model-enough, text-enough}
 
 -- a conjunction whose last part fails
@@ -29,18 +32,19 @@ last-fails true true c e = e
 last-fails true false c e = refl
 last-fails false b c e = refl
 
-module _ {room : ℕ} (space : 8192 ≤ room) where
+module _ {room : ℕ} (space : areaSize ≤ room) where
   -- a model file of over 3,072 bytes is refused 2, whatever the text
   over-model : (file text : List ℕ) → 3072 < length file → Decided (QuestionRow file text room) 2
   unfolding lengthRight
   over-model file text h =
       gives-file space
-      (number-2 file (last-fails (eqb (length file % 512) 0) (leb 512 (length file)) (leb (length file) 3072) (lt-leb (length file) 3072 h)))
+      (number-2 file (last-fails (eqb (length file % 512) 0) (leb 512 (length file)) (leb (length file) 3072)
+      (lt-leb (length file) 3072 h)))
       (omega arith)
 
   -- a text of over 400 bytes is refused 6, unless the model is refused
   over-text : (file text : List ℕ) → fileNumber file ≡ 0 → 400 < length text → Decided (QuestionRow file text room) 6
-  over-text file text free h = refused (sentence (long h)) from
+  over-text file text free h = by-row (sentence (long h)) from
     where
       from : (k : ℕ) → QuestionRow file text room k → 6 ≤ k
       from k (area e) = absurd (omega arith)
@@ -61,24 +65,47 @@ module _ {room : ℕ} (space : 8192 ≤ room) where
 
 -- two questions that give the same number have the same answer
 alike : {file text file′ text′ before after : List ℕ} {r : Answer} {n : ℕ} → 0 < n → Decided (QuestionRow file text (length before)) n →
-    Decided (QuestionRow file′ text′ (length before)) n → VerdictAnswer file text before r after → VerdictAnswer file′ text′ before r after
+    Decided (QuestionRow file′ text′ (length before)) n → VerdictEnsures file text before r after →
+    VerdictEnsures file′ text′ before r after
 alike {file′ = file′} {text′} {before} {after} {r} {n} some d d′ a =
     let one = one-verdict (refused-so d some) a in
-    subst (λ (x : Answer). VerdictAnswer file′ text′ before x after) (one .0)
-    (subst (λ (l : List ℕ). VerdictAnswer file′ text′ before (Refused n) l) (one .1) (refused-so d′ some))
+    subst (λ (x : Answer). VerdictEnsures file′ text′ before x after) (one .0)
+    (subst (λ (l : List ℕ). VerdictEnsures file′ text′ before (Refused n) l) (one .1) (refused-so d′ some))
 
 -- the answer on the first bytes is the answer on the whole files
-pub any-size : (file said : List ℕ) {before after : List ℕ} {r : Answer} → 8192 ≤ length before →
-    VerdictAnswer (take 3073 file) (withoutNewline (take 402 said)) before r after → VerdictAnswer file (withoutNewline said) before r after
+pub any-size : (file said : List ℕ) {before after : List ℕ} {r : Answer} → areaSize ≤ length before →
+    VerdictEnsures (take 3073 file) (withoutNewline (take 402 said)) before r after →
+    VerdictEnsures file (withoutNewline said) before r after
 any-size file said {before} {after} {r} space = by (model-enough file) (text-enough said)
   where
     by : Alike 3072 (take 3073 file) file → Alike 400 (withoutNewline (take 402 said)) (withoutNewline said) →
-        VerdictAnswer (take 3073 file) (withoutNewline (take 402 said)) before r after → VerdictAnswer file (withoutNewline said) before r after
-    by (over g h) t a = alike (omega arith) (over-model space (take 3073 file) (withoutNewline (take 402 said)) g) (over-model space file (withoutNewline said) h) a
+        VerdictEnsures (take 3073 file) (withoutNewline (take 402 said)) before r after →
+        VerdictEnsures file (withoutNewline said) before r after
+    by (over g h) t a = alike (omega arith) (over-model space (take 3073 file) (withoutNewline (take 402 said)) g)
+        (over-model space file (withoutNewline said) h) a
     by (same e) (same f) a =
-        subst (λ (x : List ℕ). VerdictAnswer x (withoutNewline said) before r after) e
-        (subst (λ (x : List ℕ). VerdictAnswer (take 3073 file) x before r after) f a)
+        subst (λ (x : List ℕ). VerdictEnsures x (withoutNewline said) before r after) e
+        (subst (λ (x : List ℕ). VerdictEnsures (take 3073 file) x before r after) f a)
     by (same e) (over g h) a =
-        let b = subst (λ (x : List ℕ). VerdictAnswer x (withoutNewline (take 402 said)) before r after) e a in
+        let b = subst (λ (x : List ℕ). VerdictEnsures x (withoutNewline (take 402 said)) before r after) e a in
         let n = both-over space file (withoutNewline (take 402 said)) (withoutNewline said) g h in
         alike (n .1) (n .2) (n .3) b
+
+-- so the answer on what stands in the buffers is the answer on the whole files, where the buffers have that many bytes
+pub buffers-so : {model sentence : List ℕ} {m s : ℕ} {r : Answer} → length model ≡ 3073 → length sentence ≡ 402 →
+    AnswersFiles (take m model) (take s sentence) r → AnswersBuffers model m sentence s r
+buffers-so {model} {sentence} {m} {s} {r} whole-model whole-text own = record {
+  each = λ file said first second.
+      let model-first : take m model ≡ take 3073 file = first ∙ ap (λ (k : ℕ). take k file) whole-model in
+      let text-first : take s sentence ≡ take 402 said = second ∙ ap (λ (k : ℕ). take k said) whole-text in
+      record {
+        before = own .before;
+        after = own .after;
+        enough = own .enough;
+        answer =
+            any-size file said (le-of-eq (sym (own .enough)))
+            (subst (λ (x : List ℕ). VerdictEnsures x (withoutNewline (take 402 said)) (own .before) r (own .after)) model-first
+            (subst (λ (x : List ℕ). VerdictEnsures (take m model) (withoutNewline x) (own .before) r (own .after)) text-first
+            (own .answer)));
+      };
+}

@@ -12,7 +12,7 @@ use lib.Dec.{leb, eqb}
 use lib.ListN.{length, getD, take}
 use lib.Seq.{take-all, length-take-le}
 use Rattle.numerals.proofs.Numbers.{Tested, holds, fails, tested}
-use Rattle.twolsken.specs.Texts.{withoutNewline}
+use Rattle.lines.specs.Texts.{withoutNewline}
 
 -- two byte strings are equal, or both are over the limit
 pub data Alike (limit : ℕ) (a b : List ℕ) : Type 0 where

@@ -5,7 +5,7 @@ use mathlib.Core.Path.{_≡_, sym, subst}
 use lib.ListN.{length}
 use lib.Seq.{length-take-le}
 use Rattle.io.specs.Counts.{Counts}
-use Rattle.twolsken.specs.Reads.{AtFront}
+use Rattle.twolsken.specs.Working.{AtFront}
 use Rattle.twolsken.specs.declared.file.Contents.{Contents}
 use Rattle.twolsken.specs.declared.file.Contents.the-variants.{Bytes}
 

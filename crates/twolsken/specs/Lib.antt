@@ -1,4 +1,3 @@
--- The program's line, and the text in its file.
-pub mod Lines
-pub mod Texts
-pub mod Reads
+-- The program's contract, and what its functions promise one another.
+pub mod Contract
+pub mod Working

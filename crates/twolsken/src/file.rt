@@ -1,5 +1,5 @@
 // Reading a file by its name.
-ghost use Rattle.twolsken.specs.Reads.{AtFront};
+ghost use Rattle.twolsken.specs.Working.{AtFront};
 
 // What a file is: so many bytes, at the front of a buffer; or it cannot be read.
 pub enum Contents {

@@ -9,28 +9,29 @@ use Rattle.refusal.specs.Rows.{Decided}
 use Rattle.refusal.proofs.Ensuring.{refused-as}
 use Rattle.model.specs.declared.Model.{Model}
 use Rattle.model.specs.declared.ModelRead as Loaded
-use Rattle.model.specs.Rows.{Reads}
+use Rattle.model.specs.Contract.{ReadModelEnsures}
 use Rattle.sentence_reader.specs.declared.SentenceRead as Parsed
 use Rattle.sentence_reader.specs.Contract.{ReadSentenceEnsures}
 use Rattle.meaning.specs.Tree.{letterOf}
 use Rattle.meaning.specs.Meaning.{verdict}
 use Rattle.chain.specs.Of.{chainOf}
-use Rattle.question.specs.Rows.{QuestionRow, cleared}
+use Rattle.question.specs.Contract.{QuestionRow, cleared, areaSize}
 use Rattle.question.proofs.Settled.{model-of, sentence-of}
 use Rattle.verdict.specs.declared.Answer.{Answer}
 use Rattle.verdict.specs.declared.Answer.the-variants.{Refused}
-use Rattle.verdict.specs.Calls.{replyOf, VerdictAnswer}
+use Rattle.verdict.specs.Contract.{verdictReply, VerdictEnsures}
 use Rattle.verdict.specs.Working.{Judged}
 
 -- a refusal with the number that the rows give
 pub refused-so : {file text before : List ℕ} {n : ℕ} → Decided (QuestionRow file text (length before)) n → 0 < n →
-    VerdictAnswer file text before (Refused n) before
+    VerdictEnsures file text before (Refused n) before
 refused-so number some = record { ensured = refused-as number some refl refl }
 
 -- the verdict, where no row applies
 pub answered-so : {file text before after : List ℕ} {m : Loaded.ModelRead} {s : Parsed.SentenceRead} {t : Bool} {r : Answer} →
-    ((k : ℕ) → QuestionRow file text (length before) k → ⊥) → Reads file m → ReadSentenceEnsures text s → Judged (m .model) (s .sentence) t →
-    replyOf r ≡ gives t → after ≡ cleared 8192 before → VerdictAnswer file text before r after
+    ((k : ℕ) → QuestionRow file text (length before) k → ⊥) → ReadModelEnsures file m → ReadSentenceEnsures text s
+    → Judged (m .model) (s .sentence) t →
+    verdictReply r ≡ gives t → after ≡ cleared areaSize before → VerdictEnsures file text before r after
 answered-so {text = text} none reads said judged e clear =
     let b = sentence-of none said in
     let true-word = ap (λ (x : Model). verdict (chainOf x) (map letterOf (b .prefix)) (b .body)) (model-of none reads .fields) in

@@ -21,13 +21,15 @@ use Rattle.trees.specs.Listed.{formulaNodes}
 use Rattle.trees.specs.Ranged.{Ranged}
 use Rattle.trees.proofs.Needs.{need-seven}
 use Rattle.chain.specs.Of.{chainOf}
-use Rattle.question.specs.Working.{SentenceRead, Ready, SettingOf}
+use Rattle.question.specs.Working.{TextOfSentence, Ready, SettingOf}
 use Rattle.question.proofs.Pair.{nodes-few, stands, one-sentence, letters-length}
 use Rattle.question.proofs.Settled.{body-ranged, sizes, fixed, variables-few, layers-fit}
+use Rattle.question.specs.Contract.{areaSize}
 
-module _ {m : Model} {s : Sentence} {g : Setting} {rows : List (List ℕ)} (r : Ready m s) (so : SettingOf m s g) (e : rows ≡ m .weights .rows) where
+module _ {m : Model} {s : Sentence} {g : Setting} {rows : List (List ℕ)} (r : Ready m s) (so : SettingOf m s g)
+    (e : rows ≡ m .weights .rows) where
   -- the body can be evaluated
-  pub formula-ready : {w : List ℕ} → length w ≡ 8192 → FormulaReady (s .nodes) g (m .masks) rows 0 w
+  pub formula-ready : {w : List ℕ} → length w ≡ areaSize → FormulaReady (s .nodes) g (m .masks) rows 0 w
   formula-ready long =
       let b = r .read .sentence in
       let few = sizes r so .few in
@@ -44,7 +46,7 @@ module _ {m : Model} {s : Sentence} {g : Setting} {rows : List (List ℕ)} (r : 
       }
 
   -- the prefix can be descended
-  pub descent-ready : {w : List ℕ} → length w ≡ 8192 → DescentReady (s .exists) (g .variables) (g .states) 0 0 w
+  pub descent-ready : {w : List ℕ} → length w ≡ areaSize → DescentReady (s .exists) (g .variables) (g .states) 0 0 w
   descent-ready long =
       let size = sizes r so in
       let few = size .few in
@@ -53,12 +55,13 @@ module _ {m : Model} {s : Sentence} {g : Setting} {rows : List (List ℕ)} (r : 
         few = variables-few r so;
         states = size .states;
         upTo = omega arith;
-        room = let p : g .states ^ (g .variables - 0) ≡ g .states ^ g .variables = ap (λ (k : ℕ). g .states ^ k) (omega arith) in omega (arith, few, whole, long, p);
+        room = let p : g .states ^ (g .variables - 0) ≡ g .states ^ g .variables = ap (λ (k : ℕ). g .states ^ k) (omega arith) in
+            omega (arith, few, whole, long, p);
         small = omega (arith, long);
       }
 
   -- the letters of the prefix, as the record has them
-  letters-are : {text : List ℕ} (b : SentenceRead text s) → lettersFrom (s .exists) (g .variables) 0 ≡ map letterOf (b .prefix)
+  letters-are : {text : List ℕ} (b : TextOfSentence text s) → lettersFrom (s .exists) (g .variables) 0 ≡ map letterOf (b .prefix)
   letters-are b =
       ap (λ (k : ℕ). map letterOf (take k (s .exists))) (so .variables) ∙
       ap (λ (x : Sentence). map letterOf (prefixOf x)) (b .fields) ∙
@@ -66,14 +69,15 @@ module _ {m : Model} {s : Sentence} {g : Setting} {rows : List (List ℕ)} (r : 
 
   -- the descent over the body's layer decides the sentence
   pub judged-so : {after : List ℕ} {next : ℕ} {t : Bool} → FormulaDone (s .nodes) g (m .masks) rows 0 after next →
-      t ≡ descended (g .states) (lettersFrom (s .exists) (g .variables) 0) 0 after → {text : List ℕ} (b : SentenceRead text s) →
+      t ≡ descended (g .states) (lettersFrom (s .exists) (g .variables) 0) 0 after → {text : List ℕ} (b : TextOfSentence text s) →
       t ≡ verdict (chainOf m) (map letterOf (b .prefix)) (b .body)
   unfolding verdict
   judged-so {after} done h b =
       let c = chainOf m in
       let same = one-sentence b (r .read .sentence) in
       let fits = ap₂ (λ (f : Formula) (k : ℕ). exceeds f (m .d) k) (same .1) (so .variables) ∙ r .small in
-      let long : g .variables ≡ length (map letterOf (b .prefix)) = so .variables ∙ letters-length b ∙ sym (length-map (b .prefix) letterOf) in
+      let long : g .variables ≡ length (map letterOf (b .prefix)) = so .variables ∙ letters-length b ∙
+      sym (length-map (b .prefix) letterOf) in
       let layer = done .each c (b .body) _ (fixed r so e) (stands b) fits .1 in
       h ∙
       ap₂ (λ (n : ℕ) (ls : List Letter). descended n ls 0 after) (so .states) (letters-are b) ∙

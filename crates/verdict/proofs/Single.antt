@@ -5,21 +5,21 @@ use mathlib.Core.List.{List, map}
 use mathlib.Core.Path.{_≡_, refl, sym, ap, ap₂, _∙_}
 use native.Mathlib.Omega.{arith}
 use Rattle.refusal.specs.Answers.{numberIn}
-use Rattle.refusal.specs.Rows.{Decided, refused, accepted}
+use Rattle.refusal.specs.Rows.{Decided, by-row, by-none}
 use Rattle.refusal.proofs.Ensuring.{one-result, number-decided}
 use Rattle.model.specs.Layout.{fieldsOf}
 use Rattle.meaning.specs.Tree.{Formula, letterOf}
 use Rattle.meaning.specs.Meaning.{verdict}
 use Rattle.trees.proofs.Once.{sentence-once}
 use Rattle.chain.specs.Of.{chainOf}
-use Rattle.question.specs.Rows.{QuestionRow}
+use Rattle.question.specs.Contract.{QuestionRow}
 use Rattle.question.proofs.Numbers.{row-few}
 use Rattle.verdict.specs.declared.Answer.{Answer}
 use Rattle.verdict.specs.declared.Answer.the-variants.{Holds, Fails, Refused}
-use Rattle.verdict.specs.Calls.{replyOf, Judges, VerdictAnswer}
+use Rattle.verdict.specs.Contract.{verdictReply, Judges, VerdictEnsures}
 
 -- a reply tells its answer
-pub reply-told : (a b : Answer) → replyOf a ≡ replyOf b → a ≡ b
+pub reply-told : (a b : Answer) → verdictReply a ≡ verdictReply b → a ≡ b
 reply-told Holds Holds e = refl
 reply-told Holds Fails e = absurd (true≢false (cc e))
 reply-told Holds (Refused n) e = let z : _≡_ {A = ℕ} 0 1 = cc in absurd (omega arith)
@@ -39,16 +39,16 @@ one-right {file} v v′ l l′ j j′ =
     (j .meant ∙ same ∙ sym (j′ .meant), j .left ∙ sym (j′ .left))
 
 -- any two results that the contract allows are equal
-pub one-verdict : {file text before after after′ : List ℕ} {a b : Answer} → VerdictAnswer file text before a after →
-    VerdictAnswer file text before b after′ → (a ≡ b) × (after ≡ after′)
+pub one-verdict : {file text before after after′ : List ℕ} {a b : Answer} → VerdictEnsures file text before a after →
+    VerdictEnsures file text before b after′ → (a ≡ b) × (after ≡ after′)
 one-verdict {a = a} {b} x y =
     let one = one-result one-right (x .ensured) (y .ensured) in
     (reply-told a b (one .0), one .1)
 
 -- a refusal's number is 11 or less
-pub number-few : {file text before after : List ℕ} {a : Answer} → VerdictAnswer file text before a after → numberIn (replyOf a) ≤ 11
+pub number-few : {file text before after : List ℕ} {a : Answer} → VerdictEnsures file text before a after → numberIn (verdictReply a) ≤ 11
 number-few {file} {text} {before} x = by (number-decided (x .ensured))
   where
     by : {room n : ℕ} → Decided (QuestionRow file text room) n → n ≤ 11
-    by (refused row least) = row-few row
-    by (accepted none) = omega arith
+    by (by-row row least) = row-few row
+    by (by-none none) = omega arith

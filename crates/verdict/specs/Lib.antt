@@ -1,3 +1,3 @@
 -- Verdict: what it answers.
-pub mod Calls
+pub mod Contract
 pub mod Working

@@ -1,4 +1,4 @@
--- What the parts of the call promise one another. None of it has to be believed.
+-- Working: what the functions of this crate promise one another. Nothing here has to be believed.
 use Prim.Native.Nat.{ℕ}
 use mathlib.Core.Bool.{Bool}
 use mathlib.Core.List.{List, map}
@@ -8,8 +8,8 @@ use Rattle.sentence.specs.declared.Sentence.{Sentence}
 use Rattle.meaning.specs.Tree.{letterOf}
 use Rattle.meaning.specs.Meaning.{verdict}
 use Rattle.chain.specs.Of.{chainOf}
-use Rattle.question.specs.Working.{SentenceRead}
+use Rattle.question.specs.Working.{TextOfSentence}
 
 -- the verdict, of whatever text the sentence is read from
 pub record Judged (m : Model) (s : Sentence) (r : Bool) : Type 0 where
-  pub each : (text : List ℕ) (b : SentenceRead text s) → r ≡ verdict (chainOf m) (map letterOf (b .prefix)) (b .body)
+  pub each : (text : List ℕ) (b : TextOfSentence text s) → r ≡ verdict (chainOf m) (map letterOf (b .prefix)) (b .body)

@@ -2,8 +2,9 @@
 ghost use mathlib.Core.Path.{_≡_};
 ghost use lib.ListN.{length};
 ghost use Rattle.refusal.specs.Answers.{gives};
+ghost use Rattle.question.specs.Contract.{areaSize};
 ghost use Rattle.question.specs.Working.{Ready};
-ghost use Rattle.verdict.specs.Calls.{replyOf, VerdictAnswer};
+ghost use Rattle.verdict.specs.Contract.{verdictReply, VerdictEnsures};
 ghost use Rattle.verdict.specs.Working.{Judged};
 use descent::holds_from;
 use evaluate::nodes::state_formula;
@@ -11,6 +12,7 @@ use layers::plain::zero;
 use model::Model;
 use model::matrix;
 use model::reader::read_model;
+use question::AREA;
 use question::first_number;
 use question::setting_of;
 use sentence::Sentence;
@@ -25,7 +27,7 @@ pub enum Answer {
 
 // Whether the sentence holds on the model: the body's truth at every tuple, in the first layers of the area, then the descent.
 fn judged(m: Model, s: Sentence, area: &mut [u64]) -> bool
-    requires { ⌜ Ready m s × (length (now area) ≡ 8192) ⌝ }
+    requires { ⌜ Ready m s × (length (now area) ≡ areaSize) ⌝ }
     ensures { λ r. ⌜ Judged m s r ⌝ }
 {
     let g = setting_of(m, s);
@@ -39,14 +41,14 @@ fn judged(m: Model, s: Sentence, area: &mut [u64]) -> bool
 
 // The document's word for a sentence that holds, or does not.
 fn answer_of(holds: bool) -> Answer
-    ensures { λ r. ⌜ replyOf r ≡ gives holds ⌝ }
+    ensures { λ r. ⌜ verdictReply r ≡ gives holds ⌝ }
 {
     if holds { Answer::Holds } else { Answer::Fails }
 }
 
 // Verdict: whether the sentence holds on the model, or the smallest number of a row that applies.
 pub fn verdict(file: &[u8], text: &[u8], work: &mut [u64]) -> Answer
-    ensures { λ r. ⌜ VerdictAnswer (now (file .entry)) (now (text .entry)) (now (work .entry)) r (now (work .exit)) ⌝ }
+    ensures { λ r. ⌜ VerdictEnsures (now (file .entry)) (now (text .entry)) (now (work .entry)) r (now (work .exit)) ⌝ }
 {
     let read = read_model(file);
     let said = read_sentence(text);
@@ -56,7 +58,7 @@ pub fn verdict(file: &[u8], text: &[u8], work: &mut [u64]) -> Answer
     }
     let model = read.model;
     let sentence = said.sentence;
-    let holds = judged(model, sentence, &mut work[..8192]);
-    zero(8192, work);
+    let holds = judged(model, sentence, &mut work[..AREA]);
+    zero(AREA, work);
     answer_of(holds)
 }

@@ -1,7 +1,7 @@
 //! The document's examples on both sides, with the numbers that it gives.
 
 use super::{agree, shown_text, Library, Models, Questions};
-use crate::gen::model::file_of;
+use crate::inputs::model::file_of;
 use crate::second::meaning::WORK;
 use crate::second::model::examples::{m1, m2};
 use crate::second::Model;
@@ -9,13 +9,8 @@ use crate::second::Model;
 /// Runs every line of 'Examples on both sides' and compares with the numbers of
 /// the document itself.
 pub fn compare_examples<L: Library>(lib: &L) {
-    compare_model_examples(lib);
-    compare_question_examples(lib);
+    model_lines(lib);
     merge_lines(lib);
-}
-
-/// The lines that verdict and numerator answer.
-pub fn compare_question_examples<L: Questions>(lib: &L) {
     numerator_lines(lib);
     verdict_lines(lib);
     limit_lines(lib);
@@ -23,16 +18,16 @@ pub fn compare_question_examples<L: Questions>(lib: &L) {
 }
 
 /// A model of n states that each stay where they are, with one label.
-fn still(n: u8, d: u32) -> Model {
+fn still(n: u32, d: u32) -> Model {
     let mut model = Model { n, a: 1, d, ..Model::empty() };
-    for s in 0..usize::from(n) {
+    for s in 0..n as usize {
         model.weights[s][s] = d as u16;
     }
     model
 }
 
 /// M1 and its checks.
-pub fn compare_model_examples<L: Models>(lib: &L) {
+fn model_lines<L: Models>(lib: &L) {
     let mut out = [0; 1_024];
     assert_eq!(lib.write_model(&m1(), &mut out), Ok(1_024));
     assert_eq!(out[..12], [1, 2, 1, 0, 4, 0, 0, 0, 0, 0, 1, 0]);

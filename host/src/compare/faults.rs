@@ -3,7 +3,7 @@
 //! comparison of its area, or the comparison shows nothing.
 
 use super::*;
-use crate::gen::extreme::Kind;
+use crate::inputs::extreme::Kind;
 use crate::second::meaning::Way;
 use crate::second::sentence::{read_sentence, spelled, Node, Relation};
 use std::panic::{catch_unwind, AssertUnwindSafe};
@@ -37,6 +37,7 @@ enum Fault {
     // Reading and writing.
     CheckModuloOnly,
     RowSumInTwoBytes,
+    StatesInOneByte,
     TrailingByteAllowed,
     // Lent memory.
     WorkNotZero,
@@ -250,7 +251,11 @@ impl Models for Faulty {
     }
 
     fn write_model(&self, model: &Model, out: &mut [u8]) -> Result<usize, u8> {
-        let answer = second::write_model(model, out);
+        let mut model = model.clone();
+        if self.has(Fault::StatesInOneByte) {
+            model.n %= 256;
+        }
+        let answer = second::write_model(&model, out);
         self.leave(&answer, out, answer.unwrap_or(0), 1);
         answer
     }
@@ -320,7 +325,7 @@ impl Merges for Faulty {
         if let (Ok(mut model), Fault::MasksNotCompared, Err(13)) = (second::read_model(file), self.0, answer)
         {
             model.masks = [0; 32];
-            answer = second::merge(&crate::gen::model::file_of(&model), grouping, out);
+            answer = second::merge(&crate::inputs::model::file_of(&model), grouping, out);
         }
         self.leave(&answer, out, answer.unwrap_or(0), 1);
         answer
@@ -406,6 +411,7 @@ fn faults_are_found_by_merges_readers_and_writers() {
         found(fault, |lib| compare_model_reader(lib, 5_000, 11));
     }
     found(TrailingByteAllowed, |lib| compare_sentence_reader(lib, 5_000, 12));
+    found(StatesInOneByte, |lib| compare_model_writer(lib, 5_000, 13));
     for fault in [OutputOnRefusal, OutputBeyond] {
         found(fault, |lib| compare_model_writer(lib, 5_000, 13));
         found(fault, |lib| compare_sentence_writer(lib, 5_000, 14));

@@ -1,9 +1,9 @@
 //! Verdicts and numerators.
 
 use super::{agree, shown_file, shown_text, work_after, work_area, Questions, Tally};
-use crate::gen::extreme::{self, Kind};
-use crate::gen::question::{self, Pair};
-use crate::gen::Rng;
+use crate::inputs::extreme::{self, Kind};
+use crate::inputs::question::{self, Pair};
+use crate::inputs::Rng;
 use crate::second;
 use crate::second::meaning::{answer, Answer, Way, WORK};
 use crate::second::{read_model, read_sentence};
@@ -167,7 +167,7 @@ fn expected_of(rng: &mut Rng, asked: &Asked) -> Result<(u64, u64), u8> {
 
 /// Any tuple, path number and work area, most of them wrong in one thing.
 fn odd_case<L: Questions>(lib: &L, rng: &mut Rng, tally: &mut Tally, pair: &Pair) {
-    let states = read_model(&pair.file).map_or(3, |model| usize::from(model.n));
+    let states = read_model(&pair.file).map_or(3, |model| model.n as usize);
     let letters = read_sentence(&pair.text).map_or(2, |sentence| sentence.letters);
     let mut tuple: Vec<u8> = (0..letters).map(|_| rng.below(states) as u8).collect();
     let mut path = rng.pick(&[0, 0, 0, 1, 2]);

@@ -2,8 +2,8 @@
 
 use super::meaning::members;
 use super::{agree, output, output_after, shown_file, shown_text, Merges, Questions, Tally};
-use crate::gen::grouping::{self, Merging};
-use crate::gen::{question, Rng};
+use crate::inputs::grouping::{self, Merging};
+use crate::inputs::{question, Rng};
 use crate::second::meaning::{answer, Answer, Way, WORK};
 use crate::second::{self, read_model};
 
@@ -118,7 +118,7 @@ impl Both<'_> {
 fn both<'a>(rng: &mut Rng, merging: &'a Merging, small: &'a [u8]) -> Both<'a> {
     let full = read_model(&merging.file).expect("a model that was merged");
     let most = rng.pick(&[36, 36, 100, 256]);
-    let fits = |&letters: &usize| usize::from(full.n).pow(letters as u32) <= most;
+    let fits = |&letters: &usize| (full.n as usize).pow(letters as u32) <= most;
     let letters = (1..=rng.between(1, 4)).rev().find(fits).unwrap_or(1);
     let size = rng.between(3, 16);
     let text = question::fitting_sentence(rng, &full, letters, size).text();

@@ -1,7 +1,7 @@
 //! The model reader and the model writer.
 
 use super::{agree, output, output_after, shown_file, Models, Tally};
-use crate::gen::{model, Rng};
+use crate::inputs::{model, Rng};
 use crate::second::model::{blocks_of, mend};
 use crate::second::{self, Model};
 
@@ -85,7 +85,7 @@ pub(super) fn any_write<L: Models>(lib: &L, rng: &mut Rng, tally: &mut Tally) {
 /// One record: written, and if accepted read again.
 fn writer_case<L: Models>(lib: &L, rng: &mut Rng, tally: &mut Tally, record: &Model) {
     let shown = || format!("  record {record:?}\n");
-    let exact = 512 * blocks_of(usize::from(record.n).min(32));
+    let exact = 512 * blocks_of((record.n as usize).min(32));
     let length = match rng.below(8) {
         0 => rng.pick(&[0, 1, 511, 512, exact - 1, exact - 512]),
         1 => exact + rng.between(1, 1_000),

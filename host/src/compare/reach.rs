@@ -1,6 +1,6 @@
 //! What the answered cases of an area had, so that a generator that stops reaching something is noticed.
 
-use crate::gen::question::Pair;
+use crate::inputs::question::Pair;
 use crate::second::{read_sentence, Node};
 
 /// Counts of answered cases that had something.

@@ -1,7 +1,7 @@
 //! The sentence reader and the sentence writer.
 
 use super::{agree, output, output_after, shown_text, Sentences, Tally};
-use crate::gen::{sentence, Rng};
+use crate::inputs::{sentence, Rng};
 use crate::second::sentence::{LETTERS, NODES};
 use crate::second::{self, Node, Sentence};
 

@@ -1,9 +1,9 @@
 //! The two ways of the second program, with each other: runs listed one by one, and a table over the window.
 
 use super::{agree, shown_text, Tally};
-use crate::gen::model::file_of;
-use crate::gen::question::{chain, fitting_sentence};
-use crate::gen::Rng;
+use crate::inputs::model::file_of;
+use crate::inputs::question::{chain, fitting_sentence};
+use crate::inputs::Rng;
 use crate::second::meaning::{answer, Way};
 use crate::second::{read_sentence, Model, Node};
 

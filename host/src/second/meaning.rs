@@ -74,7 +74,7 @@ pub fn numerator(
         return Err(1);
     }
     let question = Question::of(file, text)?;
-    let n_states = usize::from(question.model.n);
+    let n_states = question.model.n as usize;
     if tuple.len() != question.sentence.letters || tuple.iter().any(|&s| usize::from(s) >= n_states) {
         return Err(15);
     }
@@ -267,9 +267,9 @@ fn power(d: u32, exponent: usize) -> Option<u128> {
 }
 
 /// Whether some label letter of a sentence is not below A.
-fn names_a_label_beyond(sentence: &Sentence, a: u8) -> bool {
+fn names_a_label_beyond(sentence: &Sentence, a: u32) -> bool {
     let list = &sentence.nodes[..sentence.count];
-    list.iter().any(|node| matches!(node, Node::Label { label, .. } if *label >= a))
+    list.iter().any(|node| matches!(node, Node::Label { label, .. } if u32::from(*label) >= a))
 }
 
 /// A model and a sentence that no row from 2 to 11 refuses.
@@ -296,7 +296,7 @@ impl Question {
         if too_large(&sentence, model.d) {
             return Err(10);
         }
-        let tuples = usize::from(model.n).pow(sentence.letters as u32);
+        let tuples = (model.n as usize).pow(sentence.letters as u32);
         if tuples > TUPLES {
             return Err(11);
         }
@@ -322,7 +322,7 @@ impl Question {
         let Some((&first, inner)) = exists.split_first() else {
             return truth[0];
         };
-        let mut parts = truth.chunks(truth.len() / usize::from(self.model.n));
+        let mut parts = truth.chunks(truth.len() / self.model.n as usize);
         if first {
             parts.any(|part| self.prefix(inner, part))
         } else {
@@ -332,7 +332,7 @@ impl Question {
 
     /// The state of a variable, 1 for the first, in a tuple.
     fn member(&self, tuple: usize, variable: usize) -> usize {
-        let n_states = usize::from(self.model.n);
+        let n_states = self.model.n as usize;
         tuple / n_states.pow((self.sentence.letters - variable) as u32) % n_states
     }
 
@@ -456,7 +456,7 @@ impl Question {
     /// One step back, one variable at a time: at each tuple, the sum over all
     /// tuples of the joint weight to it times its value.
     fn step(&self, mut values: Vec<u64>) -> Vec<u64> {
-        let n_states = usize::from(self.model.n);
+        let n_states = self.model.n as usize;
         let mut stride = 1;
         for _ in 0..self.sentence.letters {
             let mut stepped = vec![0; values.len()];
@@ -550,9 +550,9 @@ mod tests {
     }
 
     /// A model of n states, each of which stays where it is.
-    fn still(n: u8, d: u32) -> Model {
+    fn still(n: u32, d: u32) -> Model {
         let mut model = Model { n, a: 1, d, ..Model::empty() };
-        for s in 0..usize::from(n) {
+        for s in 0..n as usize {
             model.weights[s][s] = d as u16;
         }
         model

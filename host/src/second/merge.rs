@@ -17,7 +17,7 @@ pub fn merge(file: &[u8], grouping: &[u8], out: &mut [u8]) -> Result<usize, u8> 
 /// The members of each group, if there is one number a state and the numbers
 /// are exactly 0..M−1, each used.
 fn groups_of(model: &Model, grouping: &[u8]) -> Option<Vec<Vec<usize>>> {
-    if grouping.len() != usize::from(model.n) {
+    if grouping.len() != model.n as usize {
         return None;
     }
     let last = usize::from(*grouping.iter().max()?);
@@ -44,7 +44,7 @@ fn alike(model: &Model, groups: &[Vec<usize>], members: &[usize]) -> bool {
 
 /// The merged model: each group with its members' mask and a member's total weights.
 fn merged(model: &Model, groups: &[Vec<usize>]) -> Model {
-    let mut small = Model { n: groups.len() as u8, a: model.a, d: model.d, ..Model::empty() };
+    let mut small = Model { n: groups.len() as u32, a: model.a, d: model.d, ..Model::empty() };
     for (g, members) in groups.iter().enumerate() {
         small.masks[g] = model.masks[members[0]];
         for (h, group) in groups.iter().enumerate() {

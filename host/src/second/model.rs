@@ -12,9 +12,9 @@ pub const STATES_A_BLOCK: usize = 7;
 #[derive(Clone, Debug, PartialEq, Eq)]
 pub struct Model {
     /// N, the number of states.
-    pub n: u8,
+    pub n: u32,
     /// A, the number of labels.
-    pub a: u8,
+    pub a: u32,
     /// D, to which the weights of every state add up.
     pub d: u32,
     /// The label mask of each state: bit l for label l.
@@ -96,8 +96,8 @@ fn fields(file: &[u8]) -> Option<Model> {
         return None;
     }
     let mut model = Model::empty();
-    model.n = file[1];
-    model.a = file[2];
+    model.n = file[1].into();
+    model.a = file[2].into();
     model.d = u32::from_le_bytes([file[4], file[5], file[6], file[7]]);
     for s in 0..n {
         model.masks[s] = number(file, 8 + 2 * s);
@@ -111,8 +111,8 @@ fn fields(file: &[u8]) -> Option<Model> {
 /// Whether a record keeps to the layout: N, A and D in range, no mask bit from
 /// A on, nothing but zero in masks, rows and columns from N on.
 fn in_layout(model: &Model) -> bool {
-    let n = usize::from(model.n);
-    let a = u32::from(model.a);
+    let n = model.n as usize;
+    let a = model.a;
     (1..=32).contains(&n)
         && (1..=16).contains(&a)
         && (1..=65_535).contains(&model.d)
@@ -123,17 +123,17 @@ fn in_layout(model: &Model) -> bool {
 
 /// Whether every state's weights add up to D.
 fn rows_add_up(model: &Model) -> bool {
-    let states = &model.weights[..usize::from(model.n)];
+    let states = &model.weights[..(model.n as usize)];
     states.iter().all(|row| row.iter().map(|&weight| u32::from(weight)).sum::<u32>() == model.d)
 }
 
 /// The file of a record of the layout, block by block, each with its check.
 fn spelled(model: &Model) -> Vec<u8> {
-    let n = usize::from(model.n);
+    let n = model.n as usize;
     let mut file = vec![0; BLOCK * blocks_of(n)];
     file[0] = 1;
-    file[1] = model.n;
-    file[2] = model.a;
+    file[1] = model.n as u8;
+    file[2] = model.a as u8;
     file[4..8].copy_from_slice(&model.d.to_le_bytes());
     for (i, block) in file.chunks_mut(BLOCK).enumerate().skip(1) {
         block[0] = 2;

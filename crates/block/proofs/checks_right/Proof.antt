@@ -6,14 +6,14 @@ use lib.ListN.{length}
 use borrow.Author.Tests.{not-true, not-false}
 use mathlib.Core.Bool.{true}
 use mathlib.Core.Path.{_≡_, sym, _∙_}
-use Rattle.counting.specs.Below.{every}
+use Rattle.counting.specs.Below.{everyBelow}
 use Rattle.counting.proofs.Laws.{every-none, every-more, every-but}
 use Rattle.block.specs.Block.{byteOf, checkRight}
 use Rattle.block.proofs.checks_right.Statement.{statement}
 use Rattle.block.proofs.checks_right.Tie as tie
 
 abbrev Inv-loop : tie.InvT-loop
-Inv-loop file blocks i₀ i = (i ≤ blocks) × (every i (λ k. checkRight (byteOf file k)) ≡ true)
+Inv-loop file blocks i₀ i = (i ≤ blocks) × (everyBelow i (λ k. checkRight (byteOf file k)) ≡ true)
 
 abbrev μ-loop : tie.MeasureT-loop
 μ-loop file blocks i₀ i = blocks - i
@@ -23,10 +23,14 @@ loop-holds c = (search needs, every-none _)
 
 returns : tie.Need-returns Inv-loop μ-loop
 returns c =
-    sym (every-but _ _ (c .before .before .before .loop .i) (omega arith) (sym (c .before .check-right .ensures) ∙ not-true _ (c .if1 .taken)))
+    sym (every-but _ _ (c .before .before .before .loop .i) (omega arith)
+    (sym (c .before .check-right .ensures) ∙ not-true _ (c .if1 .taken)))
 
 loop-again : tie.Need-loop-again Inv-loop μ-loop
-loop-again c = (search needs, every-more _ _ (c .before .before .before .loop .inv .1) (sym (c .before .check-right .ensures) ∙ not-false _ (c .if1 .left)))
+loop-again c = (
+  search needs,
+  every-more _ _ (c .before .before .before .loop .inv .1) (sym (c .before .check-right .ensures) ∙ not-false _ (c .if1 .left)),
+)
 
 returns-2 : tie.Need-returns-2 Inv-loop μ-loop
 returns-2 c =

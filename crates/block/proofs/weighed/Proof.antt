@@ -3,14 +3,14 @@ use borrow.Author.Needs.{needs}
 use Prim.Native.Nat.{_+_, _*_, _-_, _≤_}
 use mathlib.Core.Path.{_≡_, sym}
 use native.Mathlib.Omega.{arith}
-use Rattle.counting.specs.Below.{sum}
+use Rattle.counting.specs.Below.{sumBelow}
 use Rattle.counting.proofs.Laws.{sum-none, sum-more}
 use Rattle.block.specs.Block.{byteOf}
 use Rattle.block.proofs.weighed.Statement.{statement}
 use Rattle.block.proofs.weighed.Tie as tie
 
 abbrev Inv-loop : tie.InvT-loop
-Inv-loop file block total₀ i₀ total i = (i ≤ 510) × (total ≡ sum i (λ j. (j + 1) * byteOf file block j)) × (total ≤ 130050 * i)
+Inv-loop file block total₀ i₀ total i = (i ≤ 510) × (total ≡ sumBelow i (λ j. (j + 1) * byteOf file block j)) × (total ≤ 130050 * i)
 
 abbrev μ-loop : tie.MeasureT-loop
 μ-loop file block total₀ i₀ total i = 510 - i
@@ -19,7 +19,13 @@ loop-holds : tie.Need-loop-holds Inv-loop μ-loop
 loop-holds c = (search needs, sym (sum-none _), search needs)
 
 loop-again : tie.Need-loop-again Inv-loop μ-loop
-loop-again c = (search needs, cc (sum-more (c .before .before .before .loop .i) (λ j. (j + 1) * byteOf (c .before .before .before .before .before .args .file .now) (c .before .before .before .before .before .args .block) j)), search needs)
+loop-again c = (
+  search needs,
+  cc (sum-more (c .before .before .before .loop .i)
+      (λ j. (j + 1) * byteOf (c .before .before .before .before .before .args .file .now)
+      (c .before .before .before .before .before .args .block) j)),
+  search needs,
+)
 
 returns : tie.Need-returns Inv-loop μ-loop
 returns c =

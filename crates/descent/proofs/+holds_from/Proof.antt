@@ -13,7 +13,8 @@ use Rattle.meaning.specs.Lists.{below}
 use Rattle.meaning.specs.Meaning.{ranges}
 use Rattle.meaning.specs.Tree.{letterOf}
 use Rattle.descent.specs.Descent.{descended, lettersFrom}
-use Rattle.descent.proofs.Laws.{decided, undecided, letters-more, letters-none, descended-none, descended-more, room-more, place-inside, place-more}
+use Rattle.descent.proofs.Laws.{decided, undecided, letters-more, letters-none, descended-none, descended-more}
+use Rattle.descent.proofs.Laws.{room-more, place-inside, place-more}
 use borrow.Fn.Kinds.{In}
 use borrow.Fn.PlainCycle.{Measures, is, falls, and}
 use Rattle.descent.proofs.holds_from.Reads as holds-from
@@ -46,50 +47,63 @@ abbrev holds-from-claims : ℕ → holds-from-lts.Claims
 holds-from-claims t = (met-at-reads.Asked, met-at-reads.Learnt, holds-from-below t, holds-from.Post)
 
 -- there are four flags
-flags-room : (t : ℕ) (c : holds-from-lts.Start (holds-from-claims t) (holds-from-at t) holds-from.Post holds-from-Inv-loop holds-from-μ-loop) →
+flags-room : (t : ℕ) (c : holds-from-lts.Start (holds-from-claims t) (holds-from-at t) holds-from.Post
+    holds-from-Inv-loop holds-from-μ-loop) →
     c .args .count ≤ length (c .args .t1)
 flags-room t c =
     omega arith
 
 -- what the call says, of the letter's range
-tested : (t : ℕ) (c : holds-from-lts.Start (holds-from-claims t) (holds-from-at t) holds-from.Post holds-from-Inv-loop holds-from-μ-loop) → (e : Bool) →
+tested : (t : ℕ) (c : holds-from-lts.Start (holds-from-claims t) (holds-from-at t) holds-from.Post holds-from-Inv-loop
+    holds-from-μ-loop) → (e : Bool) →
     e ≡ getD (c .args .t1) (c .args .i) false → c .args .i < c .args .count →
-    ranges (letterOf e) (λ s. descended (c .args .states) (lettersFrom (c .args .t1) (c .args .count) (c .args .i + 1)) (c .args .base * c .args .states + s) (c .args .layer .now)) (below (c .args .states)) ≡
+    ranges (letterOf e) (λ s. descended (c .args .states) (lettersFrom (c .args .t1) (c .args .count) (c .args .i + 1))
+    (c .args .base * c .args .states + s) (c .args .layer .now)) (below (c .args .states)) ≡
     descended (c .args .states) (lettersFrom (c .args .t1) (c .args .count) (c .args .i)) (c .args .base) (c .args .layer .now)
 tested t c e q l =
     let a = c .args in
-    ap (λ (b : Bool). ranges (letterOf b) (λ s. descended (a .states) (lettersFrom (a .t1) (a .count) (a .i + 1)) (a .base * a .states + s) (a .layer .now)) (below (a .states))) q ∙
+    ap (λ (b : Bool). ranges (letterOf b) (λ s. descended (a .states) (lettersFrom (a .t1) (a .count) (a .i + 1))
+    (a .base * a .states + s) (a .layer .now)) (below (a .states))) q ∙
     sym (descended-more (a .states) (a .base) _ _ _ (a .layer .now) (letters-more (a .t1) (a .count) (a .i) l (flags-room t c)))
 
-holds-from-met-at-requires : (t : ℕ) → holds-from-lts.Need-met-at-requires (holds-from-claims t) (holds-from-at t) holds-from.Post holds-from-Inv-loop holds-from-μ-loop
-holds-from-met-at-requires t c κs = place-inside (c .before .before .args .states) (c .before .before .args .i) (c .before .before .args .count) (c .before .before .args .base) _ (c .if1 .taken) (c .before .before .pre .1 .room)
+holds-from-met-at-requires : (t : ℕ) → holds-from-lts.Need-met-at-requires (holds-from-claims t) (holds-from-at t)
+    holds-from.Post holds-from-Inv-loop holds-from-μ-loop
+holds-from-met-at-requires t c κs = place-inside (c .before .before .args .states) (c .before .before .args .i)
+    (c .before .before .args .count) (c .before .before .args .base) _ (c .if1 .taken) (c .before .before .pre .1 .room)
 
-holds-from-returns : (t : ℕ) → holds-from-lts.Need-returns (holds-from-claims t) (holds-from-at t) holds-from.Post holds-from-Inv-loop holds-from-μ-loop
+holds-from-returns : (t : ℕ) → holds-from-lts.Need-returns (holds-from-claims t) (holds-from-at t) holds-from.Post
+    holds-from-Inv-loop holds-from-μ-loop
 holds-from-returns t c =
     let a = c .before .before .before .args in
     c .met-at .ensures ∙
     sym (descended-none (a .states) (a .base) (lettersFrom (a .t1) (a .count) (a .i)) (a .layer .now)
     (letters-none (a .t1) (a .count) (a .i) (c .before .if1 .taken) (flags-room t (c .before .before .before))))
 
-holds-from-loop-holds : (t : ℕ) → holds-from-lts.Need-loop-holds (holds-from-claims t) (holds-from-at t) holds-from.Post holds-from-Inv-loop holds-from-μ-loop
+holds-from-loop-holds : (t : ℕ) → holds-from-lts.Need-loop-holds (holds-from-claims t) (holds-from-at t) holds-from.Post
+    holds-from-Inv-loop holds-from-μ-loop
 holds-from-loop-holds t c = (omega arith, refl, λ k l. absurd (omega arith))
 
 -- the place of the next states lies in the layer
-place-small : (t : ℕ) (c : holds-from-lts.In-loop (holds-from-claims t) (holds-from-at t) holds-from.Post holds-from-Inv-loop holds-from-μ-loop) →
+place-small : (t : ℕ) (c : holds-from-lts.In-loop (holds-from-claims t) (holds-from-at t) holds-from.Post
+    holds-from-Inv-loop holds-from-μ-loop) →
     let a = c .before .before .before .before .args in
     a .base * a .states + c .before .loop .s < length (a .layer .now)
 place-small t c =
     let start = c .before .before .before .before in
     let a = start .args in
-    place-more (a .states) (a .i) (a .count) (a .base) (c .before .loop .s) (length (a .layer .now)) (c .before .before .if1 .left) (c .loop-test .taken) (start .pre .1 .room)
+    place-more (a .states) (a .i) (a .count) (a .base) (c .before .loop .s) (length (a .layer .now))
+    (c .before .before .if1 .left) (c .loop-test .taken) (start .pre .1 .room)
 
-holds-from-mul-holds-from : (t : ℕ) → holds-from-lts.Need-mul-holds-from (holds-from-claims t) (holds-from-at t) holds-from.Post holds-from-Inv-loop holds-from-μ-loop
+holds-from-mul-holds-from : (t : ℕ) → holds-from-lts.Need-mul-holds-from (holds-from-claims t) (holds-from-at t)
+    holds-from.Post holds-from-Inv-loop holds-from-μ-loop
 holds-from-mul-holds-from t c = omega (arith, place-small t c, c .before .before .before .before .pre .1 .small)
 
-holds-from-add-holds-from-2 : (t : ℕ) → holds-from-lts.Need-add-holds-from-2 (holds-from-claims t) (holds-from-at t) holds-from.Post holds-from-Inv-loop holds-from-μ-loop
+holds-from-add-holds-from-2 : (t : ℕ) → holds-from-lts.Need-add-holds-from-2 (holds-from-claims t) (holds-from-at t)
+    holds-from.Post holds-from-Inv-loop holds-from-μ-loop
 holds-from-add-holds-from-2 t c = omega (arith, place-small t c, c .before .before .before .before .pre .1 .small)
 
-holds-from-holds-from-requires : (t : ℕ) → holds-from-lts.Need-holds-from-requires (holds-from-claims t) (holds-from-at t) holds-from.Post holds-from-Inv-loop holds-from-μ-loop
+holds-from-holds-from-requires : (t : ℕ) → holds-from-lts.Need-holds-from-requires (holds-from-claims t)
+    (holds-from-at t) holds-from.Post holds-from-Inv-loop holds-from-μ-loop
 holds-from-holds-from-requires t c κs =
     let a = c .before .before .before .before .args in
     let p = c .before .before .before .before .pre .1 in (
@@ -103,7 +117,8 @@ holds-from-holds-from-requires t c κs =
       },
     )
 
-holds-from-returns-2 : (t : ℕ) → holds-from-lts.Need-returns-2 (holds-from-claims t) (holds-from-at t) holds-from.Post holds-from-Inv-loop holds-from-μ-loop
+holds-from-returns-2 : (t : ℕ) → holds-from-lts.Need-returns-2 (holds-from-claims t) (holds-from-at t) holds-from.Post
+    holds-from-Inv-loop holds-from-μ-loop
 holds-from-returns-2 t c =
     let h = c .before .before in
     let l = h .before .before in
@@ -111,30 +126,36 @@ holds-from-returns-2 t c =
     sym (decided true _ (start .args .states) (l .loop .s) (h .before .loop-test .taken) (sym (h .holds-from .ensures) ∙ c .if3 .taken)) ∙
     tested t start true (sym (c .before .if2 .taken) ∙ l .loop .inv .1) (l .before .if1 .left)
 
-holds-from-returns-3 : (t : ℕ) → holds-from-lts.Need-returns-3 (holds-from-claims t) (holds-from-at t) holds-from.Post holds-from-Inv-loop holds-from-μ-loop
+holds-from-returns-3 : (t : ℕ) → holds-from-lts.Need-returns-3 (holds-from-claims t) (holds-from-at t) holds-from.Post
+    holds-from-Inv-loop holds-from-μ-loop
 holds-from-returns-3 t c =
     let h = c .before .before in
     let l = h .before .before in
     let start = l .before .before .before in
-    sym (decided false _ (start .args .states) (l .loop .s) (h .before .loop-test .taken) (sym (h .holds-from .ensures) ∙ not-true _ (c .if4 .taken))) ∙
+    sym (decided false _ (start .args .states) (l .loop .s) (h .before .loop-test .taken)
+    (sym (h .holds-from .ensures) ∙ not-true _ (c .if4 .taken))) ∙
     tested t start false (sym (c .before .if2 .left) ∙ l .loop .inv .1) (l .before .if1 .left)
 
 -- the state of this turn does not decide
-missed : (t : ℕ) (c : holds-from-lts.Joined2 (holds-from-claims t) (holds-from-at t) holds-from.Post holds-from-Inv-loop holds-from-μ-loop) →
+missed : (t : ℕ) (c : holds-from-lts.Joined2 (holds-from-claims t) (holds-from-at t) holds-from.Post holds-from-Inv-loop
+    holds-from-μ-loop) →
     let l = c .before .before .before in
     let a = l .before .before .before .args in
-    descended (a .states) (lettersFrom (a .t1) (a .count) (a .i + 1)) (a .base * a .states + l .loop .s) (a .layer .now) ≡ not (getD (a .t1) (a .i) false)
+    descended (a .states) (lettersFrom (a .t1) (a .count) (a .i + 1)) (a .base * a .states + l .loop .s)
+    (a .layer .now) ≡ not (getD (a .t1) (a .i) false)
 missed t c =
     sym (c .before .holds-from .ensures) ∙
     ⊎-elim (λ w. w .1 .left ∙ sym (ap not (w .0 .taken))) (λ w. not-false _ (w .1 .left) ∙ sym (ap not (w .0 .left))) (c .if2 .came)
 
-holds-from-loop-again : (t : ℕ) → holds-from-lts.Need-loop-again (holds-from-claims t) (holds-from-at t) holds-from.Post holds-from-Inv-loop holds-from-μ-loop
+holds-from-loop-again : (t : ℕ) → holds-from-lts.Need-loop-again (holds-from-claims t) (holds-from-at t) holds-from.Post
+    holds-from-Inv-loop holds-from-μ-loop
 holds-from-loop-again t c =
     let h = c .before in
     let l = h .before .before in
     (omega arith, l .loop .inv .1, below-more _ _ (l .loop .inv .2) (missed t c))
 
-holds-from-returns-4 : (t : ℕ) → holds-from-lts.Need-returns-4 (holds-from-claims t) (holds-from-at t) holds-from.Post holds-from-Inv-loop holds-from-μ-loop
+holds-from-returns-4 : (t : ℕ) → holds-from-lts.Need-returns-4 (holds-from-claims t) (holds-from-at t) holds-from.Post
+    holds-from-Inv-loop holds-from-μ-loop
 holds-from-returns-4 t c =
     let l = c .before in
     let start = l .before .before .before in

@@ -3,7 +3,7 @@ use borrow.Author.Needs.{needs}
 use mathlib.Core.Path.{ap, sym, _∙_}
 use Rattle.refusal.specs.Answers.{numberIn, replyOf}
 use Rattle.refusal.proofs.Ensuring.{filled-given, filled-refused}
-use Rattle.exports.specs.Records.{headOf}
+use Rattle.exports.specs.Models.{headOf}
 use Rattle.exports.proofs.twolsken_read_model.Statement.{statement}
 use Rattle.exports.proofs.twolsken_read_model.Tie as tie
 
@@ -23,7 +23,7 @@ returns c =
 
 returns-2 : tie.Need-returns-2
 returns-2 c =
-    let told = c .before .before .before .before .before .before in
+    let told = c .before .before .before .before in
     let read = told .before .before .read-model in
     let m = read .result .model in
     let e = ap replyOf (told .enum-told .given .1) in
@@ -41,8 +41,6 @@ twolsken-read-model-spec =
     tie.close
     (tie.spec
     (λ c κs. search needs)
-    (λ c. search needs)
-    (λ c. search needs)
     (λ c. search needs)
     (λ c. search needs)
     (λ c. search needs)

@@ -3,8 +3,7 @@ use borrow.Author.Needs.{needs}
 use Prim.Native.Nat.{ℕ}
 use mathlib.Core.List.{List}
 use mathlib.Core.Path.{subst}
-use Rattle.model.specs.Layout.{modelOf}
-use Rattle.exports.specs.Records.{WritesModel}
+use Rattle.exports.specs.Models.{modelOfParts, ExportedWriteModel}
 use Rattle.exports.proofs.twolsken_write_model.Statement.{statement}
 use Rattle.exports.proofs.twolsken_write_model.Tie as tie
 
@@ -12,11 +11,21 @@ use Rattle.exports.proofs.twolsken_write_model.Tie as tie
 returns : tie.Need-returns
 returns c =
     let w = c .before .before .before in
-    let a = w .before .before .before .before .before .before .args in
-    subst (λ (rows : List (List ℕ)). WritesModel (modelOf (a .n) (a .a) (a .d) (a .masks .now) rows) (a .out .now) (w .write-model .last .1 .0) (c .written-code .result))
+    let a = w .before .before .before .before .before .before .before .before .before .args in
+    subst (λ (rows : List (List ℕ)). ExportedWriteModel (modelOfParts (a .head .now) (a .masks .now) rows) (a .out .now)
+    (w .write-model .last .1 .0) (c .written-code .result))
     (w .before .before .holding .ensures)
     (record { answer = w .write-model .result; ensures = w .write-model .ensures; coded = c .written-code .ensures })
 
 pub twolsken-write-model-spec : {M : Type 1} → statement M
 twolsken-write-model-spec =
-    tie.close (tie.spec (λ c κs. search needs) (λ c κs. search needs) (λ c κs. search needs) (λ c. search needs) returns)
+    tie.close
+    (tie.spec
+    (λ c. search needs)
+    (λ c. search needs)
+    (λ c. search needs)
+    (λ c κs. search needs)
+    (λ c κs. search needs)
+    (λ c κs. search needs)
+    (λ c. search needs)
+    returns)

@@ -2,7 +2,7 @@
 use borrow.Author.Needs.{needs}
 use mathlib.Core.Path.{_∙_}
 use Rattle.meaning.specs.Meaning.{related, compared}
-use Rattle.fractions.specs.Operations.{relationOf}
+use Rattle.fractions.specs.Operations.{meantRelation}
 use Rattle.fractions.proofs.Operands.{crosses-back}
 use Rattle.fractions.proofs.compare.Statement.{statement}
 use Rattle.fractions.proofs.compare.Tie as tie
@@ -12,7 +12,7 @@ unfolding compared
 returns c =
     let start = c .before .before .before in
     c .relate .ensures ∙
-    crosses-back (related (relationOf (start .args .relation))) (start .pre) (start .fits .a) (start .fits .b)
+    crosses-back (related (meantRelation (start .args .relation))) (start .pre) (start .fits .a) (start .fits .b)
     (c .before .before .cross .ensures) (c .before .cross2 .ensures)
 
 pub compare-spec : {M : Type 1} → statement M

@@ -8,17 +8,17 @@ use mir.Syntax.{w64}
 use mir.Val.{SFits, toZ, ofZ}
 use Rattle.meaning.specs.Meaning.{related}
 use Rattle.fractions.specs.declared.Relation.{Relation}
-use Rattle.fractions.specs.Operations.{relationOf}
+use Rattle.fractions.specs.Operations.{meantRelation}
 use Rattle.fractions.proofs.relate.Statement.{statement}
 use Rattle.fractions.proofs.relate.Tie as tie
 
 -- what the known relation says of two numbers as they are read back, the relation says of them
 as-told : {relation known : Relation} {a b : ℤ} {t : Bool} → relation ≡ known → SFits w64 a → SFits w64 b →
-    t ≡ related (relationOf known) (toZ w64 (ofZ w64 a)) (toZ w64 (ofZ w64 b)) → t ≡ related (relationOf relation) a b
+    t ≡ related (meantRelation known) (toZ w64 (ofZ w64 a)) (toZ w64 (ofZ w64 b)) → t ≡ related (meantRelation relation) a b
 as-told {known = known} {a = a} {b = b} e fits-a fits-b p =
     p ∙
-    ap₂ (related (relationOf known)) (toZ-ofZ fits-a) (toZ-ofZ fits-b) ∙
-    sym (ap (λ r. related (relationOf r) a b) e)
+    ap₂ (related (meantRelation known)) (toZ-ofZ fits-a) (toZ-ofZ fits-b) ∙
+    sym (ap (λ r. related (meantRelation r) a b) e)
 
 returns : tie.Need-returns
 unfolding related

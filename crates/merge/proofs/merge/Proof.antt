@@ -8,11 +8,12 @@ use Rattle.refusal.specs.declared.Written.the-variants.{Refused as Unwritten}
 use Rattle.refusal.proofs.Listed.{writes-refused, rows-changed}
 use Rattle.model.specs.declared.Model.{Model}
 use Rattle.model.specs.Layout.{fieldsOf, fileOf}
-use Rattle.model.specs.Rows.{fieldsRight, rowsRight, fileNumber}
+use Rattle.model.specs.Rules.{fieldsRight, allAddUp}
+use Rattle.model.specs.Contract.{fileNumber}
 use Rattle.model.proofs.Answer.{reads-number, reads-value, reads-refusal}
 use Rattle.chain.proofs.Accepted.{fields-right, rows-right}
 use Rattle.merge.specs.Groups.{mergedModel}
-use Rattle.merge.specs.Rows.{groupRows, mergeNumber, mergedFile}
+use Rattle.merge.specs.Contract.{groupRows, mergeNumber, mergedFile}
 use Rattle.merge.proofs.Numbers.{group-rows, merge-rows, file-refused, file-accepted}
 use Rattle.merge.proofs.merge.Statement.{statement}
 use Rattle.merge.proofs.merge.Tie as tie
@@ -32,7 +33,7 @@ merge-model-requires c κs =
     let e = c .before in
     let file = e .before .before .before .before .before .before .args .file .now in
     let ok = read e in
-    (ap fieldsRight (fields e) ∙ fields-right file ok, ap rowsRight (fields e) ∙ rows-right file ok)
+    (ap fieldsRight (fields e) ∙ fields-right file ok, ap allAddUp (fields e) ∙ rows-right file ok)
 
 returns : tie.Need-returns
 unfolding mergeNumber
@@ -40,7 +41,8 @@ returns c =
     let r = c .before .before .before in
     let a = r .before .before .before .before .args in
     let refusal = reads-refusal (r .read-model .ensures) (c .before .outcome .given .1) in
-    writes-refused (merge-rows (a .file .now) (a .grouping .now) (length (a .out .now))) (mergedFile (a .file .now) (a .grouping .now)) (refusal .0)
+    writes-refused (merge-rows (a .file .now) (a .grouping .now) (length (a .out .now)))
+    (mergedFile (a .file .now) (a .grouping .now)) (refusal .0)
     (file-refused (a .file .now) (a .grouping .now) (length (a .out .now)) (refusal .0) (refusal .1))
     (ap Unwritten (refusal .2)) refl
 
@@ -55,7 +57,8 @@ returns-2 c =
     let room = length (a .out .now) in
     let last = w .merge-model .last .1 .1 .0 in
     let r = w .merge-model .result in
-    rows-changed (group-rows (fieldsOf file) grouping room) (merge-rows file grouping room) (sym (file-accepted file grouping room (read e)))
+    rows-changed (group-rows (fieldsOf file) grouping room) (merge-rows file grouping room)
+    (sym (file-accepted file grouping room (read e)))
     (subst (λ (m : Model). Writes (groupRows m grouping room) (fileOf (mergedModel m grouping)) (a .out .now) last r)
     (fields e) (w .merge-model .ensures))
 

@@ -8,11 +8,11 @@ use mathlib.Core.Path.{_≡_, refl, sym, ap, ap₂, subst, _∙_}
 use native.Mathlib.Omega.{arith}
 use borrow.Author.Tests.{not-true, not-false}
 use lib.ListN.{length, getD}
-use Rattle.counting.specs.Below.{sum, every}
+use Rattle.counting.specs.Below.{sumBelow, everyBelow}
 use Rattle.refusal.specs.Answers.{Writes}
 use Rattle.model.specs.declared.Model.{Model}
 use Rattle.model.specs.Layout.{modelOf, fileOf}
-use Rattle.model.specs.Rows.{recordRows, recordNumber}
+use Rattle.model.specs.Contract.{recordRows, recordNumber}
 use Rattle.model.proofs.Answer.{record-rows}
 use Rattle.model.proofs.Rightness as right
 use Rattle.merge.specs.Groups.{groupOf, groupCount, isUsed, memberOf, groupingRight, groupsAlike, mergedModel}
@@ -25,14 +25,19 @@ use Rattle.refusal.proofs.Listed.{writes-refused, rows-changed}
 use Rattle.merge.proofs.merge_model.Statement.{statement}
 use Rattle.merge.proofs.merge_model.Tie as tie
 
+-- where the function starts, seen from the branch in which the grouping is right
+abbrev start-of : tie.Else1 → tie.Start
+start-of c = c .before .before .before .before .before
+
 -- what the tests say
 grouped : (c : tie.Else1) →
-    let a = c .before .before .before .before .before .args in
+    let a = start-of c .args in
     groupingRight (a .m .n) (a .grouping .now) ≡ true
 grouped c = sym (c .before .grouping-right .ensures) ∙ not-false _ (c .if1 .left)
 
 -- the count and the totals
-counted : (c : tie.After-group-count) → c .group-count .result ≡ groupCount (c .before .before .before .before .before .before .args .grouping .now)
+counted : (c : tie.After-group-count) →
+    c .group-count .result ≡ groupCount (c .before .before .before .before .before .before .args .grouping .now)
 counted c = c .group-count .ensures .0
 
 totalled : (c : tie.After-totals-of) →
@@ -48,12 +53,12 @@ tested : (c : tie.After-states-alike) →
 tested c =
     let t = c .before .before in
     let e = t .before .before .before .before in
-    let start = e .before .before .before .before .before in
+    let start = start-of e in
     let a = start .args in
     c .states-alike .ensures ∙
     ap₂
     (λ (totals : List (List ℕ)) (count : ℕ).
-    every (a .m .n)
+    everyBelow (a .m .n)
     (λ s. pairAlike (a .m .masks) totals count s (memberOf (a .m .n) (a .grouping .now) (groupOf (a .grouping .now) s))))
     (totalled t) (counted (t .before .before .before)) ∙
     alike-built (a .m) (a .grouping .now) (start .pre .0) (grouped e)
@@ -71,14 +76,14 @@ totals-of-requires c κs =
     let a = start .args in (
       right.states-few (a .m) (start .pre .0),
       λ s l.
-          subst (λ (rows : List (List ℕ)). sum (a .m .n) (λ t. getD (getD rows s []) t 0) ≤ 65535) (sym (c .rows-of .ensures))
+          subst (λ (rows : List (List ℕ)). sumBelow (a .m .n) (λ t. getD (getD rows s []) t 0) ≤ 65535) (sym (c .rows-of .ensures))
           (row-small (a .m) (start .pre .0) (start .pre .1) s l),
     )
 
 states-alike-requires : tie.Need-states-alike-requires
 states-alike-requires c κs =
     let e = c .before .before .before .before .before in
-    let start = e .before .before .before .before .before in
+    let start = start-of e in
     let a = start .args in
     let states = right.states-few (a .m) (start .pre .0) in
     let groups = few (a .m) (a .grouping .now) (start .pre .0) (grouped e) in
@@ -88,7 +93,7 @@ states-alike-requires c κs =
 returns-2 : tie.Need-returns-2
 returns-2 c =
     let e = c .before .before .before .before .before .before .before in
-    let a = e .before .before .before .before .before .args in
+    let a = start-of e .args in
     writes-refused (group-rows (a .m) (a .grouping .now) (length (a .out .now))) (fileOf (mergedModel (a .m) (a .grouping .now))) 12
     (groups-13 (a .m) (a .grouping .now) (length (a .out .now)) (grouped e) (sym (tested (c .before)) ∙ not-true _ (c .if2 .taken)))
     refl refl
@@ -96,7 +101,7 @@ returns-2 c =
 model-of-groups-requires : tie.Need-model-of-groups-requires
 model-of-groups-requires c κs =
     let e = c .before .before .before .before .before .before .before .before in
-    let start = e .before .before .before .before .before in
+    let start = start-of e in
     let a = start .args in
     let states = right.states-few (a .m) (start .pre .0) in
     let long = as-long (a .m .n) (a .grouping .now) (grouped e) in
@@ -104,7 +109,7 @@ model-of-groups-requires c κs =
     let count = counted (c .before .before .before .before .before .before .before) in (
       omega arith,
       omega arith,
-      subst (λ (k : ℕ). every k (isUsed (a .grouping .now)) ≡ true) (sym count) (all-used (a .m .n) (a .grouping .now) (grouped e)),
+      subst (λ (k : ℕ). everyBelow k (isUsed (a .grouping .now)) ≡ true) (sym count) (all-used (a .m .n) (a .grouping .now) (grouped e)),
     )
 
 -- what the writer is given
@@ -114,7 +119,7 @@ built : (c : tie.After-model-of-groups) →
 built c =
     let t = c .before .before .before .before .before in
     let e = t .before .before .before .before in
-    let start = e .before .before .before .before .before in
+    let start = start-of e in
     let a = start .args in
     c .model-of-groups .ensures ∙
     ap₂
@@ -130,7 +135,7 @@ returns-3 c =
     let w = c .before .before in
     let g = w .before .before in
     let e = g .before .before .before .before .before .before .before .before .before in
-    let start = e .before .before .before .before .before in
+    let start = start-of e in
     let a = start .args in
     let room = length (a .out .now) in
     let merged = mergedModel (a .m) (a .grouping .now) in

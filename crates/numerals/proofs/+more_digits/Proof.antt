@@ -32,48 +32,66 @@ more-digits-below t =
     and 1 more-digits-kinds.ps (falls 1 more-digits-kinds.ps _<_ μ-more-digits t) more-digits.Pre
 
 abbrev more-digits-claims : ℕ → more-digits-lts.Claims
-more-digits-claims t = (byte-at-reads.Asked, byte-at-reads.Learnt, no-number-reads.Asked, no-number-reads.Learnt, digit-of-reads.Asked, digit-of-reads.Learnt, more-digits-below t, more-digits.Post)
+more-digits-claims t = (
+  byte-at-reads.Asked,
+  byte-at-reads.Learnt,
+  no-number-reads.Asked,
+  no-number-reads.Learnt,
+  digit-of-reads.Asked,
+  digit-of-reads.Learnt,
+  more-digits-below t,
+  more-digits.Post,
+)
 
 more-digits-returns : (t : ℕ) → more-digits-lts.Need-returns (more-digits-claims t) (more-digits-at t) more-digits.Post
 more-digits-returns t c =
     let s = c .before .before .before .before .before .before in
     let b = c .before .before .before .before .byte-at in
     sixth (s .args .text .now) (s .args .at) (s .args .value) (b .result) (s .args .close) (c .no-number .result)
-    (c .before .if3 .taken) (s .pre .1 .1) (s .pre .1 .2) (sym (b .ensures)) (omega (arith, c .before .before .before .if1 .left)) (omega (arith, c .before .before .if2 .taken)) (c .no-number .ensures)
+    (c .before .if3 .taken) (s .pre .1 .1) (s .pre .1 .2) (sym (b .ensures)) (omega (arith, c .before .before .before .if1 .left))
+    (omega (arith, c .before .before .if2 .taken)) (c .no-number .ensures)
 
 more-digits-add-more-digits : (t : ℕ) → more-digits-lts.Need-add-more-digits (more-digits-claims t) (more-digits-at t) more-digits.Post
 more-digits-add-more-digits t c =
     let s = c .before .before .before .before .before in
     let b = c .before .before .before .byte-at in
-    let h : s .args .at < length (s .args .text .now) = inside (s .args .text .now) (s .args .at) (omega (arith, b .ensures, c .before .before .if1 .left)) in
+    let h : s .args .at < length (s .args .text .now) =
+    inside (s .args .text .now) (s .args .at) (omega (arith, b .ensures, c .before .before .if1 .left)) in
     omega (arith, s .good .0 .0)
 
-more-digits-more-digits-requires : (t : ℕ) → more-digits-lts.Need-more-digits-requires (more-digits-claims t) (more-digits-at t) more-digits.Post
+more-digits-more-digits-requires : (t : ℕ)
+    → more-digits-lts.Need-more-digits-requires (more-digits-claims t) (more-digits-at t) more-digits.Post
 more-digits-more-digits-requires t c κs =
     let s = c .before .before .before .before .before .before in
     let b = c .before .before .before .before .byte-at in
-    let h : s .args .at < length (s .args .text .now) = inside (s .args .text .now) (s .args .at) (omega (arith, b .ensures, c .before .before .before .if1 .left)) in
-    (omega (arith, s .pre .0), (omega arith, omega (arith, c .digit-of .ensures, c .before .if3 .left, c .before .before .if2 .taken), s .pre .1 .2, s .pre .1 .3))
+    let h : s .args .at < length (s .args .text .now) =
+    inside (s .args .text .now) (s .args .at) (omega (arith, b .ensures, c .before .before .before .if1 .left)) in (
+      omega (arith, s .pre .0),
+      (omega arith, omega (arith, c .digit-of .ensures, c .before .if3 .left, c .before .before .if2 .taken), s .pre .1 .2, s .pre .1 .3),
+    )
 
 more-digits-add-t14 : (t : ℕ) → more-digits-lts.Need-add-t14 (more-digits-claims t) (more-digits-at t) more-digits.Post
 more-digits-add-t14 t c =
     let s = c .before .before .before .before in
     let b = c .before .before .byte-at in
-    let h : s .args .at < length (s .args .text .now) = inside (s .args .text .now) (s .args .at) (omega (arith, b .ensures, c .if4 .taken, s .pre .1 .3)) in
+    let h : s .args .at < length (s .args .text .now) =
+    inside (s .args .text .now) (s .args .at) (omega (arith, b .ensures, c .if4 .taken, s .pre .1 .3)) in
     omega (arith, s .good .0 .0)
 
 more-digits-returns-2 : (t : ℕ) → more-digits-lts.Need-returns-2 (more-digits-claims t) (more-digits-at t) more-digits.Post
 more-digits-returns-2 t c =
     let s = c .before .before .before .before in
     let b = c .before .before .byte-at in
-    closed (s .args .text .now) (s .args .at) (s .args .value) (s .args .close) (s .pre .1 .1) (sym (b .ensures) ∙ c .if4 .taken) (s .pre .1 .3)
+    closed (s .args .text .now) (s .args .at) (s .args .value) (s .args .close) (s .pre .1 .1) (sym (b .ensures) ∙ c .if4 .taken)
+    (s .pre .1 .3)
 
 more-digits-returns-3 : (t : ℕ) → more-digits-lts.Need-returns-3 (more-digits-claims t) (more-digits-at t) more-digits.Post
 more-digits-returns-3 t c =
     let s = c .before .before .before .before .before .before .before in
     let b = c .before .before .before .before .before .byte-at in
     digit-on (s .args .text .now) (s .args .at) (s .args .value) (b .result) (s .args .close) (c .more-digits .result)
-    (s .pre .1 .0) (c .before .before .if3 .left) (sym (b .ensures)) (omega (arith, c .before .before .before .before .if1 .left)) (omega (arith, c .before .before .before .if2 .taken)) (rw (c .before .digit-of .ensures) at (c .more-digits .ensures))
+    (s .pre .1 .0) (c .before .before .if3 .left) (sym (b .ensures)) (omega (arith, c .before .before .before .before .if1 .left))
+    (omega (arith, c .before .before .before .if2 .taken)) (rw (c .before .digit-of .ensures) at (c .more-digits .ensures))
 
 more-digits-returns-4 : (t : ℕ) → more-digits-lts.Need-returns-4 (more-digits-claims t) (more-digits-at t) more-digits.Post
 more-digits-returns-4 t c =

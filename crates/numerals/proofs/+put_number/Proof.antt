@@ -32,7 +32,8 @@ put-number-below t =
     and 1 put-number-kinds.ps (falls 1 put-number-kinds.ps _<_ μ-put-number t) put-number.Pre
 
 abbrev put-number-claims : ℕ → put-number-lts.Claims
-put-number-claims t = (digit-byte-reads.Asked, digit-byte-reads.Learnt, put-byte-reads.Asked, put-byte-reads.Learnt, put-number-below t, put-number.Post)
+put-number-claims t =
+    (digit-byte-reads.Asked, digit-byte-reads.Learnt, put-byte-reads.Asked, put-byte-reads.Learnt, put-number-below t, put-number.Post)
 
 put-number-put-byte-requires : (t : ℕ) → put-number-lts.Need-put-byte-requires (put-number-claims t) (put-number-at t) put-number.Post
 put-number-put-byte-requires t c κs =
@@ -42,25 +43,37 @@ put-number-put-byte-requires t c κs =
 put-number-returns : (t : ℕ) → put-number-lts.Need-returns (put-number-claims t) (put-number-at t) put-number.Post
 put-number-returns t c =
     let s = c .before .before .before .before .before .before .before in
-    put-as (ap (λ (x : ℕ). x ∷ []) (c .before .before .before .digit-byte .ensures) ∙ sym (one-digit (s .args .n) (c .before .before .before .before .before .if1 .taken))) (c .before .before .put-byte .ensures)
+    put-as (ap (λ (x : ℕ). x ∷ []) (c .before .before .before .digit-byte .ensures)
+    ∙ sym (one-digit (s .args .n) (c .before .before .before .before .before .if1 .taken))) (c .before .before .put-byte .ensures)
 
 put-number-put-number-requires : (t : ℕ) → put-number-lts.Need-put-number-requires (put-number-claims t) (put-number-at t) put-number.Post
 put-number-put-number-requires t c κs =
     let s = c .before .before .before in
-    let n = s .args .n in
-    (omega (arith, s .pre .0, c .before .if1 .left), (omega (arith, s .pre .1 .0), omega (arith, last-length n (c .before .if1 .left) (s .pre .1 .0), s .pre .1 .1)))
+    let n = s .args .n in (
+      omega (arith, s .pre .0, c .before .if1 .left),
+      (omega (arith, s .pre .1 .0), omega (arith, last-length n (c .before .if1 .left) (s .pre .1 .0), s .pre .1 .1)),
+    )
 
 put-number-put-byte-requires-2 : (t : ℕ) → put-number-lts.Need-put-byte-requires-2 (put-number-claims t) (put-number-at t) put-number.Post
 put-number-put-byte-requires-2 t c κs =
     let s = c .before .before .before .before .before .before .before .before in
     let p = c .before .before .before .before .put-number .ensures in
-    omega (arith, p .next, put-length (numberText (s .args .n / 10)) p, last-length (s .args .n) (c .before .before .before .before .before .before .if1 .left) (s .pre .1 .0), s .pre .1 .1)
+    omega (
+      arith,
+      p .next,
+      put-length (numberText (s .args .n / 10)) p,
+      last-length (s .args .n) (c .before .before .before .before .before .before .if1 .left) (s .pre .1 .0),
+      s .pre .1 .1,
+    )
 
 put-number-returns-2 : (t : ℕ) → put-number-lts.Need-returns-2 (put-number-claims t) (put-number-at t) put-number.Post
 put-number-returns-2 t c =
     let s = c .before .before .before .before .before .before .before .before .before .before .before in
-    put-as (ap (λ (x : ℕ). numberText (s .args .n / 10) ++ x ∷ []) (c .before .before .before .digit-byte2 .ensures) ∙ sym (last-digit (s .args .n) (c .before .before .before .before .before .before .before .before .before .if1 .left) (s .pre .1 .0)))
-    (put-then (numberText (s .args .n / 10)) (c .before .before .before .digit-byte2 .result ∷ []) (c .before .before .before .before .before .before .before .put-number .ensures) (c .before .before .put-byte2 .ensures))
+    put-as (ap (λ (x : ℕ). numberText (s .args .n / 10) ++ x ∷ []) (c .before .before .before .digit-byte2 .ensures)
+    ∙ sym (last-digit (s .args .n) (c .before .before .before .before .before .before .before .before .before .if1 .left)
+    (s .pre .1 .0)))
+    (put-then (numberText (s .args .n / 10)) (c .before .before .before .digit-byte2 .result ∷ [])
+    (c .before .before .before .before .before .before .before .put-number .ensures) (c .before .before .put-byte2 .ensures))
 
 pub +put-number-spec : {M : Type 1} → statement M
 +put-number-spec = close μ-put-number λ t. put-number-lts.spec (put-number-claims t)

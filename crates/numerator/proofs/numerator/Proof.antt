@@ -3,14 +3,13 @@ use Prim.Native.Nat.{ℕ}
 use mathlib.Core.Path.{_≡_, sym, _∙_}
 use native.Mathlib.Omega.{arith}
 use borrow.Author.Needs.{needs}
-use borrow.Author.Tests.{not-true, not-false}
 use lib.ListN.{length, take}
 use lib.Seq.{length-take-le}
-use Rattle.question.specs.Rows.{QuestionRow}
+use Rattle.question.specs.Contract.{QuestionRow, areaSize}
 use Rattle.question.proofs.Numbers.{none-of}
 use Rattle.question.proofs.Settled.{space, sentence-of, ready-of}
 use Rattle.question.proofs.Cleared.{back-long, cleared-so}
-use Rattle.numerator.proofs.Asking.{right-parts}
+use Rattle.numerator.proofs.Asking.{right-parts, asks-wrong, asks-so}
 use Rattle.numerator.proofs.Answering.{refused-so, refused-15, answered-so}
 use Rattle.numerator.proofs.numerator.Statement.{statement}
 use Rattle.numerator.proofs.numerator.Tie as tie
@@ -43,14 +42,15 @@ returns-2 c =
     let b = sentence-of (none free) (asked .before .read-sentence .ensures) in
     let work = asked .before .before .before .before .before .before .before .args .work .now in
     refused-15 work (none free) (asked .before .before .read-model .ensures) b
-    (sym (c .before .asks-right .ensures .each _ b) ∙ not-true _ (c .if2 .taken))
+    (asks-wrong (c .before .asks-right .ensures) b (c .if2 .taken))
 
 slice-relend-prefix-counted : tie.Need-slice-relend-prefix-counted
 slice-relend-prefix-counted c = space (none (c .before .before .before .before))
 
--- the area that is lent is 8,192 numbers long
-lent : (c : tie.Else1) → length (take 8192 (c .before .before .before .before .before .before .before .before .args .work .now)) ≡ 8192
-lent c = length-take-le 8192 (c .before .before .before .before .before .before .before .before .args .work .now) (space (none c))
+-- the front of the area that is lent has the numbers that a call uses
+lent : (c : tie.Else1) →
+    length (take areaSize (c .before .before .before .before .before .before .before .before .args .work .now)) ≡ areaSize
+lent c = length-take-le areaSize (c .before .before .before .before .before .before .before .before .args .work .now) (space (none c))
 
 slice-aggregate-counted : tie.Need-slice-aggregate-counted
 slice-aggregate-counted c = sym (lent (c .before .before .before .before .before))
@@ -63,13 +63,13 @@ counted-requires c κs =
     let ready = ready-of (none free) (asked .before .before .read-model .ensures) (asked .before .read-sentence .ensures) in (
       record {
         ready = ready;
-        right = sym (tested .before .asks-right .ensures .each _ (ready .read .sentence)) ∙ not-false _ (tested .if2 .left);
+        right = asks-so (tested .before .asks-right .ensures) (ready .read .sentence) (tested .if2 .left);
       },
       lent free,
     )
 
--- and so it is when it comes back
-back : (c : tie.After-counted) → length (c .counted .last .1 .1 .1 .1 .0) ≡ 8192
+-- its length is unchanged on return
+back : (c : tie.After-counted) → length (c .counted .last .1 .1 .1 .1 .0) ≡ areaSize
 back c = c .counted .kept .1 .1 .1 .1 .0 ∙ lent (c .before .before .before .before .before .before)
 
 zero-requires : tie.Need-zero-requires
@@ -90,7 +90,8 @@ returns-3 c =
     let work = asked .before .before .before .before .before .before .before .args .work .now in
     let b = sentence-of (none free) (asked .before .read-sentence .ensures) in
     answered-so work (none free) (asked .before .before .read-model .ensures) b
-    (right-parts _ _ _ _ _ (sym (tested .before .asks-right .ensures .each _ b) ∙ not-false _ (tested .if2 .left))) (counted .counted .ensures)
+    (right-parts _ _ _ _ _ (asks-so (tested .before .asks-right .ensures) b (tested .if2 .left)))
+    (counted .counted .ensures)
     (cleared-so work (counted .counted .last .1 .1 .1 .1 .0) (space (none free)) (back counted) (c .before .before .zero .ensures))
 
 pub numerator-spec : {M : Type 1} → statement M

@@ -1,14 +1,14 @@
--- `members_below` meets its contract. The invariant: the members passed are states. Assumes nothing.
+-- `members_below` meets its contract. The invariant: the members passed are states.
 use borrow.Author.Tests.{lt-ltb, le-ltb}
 use Prim.Native.Nat.{_-_}
 use native.Mathlib.Omega.{arith}
 use lib.ListN.{length}
-use Rattle.paths.proofs.Members.{Tested, tested-none, tested-next, tested-not, tested-all}
+use Rattle.paths.proofs.Members.{MembersTested, tested-none, tested-next, tested-not, tested-all}
 use Rattle.paths.proofs.members_below.Statement.{statement}
 use Rattle.paths.proofs.members_below.Tie as tie
 
 abbrev Inv-loop : tie.InvT-loop
-Inv-loop tuple states i₀ i = Tested states tuple i
+Inv-loop tuple states i₀ i = MembersTested states tuple i
 
 abbrev μ-loop : tie.MeasureT-loop
 μ-loop tuple states i₀ i = length tuple - i

@@ -1,4 +1,4 @@
--- `path_place` meets its contract. The invariant: the path formula sought is not at the places passed. Assumes nothing.
+-- `path_place` meets its contract. The invariant: the path formula sought is not at the places passed.
 use borrow.Author.Needs.{needs}
 use Prim.Native.Nat.{_-_}
 use mathlib.Core.Logic.{⊎-elim}
@@ -20,7 +20,8 @@ returns : tie.Need-returns Inv-loop μ-loop
 returns c =
     let call = c .before .before in
     let turn = call .before .before in
-    sought-here (turn .before .loop .inv) (turn .loop-test .taken) (sym (call .starts-path .ensures) ∙ c .before .if1 .taken) (c .if2 .taken)
+    sought-here (turn .before .loop .inv) (turn .loop-test .taken)
+    (sym (call .starts-path .ensures) ∙ c .before .if1 .taken) (c .if2 .taken)
 
 loop-again : tie.Need-loop-again Inv-loop μ-loop
 loop-again c =

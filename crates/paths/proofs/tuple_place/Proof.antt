@@ -1,7 +1,8 @@
--- `tuple_place` meets its contract. The invariant: the number of the members passed. Assumes nothing.
-use Prim.Native.Nat.{_-_, _<_}
+-- `tuple_place` meets its contract. The invariant: the number of the members passed.
+use Prim.Native.Nat.{_-_, _^_, _<_}
 use native.Mathlib.Omega.{arith}
 use lib.ListN.{length, getD}
+use Rattle.layers.specs.Held.{mostStates, mostVariables}
 use Rattle.paths.proofs.Members.{Counted, counted-none, counted-next, counted-small, counted-place, product-fits, sum-fits}
 use Rattle.paths.proofs.tuple_place.Statement.{statement}
 use Rattle.paths.proofs.tuple_place.Tie as tie
@@ -18,12 +19,13 @@ loop-holds : tie.Need-loop-holds Inv-loop μ-loop
 loop-holds c = counted-none
 
 -- the number so far is small, and so is the next member
-place-small : (c : lts.After-shared-slice-known reads.Pre reads.Post Inv-loop μ-loop) → c .before .before .loop .place < 1048576
+place-small : (c : lts.After-shared-slice-known reads.Pre reads.Post Inv-loop μ-loop) →
+    c .before .before .loop .place < mostStates ^ mostVariables
 place-small c =
     counted-small (c .before .before .loop .inv) (c .before .before .before .pre) (omega arith)
 
 member-small : (c : lts.After-shared-slice-known reads.Pre reads.Post Inv-loop μ-loop) →
-    getD (c .before .before .before .args .tuple .now) (c .before .before .loop .i) 0 < 1048576
+    getD (c .before .before .before .args .tuple .now) (c .before .before .loop .i) 0 < mostStates ^ mostVariables
 member-small c = omega (arith, c .shared-slice-known .given (c .before .before .loop .i))
 
 shared-slice-read-member : tie.Need-shared-slice-read-member Inv-loop μ-loop
@@ -36,7 +38,8 @@ mul-place : tie.Need-mul-place Inv-loop μ-loop
 mul-place c = product-fits (omega (arith, place-small c, member-small c)) (c .before .before .before .pre .states)
 
 add-place : tie.Need-add-place Inv-loop μ-loop
-add-place c = sum-fits (omega (arith, place-small c, member-small c)) (c .before .before .before .pre .states) (omega (arith, place-small c, member-small c))
+add-place c = sum-fits (omega (arith, place-small c, member-small c)) (c .before .before .before .pre .states)
+    (omega (arith, place-small c, member-small c))
 
 add-i : tie.Need-add-i Inv-loop μ-loop
 add-i c = omega arith

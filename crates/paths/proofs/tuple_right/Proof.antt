@@ -1,4 +1,4 @@
--- `tuple_right` meets its contract. Assumes nothing.
+-- `tuple_right` meets its contract.
 use borrow.Author.Needs.{needs}
 use borrow.Author.Tests.{eq-eqb, ne-eqb}
 use mathlib.Core.Bool.{Bool, _&&_}

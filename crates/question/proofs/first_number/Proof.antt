@@ -4,11 +4,11 @@ use mathlib.Core.List.{List}
 use mathlib.Core.Path.{_≡_, sym, subst, _∙_}
 use native.Mathlib.Omega.{arith}
 use borrow.Author.Needs.{needs}
-use Rattle.model.specs.Rows.{fileNumber, Reads}
+use Rattle.model.specs.Contract.{fileNumber, ReadModelEnsures}
 use Rattle.model.proofs.Answer.{reads-number}
 use Rattle.refusal.specs.Answers.{numberIn, replyOf}
 use Rattle.refusal.specs.Rows.{Decided}
-use Rattle.question.specs.Rows.{QuestionRow}
+use Rattle.question.specs.Contract.{QuestionRow}
 use Rattle.question.proofs.Early.{gives-1, gives-file, file-read, gives-text, text-read}
 use Rattle.question.proofs.first_number.Statement.{statement}
 use Rattle.question.proofs.first_number.Tie as tie
@@ -17,7 +17,8 @@ returns : tie.Need-returns
 returns c = record { each = λ file text reads said. gives-1 (c .if1 .taken) }
 
 -- the reader's number is the file's
-of-file : (c : tie.After-number-of) (file : List ℕ) → Reads file (c .before .before .args .m) → fileNumber file ≡ c .number-of .result
+of-file : (c : tie.After-number-of) (file : List ℕ) → ReadModelEnsures file (c .before .before .args .m)
+    → fileNumber file ≡ c .number-of .result
 of-file c file reads = sym (reads-number reads) ∙ sym (c .number-of .ensures)
 
 returns-2 : tie.Need-returns-2
@@ -26,7 +27,7 @@ returns-2 c = record {
 }
 
 -- the file is accepted
-free : (c : tie.Else2) (file : List ℕ) → Reads file (c .before .before .before .args .m) → fileNumber file ≡ 0
+free : (c : tie.Else2) (file : List ℕ) → ReadModelEnsures file (c .before .before .before .args .m) → fileNumber file ≡ 0
 free c file reads = let e = of-file (c .before) file reads in omega (arith, e, c .if2 .left)
 
 -- and so is the text
@@ -38,7 +39,8 @@ returns-3 c = record {
   each = λ file text reads said.
       let e = c .before .number-of2 .ensures in
       subst (Decided (QuestionRow file text _)) (sym e)
-      (gives-text (c .before .before .before .before .if1 .left) (free (c .before .before) file reads) said (omega (arith, e, c .if3 .taken)));
+      (gives-text (c .before .before .before .before .if1 .left) (free (c .before .before) file reads) said
+      (omega (arith, e, c .if3 .taken)));
 }
 
 late-number-requires : tie.Need-late-number-requires

@@ -6,7 +6,7 @@ use native.Mathlib.Omega.{arith}
 use borrow.Author.Tests.{not-true, not-false}
 use Rattle.sentence.specs.declared.Node.the-variants.{True}
 use Rattle.sentence.specs.Record.{slot}
-use Rattle.question.specs.Rows.{labelRight}
+use Rattle.question.specs.Contract.{labelRight}
 use Rattle.question.proofs.Numbers.{Left, left-none, left-next, left-all, left-failed}
 use Rattle.question.proofs.labels_right.Statement.{statement}
 use Rattle.question.proofs.labels_right.Tie as tie
@@ -22,16 +22,21 @@ loop-holds c = left-none
 
 returns : tie.Need-returns Inv-loop μ-loop
 returns c =
-    left-failed (slot True) (c .before .before .before .before .loop .inv) (omega arith) (let long = c .before .before .before .before .before .good .0 .1 .0 .1 in let few = c .before .before .before .before .before .pre in omega arith)
+    left-failed (slot True) (c .before .before .before .before .loop .inv) (omega arith)
+    (let long = c .before .before .before .before .before .good .0 .1 .0 .1 in
+    let few = c .before .before .before .before .before .pre in omega arith)
     (sym (c .before .label-right .ensures) ∙ not-true _ (c .if1 .taken))
 
 loop-again : tie.Need-loop-again Inv-loop μ-loop
 loop-again c =
-    left-next (slot True) (c .before .before .before .before .loop .inv) (omega arith) (let long = c .before .before .before .before .before .good .0 .1 .0 .1 in let few = c .before .before .before .before .before .pre in omega arith)
+    left-next (slot True) (c .before .before .before .before .loop .inv) (omega arith)
+    (let long = c .before .before .before .before .before .good .0 .1 .0 .1 in
+    let few = c .before .before .before .before .before .pre in omega arith)
     (sym (c .before .label-right .ensures) ∙ not-false _ (c .if1 .left))
 
 returns-2 : tie.Need-returns-2 Inv-loop μ-loop
-returns-2 c = left-all (c .before .loop .inv) (omega arith) (let long = c .before .before .good .0 .1 .0 .1 in let few = c .before .before .pre in omega arith)
+returns-2 c = left-all (c .before .loop .inv) (omega arith) (let long = c .before .before .good .0 .1 .0 .1 in
+    let few = c .before .before .pre in omega arith)
 
 pub labels-right-spec : {M : Type 1} → statement M
 labels-right-spec =

@@ -11,8 +11,8 @@ use Rattle.model.specs.Layout.{fieldsOf}
 use Rattle.meaning.specs.Lists.{every}
 use Rattle.meaning.specs.Size.{exceeds}
 use Rattle.trees.specs.Listed.{formulaNodes}
-use Rattle.question.specs.Rows.{labelRight}
-use Rattle.question.specs.Working.{ModelRead, SentenceRead}
+use Rattle.question.specs.Contract.{labelRight}
+use Rattle.question.specs.Working.{FileOfModel, TextOfSentence}
 use Rattle.question.proofs.Pair.{states-few, letters-few, count-few, stands}
 use Rattle.question.proofs.Stages.{labels-same, size-same, tuples-same, gives-9, gives-10, gives-11, gives-none}
 use Rattle.question.proofs.late_number.Statement.{statement}
@@ -28,8 +28,8 @@ returns c = record {
 }
 
 -- what the first test says where it is left
-right : (c : tie.Else1) (file text : List ℕ) → (a : ModelRead file (c .before .before .before .args .m)) →
-    (b : SentenceRead text (c .before .before .before .args .s)) →
+right : (c : tie.Else1) (file text : List ℕ) → (a : FileOfModel file (c .before .before .before .args .m)) →
+    (b : TextOfSentence text (c .before .before .before .args .s)) →
     every (labelRight (fieldsOf file .a)) (formulaNodes (b .body)) ≡ true
 right c file text a b = sym (labels-same a b) ∙ sym (c .before .labels-right .ensures) ∙ not-false _ (c .if1 .left)
 
@@ -44,8 +44,8 @@ returns-2 c = record {
 }
 
 -- and the second
-small : (c : tie.Else2) (file text : List ℕ) → (a : ModelRead file (c .before .before .before .before .before .before .args .m)) →
-    (b : SentenceRead text (c .before .before .before .before .before .before .args .s)) →
+small : (c : tie.Else2) (file text : List ℕ) → (a : FileOfModel file (c .before .before .before .before .before .before .args .m)) →
+    (b : TextOfSentence text (c .before .before .before .before .before .before .args .s)) →
     exceeds (b .body) (fieldsOf file .d) (length (b .prefix)) ≡ false
 small c file text a b = sym (size-same a b) ∙ sym (c .before .exceeds .ensures (b .body) _ (stands b)) ∙ c .if2 .left
 

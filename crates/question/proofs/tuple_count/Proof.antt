@@ -25,7 +25,11 @@ mul-product c =
     omega arith
 
 loop-again : tie.Need-loop-again Inv-loop μ-loop
-loop-again c = (omega arith, power-next _ _ _ (c .before .loop .inv .1), power-small _ _ _ (c .before .loop .inv .2) (c .before .before .pre .0) (omega arith) .0)
+loop-again c = (
+  omega arith,
+  power-next _ _ _ (c .before .loop .inv .1),
+  power-small _ _ _ (c .before .loop .inv .2) (c .before .before .pre .0) (omega arith) .0,
+)
 
 returns : tie.Need-returns Inv-loop μ-loop
 returns c =

@@ -20,7 +20,8 @@ returns-3 c = sym (ap (outOfRange (c .before .before .before .args .letters)) (c
 
 returns-4 : tie.Need-returns-4
 returns-4 c =
-    other-arm (outOfRange (c .before .args .letters)) false plain refl refl refl (λ r. refl) refl refl refl refl refl (λ l i o. absurd (miss plain 1 tt o)) (λ a b o. absurd (miss plain 6 tt o)) (λ a b o. absurd (miss plain 11 tt o))
+    other-arm (outOfRange (c .before .args .letters)) false plain refl refl refl (λ r. refl) refl refl refl refl refl
+    (λ l i o. absurd (miss plain 1 tt o)) (λ a b o. absurd (miss plain 6 tt o)) (λ a b o. absurd (miss plain 11 tt o))
     (c .before .args .node) (c .match .keys4)
 
 pub is-fault-spec : {M : Type 1} → statement M

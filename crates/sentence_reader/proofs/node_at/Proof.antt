@@ -21,7 +21,8 @@ returns-2 c =
     let a = c .before .before .before .before .before .before .args in
     let b = c .before .before .before .byte-at in
     let d = c .before .byte-at2 in
-    found-label (a .text .now) (a .at) (b .result) (d .result) (c .label-of .result) (c .before .before .before .before .if1 .left) (b .ensures) (c .before .before .if2 .taken) (d .ensures) (c .label-of .ensures)
+    found-label (a .text .now) (a .at) (b .result) (d .result) (c .label-of .result) (c .before .before .before .before .if1 .left)
+    (b .ensures) (c .before .before .if2 .taken) (d .ensures) (c .label-of .ensures)
 
 two-numbers-requires : tie.Need-two-numbers-requires
 two-numbers-requires c κs =
@@ -37,7 +38,8 @@ returns-3 c =
     let a = c .before .before .before .before .before .before .before .args in
     let b = c .before .before .before .before .byte-at in
     let r = c .before .two-numbers in
-    found-numbers Constant 35 47 59 (λ x y. refl) numbers-written numbers-writable (a .text .now) (a .at) 35 (r .result) (c .constant-of .result) (c .before .before .before .before .before .if1 .left)
+    found-numbers Constant 35 47 59 (λ x y. refl) numbers-written numbers-writable (a .text .now) (a .at) 35 (r .result)
+    (c .constant-of .result) (c .before .before .before .before .before .if1 .left)
     (sym (c .before .before .match .keys1) ∙ b .ensures) (λ l. refl) (r .ensures) (c .constant-of .ensures)
 
 returns-4 : tie.Need-returns-4
@@ -46,7 +48,8 @@ returns-4 c =
     let a = c .before .before .before .before .before .before .before .args in
     let b = c .before .before .before .before .byte-at in
     let r = c .before .two-numbers2 in
-    found-numbers Until 85 44 58 (λ x y. refl) numbers-written numbers-writable (a .text .now) (a .at) 85 (r .result) (c .until-of .result) (c .before .before .before .before .before .if1 .left)
+    found-numbers Until 85 44 58 (λ x y. refl) numbers-written numbers-writable (a .text .now) (a .at) 85 (r .result)
+    (c .until-of .result) (c .before .before .before .before .before .if1 .left)
     (sym (c .before .before .match .keys2) ∙ b .ensures) (λ l. refl) (r .ensures) (c .until-of .ensures)
 
 returns-5 : tie.Need-returns-5
@@ -55,7 +58,9 @@ returns-5 c =
     let b = c .before .before .before .before .byte-at in
     let n = c .before .operator-node in
     let none = c .before .before .match .rest in
-    found-operator (a .text .now) (a .at) (b .result) (n .result) (c .single2 .result) (c .before .before .before .before .before .if1 .left) (b .ensures) (c .before .before .before .if2 .left) (none .0 .1) (none .1) (n .ensures) (c .single2 .ensures)
+    found-operator (a .text .now) (a .at) (b .result) (n .result) (c .single2 .result)
+    (c .before .before .before .before .before .if1 .left) (b .ensures) (c .before .before .before .if2 .left) (none .0 .1) (none .1)
+    (n .ensures) (c .single2 .ensures)
 
 pub node-at-spec : {M : Type 1} → statement M
 node-at-spec =

@@ -2,13 +2,13 @@
 -- Assumes nothing.
 use Prim.Native.Nat.{_-_}
 use native.Mathlib.Omega.{arith}
-use Rattle.sentence_reader.proofs.Found.{Filled, filled-none, filled-next, filled-all}
+use Rattle.sentence_reader.proofs.Found.{PlacesFilled, filled-none, filled-next, filled-all}
 use borrow.Author.Needs.{needs}
 use Rattle.sentence_reader.proofs.nodes_from.Statement.{statement}
 use Rattle.sentence_reader.proofs.nodes_from.Tie as tie
 
 abbrev Inv-loop : tie.InvT-loop
-Inv-loop text at count nodes₀ next₀ i₀ nodes next i = Filled text at count next i nodes
+Inv-loop text at count nodes₀ next₀ i₀ nodes next i = PlacesFilled text at count next i nodes
 
 abbrev μ-loop : tie.MeasureT-loop
 μ-loop text at count nodes₀ next₀ i₀ nodes next i = count - i
@@ -25,7 +25,8 @@ array-set-from-nodes c =
 loop-again : tie.Need-loop-again Inv-loop μ-loop
 loop-again c =
     let s = c .before .before .before .before .before in
-    filled-next (s .args .text .now) (s .args .at) (s .args .count) _ _ _ (c .node-at .result) (c .before .before .loop .inv) (c .before .loop-test .taken) (c .node-at .ensures)
+    filled-next (s .args .text .now) (s .args .at) (s .args .count) _ _ _ (c .node-at .result) (c .before .before .loop .inv)
+    (c .before .loop-test .taken) (c .node-at .ensures)
 
 returns : tie.Need-returns Inv-loop μ-loop
 returns c =

@@ -10,7 +10,20 @@ returns-13 : tie.Need-returns-13
 returns-13 c =
     let b = c .before .args .b in
     let none = c .match .rest in
-    rw (ne-eqb b 84 (none .0 .0 .0 .0 .0 .0 .0 .0 .0 .0 .0 .1), ne-eqb b 33 (none .0 .0 .0 .0 .0 .0 .0 .0 .0 .0 .1), ne-eqb b 38 (none .0 .0 .0 .0 .0 .0 .0 .0 .0 .1), ne-eqb b 60 (none .0 .0 .0 .0 .0 .0 .0 .0 .1), ne-eqb b 76 (none .0 .0 .0 .0 .0 .0 .0 .1), ne-eqb b 61 (none .0 .0 .0 .0 .0 .0 .1), ne-eqb b 71 (none .0 .0 .0 .0 .0 .1), ne-eqb b 62 (none .0 .0 .0 .0 .1), ne-eqb b 80 (none .0 .0 .0 .1), ne-eqb b 43 (none .0 .0 .1), ne-eqb b 45 (none .0 .1), ne-eqb b 42 (none .1)) refl
+    rw (
+      ne-eqb b 84 (none .0 .0 .0 .0 .0 .0 .0 .0 .0 .0 .0 .1),
+      ne-eqb b 33 (none .0 .0 .0 .0 .0 .0 .0 .0 .0 .0 .1),
+      ne-eqb b 38 (none .0 .0 .0 .0 .0 .0 .0 .0 .0 .1),
+      ne-eqb b 60 (none .0 .0 .0 .0 .0 .0 .0 .0 .1),
+      ne-eqb b 76 (none .0 .0 .0 .0 .0 .0 .0 .1),
+      ne-eqb b 61 (none .0 .0 .0 .0 .0 .0 .1),
+      ne-eqb b 71 (none .0 .0 .0 .0 .0 .1),
+      ne-eqb b 62 (none .0 .0 .0 .0 .1),
+      ne-eqb b 80 (none .0 .0 .0 .1),
+      ne-eqb b 43 (none .0 .0 .1),
+      ne-eqb b 45 (none .0 .1),
+      ne-eqb b 42 (none .1),
+    ) refl
 
 pub operator-node-spec : {M : Type 1} → statement M
 operator-node-spec =

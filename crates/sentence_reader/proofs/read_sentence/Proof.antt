@@ -1,7 +1,8 @@
 -- `read_sentence` meets its contract: each way out is a case of ReadAll.
 -- Assumes nothing.
 use borrow.Author.Tests.{not-true, not-false}
-use Rattle.sentence_reader.proofs.ReadAll.{answer-outside, answer-long, outside-prefix, outside-body, outside-rest, whole, finish, begun-inside}
+use Rattle.sentence_reader.proofs.ReadAll.{answer-outside, answer-long, outside-prefix, outside-body, outside-rest, whole, finish}
+use Rattle.sentence_reader.proofs.ReadAll.{begun-inside}
 use borrow.Author.Needs.{needs}
 use Rattle.sentence_reader.proofs.read_sentence.Statement.{statement}
 use Rattle.sentence_reader.proofs.read_sentence.Tie as tie
@@ -28,7 +29,9 @@ returns-3 c =
     let p = c .before .before .before .before .before .before .letters-from in
     let r = c .before .before .state-formula in
     rw (c .refused3 .ensures)
-    (answer-outside (outside-body t _ (p .result) (r .result) (p .ensures) (not-false _ (c .before .before .before .before .before .if2 .left)) (rw (c .before .before .before .begun .ensures) at (r .ensures)) (not-true _ (c .before .if3 .taken))))
+    (answer-outside (outside-body t _ (p .result) (r .result) (p .ensures)
+    (not-false _ (c .before .before .before .before .before .if2 .left))
+    (rw (c .before .before .before .begun .ensures) at (r .ensures)) (not-true _ (c .before .if3 .taken))))
 
 returns-4 : tie.Need-returns-4
 returns-4 c =
@@ -36,7 +39,10 @@ returns-4 c =
     let p = c .before .before .before .before .before .before .before .before .letters-from in
     let r = c .before .before .before .before .state-formula in
     rw (c .refused4 .ensures)
-    (answer-outside (outside-rest t _ (p .result) (r .result) (p .ensures) (not-false _ (c .before .before .before .before .before .before .before .if2 .left)) (rw (c .before .before .before .before .before .begun .ensures) at (r .ensures)) (not-false _ (c .before .before .before .if3 .left)) (c .before .if4 .taken)))
+    (answer-outside (outside-rest t _ (p .result) (r .result) (p .ensures)
+    (not-false _ (c .before .before .before .before .before .before .before .if2 .left))
+    (rw (c .before .before .before .before .before .begun .ensures) at (r .ensures))
+    (not-false _ (c .before .before .before .if3 .left)) (c .before .if4 .taken)))
 
 returns-5 : tie.Need-returns-5
 returns-5 c =
@@ -44,7 +50,10 @@ returns-5 c =
     let p = c .before .before .before .before .before .before .before .before .before .letters-from in
     let r = c .before .before .before .before .before .state-formula in
     finish t (p .result .next) (p .result .letters) (p .result .exists) (r .result .kept) (c .finished .result)
-    (whole t (p .result) (r .result) (p .ensures) (not-false _ (c .before .before .before .before .before .before .before .before .if2 .left)) (rw (c .before .before .before .before .before .before .begun .ensures) at (r .ensures)) (not-false _ (c .before .before .before .before .if3 .left)) (c .before .before .if4 .left))
+    (whole t (p .result) (r .result) (p .ensures)
+    (not-false _ (c .before .before .before .before .before .before .before .before .if2 .left))
+    (rw (c .before .before .before .before .before .before .begun .ensures) at (r .ensures))
+    (not-false _ (c .before .before .before .before .if3 .left)) (c .before .before .if4 .left))
     (c .before .before .before .before .before .before .before .before .before .before .if1 .left)
     (c .finished .ensures)
 

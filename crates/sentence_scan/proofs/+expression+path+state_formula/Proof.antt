@@ -12,7 +12,8 @@ use Rattle.sentence_scan.specs.Working.{NodeReads}
 use Rattle.sentence.specs.declared.Kind.the-variants.{State, Expression, Path}
 use Rattle.sentence.specs.declared.Node.the-variants.{True, Not, And, Probability, Next}
 use Rattle.sentence_scan.proofs.Results.{reads-then, reads-node, reads-leaf, first-call, second-call}
-use Rattle.sentence_scan.proofs.NodeAt.{operator-passed, comparison-passed, arithmetic-passed, stays, no-reading, no-state, no-expression}
+use Rattle.sentence_scan.proofs.NodeAt.{operator-passed, comparison-passed, arithmetic-passed, stays, no-reading, no-state}
+use Rattle.sentence_scan.proofs.NodeAt.{no-expression}
 use Prim.Native.Nat.{ℕ, _-_, _<_}
 use borrow.Fn.Kinds.{In}
 use borrow.Fn.PlainCycle.{Measures, is, falls, and}
@@ -70,30 +71,75 @@ state-formula-below t =
     state-formula.Pre
 
 abbrev expression-claims : ℕ → expression-lts.Claims
-expression-claims t = (byte-at-reads.Asked, byte-at-reads.Learnt, operator-reads.Asked, operator-reads.Learnt, path-below t, path.Post, constant-reads.Asked, constant-reads.Learnt, stopped-reads.Asked, stopped-reads.Learnt, expression-below t, expression.Post)
+expression-claims t = (
+  byte-at-reads.Asked,
+  byte-at-reads.Learnt,
+  operator-reads.Asked,
+  operator-reads.Learnt,
+  path-below t,
+  path.Post,
+  constant-reads.Asked,
+  constant-reads.Learnt,
+  stopped-reads.Asked,
+  stopped-reads.Learnt,
+  expression-below t,
+  expression.Post,
+)
 
 abbrev path-claims : ℕ → path-lts.Claims
-path-claims t = (byte-at-reads.Asked, byte-at-reads.Learnt, operator-reads.Asked, operator-reads.Learnt, state-formula-below t, state-formula.Post, window-reads.Asked, window-reads.Learnt, stopped-reads.Asked, stopped-reads.Learnt)
+path-claims t = (
+  byte-at-reads.Asked,
+  byte-at-reads.Learnt,
+  operator-reads.Asked,
+  operator-reads.Learnt,
+  state-formula-below t,
+  state-formula.Post,
+  window-reads.Asked,
+  window-reads.Learnt,
+  stopped-reads.Asked,
+  stopped-reads.Learnt,
+)
 
 abbrev state-formula-claims : ℕ → state-formula-lts.Claims
-state-formula-claims t = (byte-at-reads.Asked, byte-at-reads.Learnt, operator-reads.Asked, operator-reads.Learnt, state-formula-below t, state-formula.Post, label-reads.Asked, label-reads.Learnt, stopped-reads.Asked, stopped-reads.Learnt, expression-below t, expression.Post)
+state-formula-claims t = (
+  byte-at-reads.Asked,
+  byte-at-reads.Learnt,
+  operator-reads.Asked,
+  operator-reads.Learnt,
+  state-formula-below t,
+  state-formula.Post,
+  label-reads.Asked,
+  label-reads.Learnt,
+  stopped-reads.Asked,
+  stopped-reads.Learnt,
+  expression-below t,
+  expression.Post,
+)
 
 -- `path` past next
-path-next : (t : ℕ) (c : path-lts.After-operator (path-claims t) (path-at t) path.Post) → NodeReads Path (State ∷ []) (c .before .before .before .before .before .args .text .now) (c .before .before .before .before .before .args .n) (c .before .before .before .before .before .args .p) (c .operator .result)
+path-next : (t : ℕ) (c : path-lts.After-operator (path-claims t) (path-at t) path.Post)
+    → NodeReads Path (State ∷ []) (c .before .before .before .before .before .args .text .now)
+    (c .before .before .before .before .before .args .n) (c .before .before .before .before .before .args .p) (c .operator .result)
 path-next t c =
     let s = c .before .before .before .before .before in
     let b = c .before .before .byte-at in
-    operator-passed Next 88 (s .args .text .now) (s .args .n) (s .args .p) (c .operator .result) refl refl refl (omega arith) (b .result) (b .ensures) (c .before .match .keys1) (s .pre .1) (c .operator .ensures)
+    operator-passed Next 88 (s .args .text .now) (s .args .n) (s .args .p) (c .operator .result) refl refl refl (omega arith) (b .result)
+    (b .ensures) (c .before .match .keys1) (s .pre .1) (c .operator .ensures)
 
 -- `expression` past probability
-expression-probability : (t : ℕ) (c : expression-lts.After-operator (expression-claims t) (expression-at t) expression.Post) → NodeReads Expression (Path ∷ []) (c .before .before .before .before .before .args .text .now) (c .before .before .before .before .before .args .n) (c .before .before .before .before .before .args .p) (c .operator .result)
+expression-probability : (t : ℕ) (c : expression-lts.After-operator (expression-claims t) (expression-at t) expression.Post)
+    → NodeReads Expression (Path ∷ []) (c .before .before .before .before .before .args .text .now)
+    (c .before .before .before .before .before .args .n) (c .before .before .before .before .before .args .p) (c .operator .result)
 expression-probability t c =
     let s = c .before .before .before .before .before in
     let b = c .before .before .byte-at in
-    operator-passed Probability 80 (s .args .text .now) (s .args .n) (s .args .p) (c .operator .result) refl refl refl (omega arith) (b .result) (b .ensures) (c .before .match .keys1) (s .pre .1) (c .operator .ensures)
+    operator-passed Probability 80 (s .args .text .now) (s .args .n) (s .args .p) (c .operator .result) refl refl refl (omega arith)
+    (b .result) (b .ensures) (c .before .match .keys1) (s .pre .1) (c .operator .ensures)
 
 -- `expression` past an operator of arithmetic
-expression-arithmetic : (t : ℕ) (c : expression-lts.After-operator2 (expression-claims t) (expression-at t) expression.Post) → NodeReads Expression (Expression ∷ Expression ∷ []) (c .before .before .before .before .before .args .text .now) (c .before .before .before .before .before .args .n) (c .before .before .before .before .before .args .p) (c .operator2 .result)
+expression-arithmetic : (t : ℕ) (c : expression-lts.After-operator2 (expression-claims t) (expression-at t) expression.Post)
+    → NodeReads Expression (Expression ∷ Expression ∷ []) (c .before .before .before .before .before .args .text .now)
+    (c .before .before .before .before .before .args .n) (c .before .before .before .before .before .args .p) (c .operator2 .result)
 expression-arithmetic t c =
     let s = c .before .before .before .before .before in
     let b = c .before .before .byte-at in
@@ -101,28 +147,40 @@ expression-arithmetic t c =
     (⊎-elim (λ m. inl (m .keys3)) (λ w. inr (w .1 .left, w .2 .taken)) (c .before .match .came)) (s .pre .1) (c .operator2 .ensures)
 
 -- `state_formula` past true
-state-formula-true : (t : ℕ) (c : state-formula-lts.After-operator (state-formula-claims t) (state-formula-at t) state-formula.Post) → NodeReads State [] (c .before .before .before .before .before .args .text .now) (c .before .before .before .before .before .args .n) (c .before .before .before .before .before .args .p) (c .operator .result)
+state-formula-true : (t : ℕ) (c : state-formula-lts.After-operator (state-formula-claims t) (state-formula-at t) state-formula.Post)
+    → NodeReads State [] (c .before .before .before .before .before .args .text .now)
+    (c .before .before .before .before .before .args .n) (c .before .before .before .before .before .args .p) (c .operator .result)
 state-formula-true t c =
     let s = c .before .before .before .before .before in
     let b = c .before .before .byte-at in
-    operator-passed True 84 (s .args .text .now) (s .args .n) (s .args .p) (c .operator .result) refl refl refl (omega arith) (b .result) (b .ensures) (c .before .match .keys1) (s .pre .1) (c .operator .ensures)
+    operator-passed True 84 (s .args .text .now) (s .args .n) (s .args .p) (c .operator .result) refl refl refl (omega arith) (b .result)
+    (b .ensures) (c .before .match .keys1) (s .pre .1) (c .operator .ensures)
 
 -- `state_formula` past not
-state-formula-not : (t : ℕ) (c : state-formula-lts.After-operator2 (state-formula-claims t) (state-formula-at t) state-formula.Post) → NodeReads State (State ∷ []) (c .before .before .before .before .before .args .text .now) (c .before .before .before .before .before .args .n) (c .before .before .before .before .before .args .p) (c .operator2 .result)
+state-formula-not : (t : ℕ) (c : state-formula-lts.After-operator2 (state-formula-claims t) (state-formula-at t) state-formula.Post)
+    → NodeReads State (State ∷ []) (c .before .before .before .before .before .args .text .now)
+    (c .before .before .before .before .before .args .n) (c .before .before .before .before .before .args .p) (c .operator2 .result)
 state-formula-not t c =
     let s = c .before .before .before .before .before in
     let b = c .before .before .byte-at in
-    operator-passed Not 33 (s .args .text .now) (s .args .n) (s .args .p) (c .operator2 .result) refl refl refl (omega arith) (b .result) (b .ensures) (c .before .match .keys2) (s .pre .1) (c .operator2 .ensures)
+    operator-passed Not 33 (s .args .text .now) (s .args .n) (s .args .p) (c .operator2 .result) refl refl refl (omega arith) (b .result)
+    (b .ensures) (c .before .match .keys2) (s .pre .1) (c .operator2 .ensures)
 
 -- `state_formula` past and
-state-formula-and : (t : ℕ) (c : state-formula-lts.After-operator3 (state-formula-claims t) (state-formula-at t) state-formula.Post) → NodeReads State (State ∷ State ∷ []) (c .before .before .before .before .before .args .text .now) (c .before .before .before .before .before .args .n) (c .before .before .before .before .before .args .p) (c .operator3 .result)
+state-formula-and : (t : ℕ) (c : state-formula-lts.After-operator3 (state-formula-claims t) (state-formula-at t) state-formula.Post)
+    → NodeReads State (State ∷ State ∷ []) (c .before .before .before .before .before .args .text .now)
+    (c .before .before .before .before .before .args .n) (c .before .before .before .before .before .args .p) (c .operator3 .result)
 state-formula-and t c =
     let s = c .before .before .before .before .before in
     let b = c .before .before .byte-at in
-    operator-passed And 38 (s .args .text .now) (s .args .n) (s .args .p) (c .operator3 .result) refl refl refl (omega arith) (b .result) (b .ensures) (c .before .match .keys3) (s .pre .1) (c .operator3 .ensures)
+    operator-passed And 38 (s .args .text .now) (s .args .n) (s .args .p) (c .operator3 .result) refl refl refl (omega arith) (b .result)
+    (b .ensures) (c .before .match .keys3) (s .pre .1) (c .operator3 .ensures)
 
 -- `state_formula` past a comparison
-state-formula-comparison : (t : ℕ) (c : state-formula-lts.After-operator4 (state-formula-claims t) (state-formula-at t) state-formula.Post) → NodeReads State (Expression ∷ Expression ∷ []) (c .before .before .before .before .before .args .text .now) (c .before .before .before .before .before .args .n) (c .before .before .before .before .before .args .p) (c .operator4 .result)
+state-formula-comparison : (t : ℕ)
+    (c : state-formula-lts.After-operator4 (state-formula-claims t) (state-formula-at t) state-formula.Post)
+    → NodeReads State (Expression ∷ Expression ∷ []) (c .before .before .before .before .before .args .text .now)
+    (c .before .before .before .before .before .args .n) (c .before .before .before .before .before .args .p) (c .operator4 .result)
 state-formula-comparison t c =
     let s = c .before .before .before .before .before in
     let b = c .before .before .byte-at in
@@ -143,11 +201,14 @@ expression-constant-requires t c κs = (c .before .before .before .before .pre .
 expression-expression-requires : (t : ℕ) → expression-lts.Need-expression-requires (expression-claims t) (expression-at t) expression.Post
 expression-expression-requires t c κs = first-call (expression-arithmetic t c) (c .before .before .before .before .before .pre .0)
 
-expression-expression-requires-2 : (t : ℕ) → expression-lts.Need-expression-requires-2 (expression-claims t) (expression-at t) expression.Post
-expression-expression-requires-2 t c κs = second-call (expression-arithmetic t (c .before)) (c .expression .ensures) (c .before .before .before .before .before .before .pre .0)
+expression-expression-requires-2 : (t : ℕ)
+    → expression-lts.Need-expression-requires-2 (expression-claims t) (expression-at t) expression.Post
+expression-expression-requires-2 t c κs =
+    second-call (expression-arithmetic t (c .before)) (c .expression .ensures) (c .before .before .before .before .before .before .pre .0)
 
 expression-returns-2 : (t : ℕ) → expression-lts.Need-returns-2 (expression-claims t) (expression-at t) expression.Post
-expression-returns-2 t c = reads-node (not-false _ (c .before .before .before .before .if1 .left)) (expression-probability t (c .before)) (c .path .ensures)
+expression-returns-2 t c =
+    reads-node (not-false _ (c .before .before .before .before .if1 .left)) (expression-probability t (c .before)) (c .path .ensures)
 
 expression-returns-3 : (t : ℕ) → expression-lts.Need-returns-3 (expression-claims t) (expression-at t) expression.Post
 expression-returns-3 t c = reads-leaf (not-false _ (c .before .before .before .if1 .left)) (c .constant .ensures)
@@ -157,11 +218,15 @@ expression-returns-4 t c =
     let s = c .before .before .before .before .before .before in
     let b = c .before .before .before .byte-at in
     let rest = c .before .before .match .rest in
-    no-reading Expression (s .args .text .now) (s .args .n) (s .args .p) (c .stopped .result) (not-false _ (c .before .before .before .before .if1 .left)) (b .result) (b .ensures)
-    (no-expression (b .result) (rest .0 .0 .1) (rest .0 .1) (rest .1) (⊎-elim (λ w. inl (w .taken)) (λ w. inr (w .1 .left)) (c .before .if2 .came))) (s .pre .1) (c .stopped .ensures)
+    no-reading Expression (s .args .text .now) (s .args .n) (s .args .p) (c .stopped .result)
+    (not-false _ (c .before .before .before .before .if1 .left)) (b .result) (b .ensures)
+    (no-expression (b .result) (rest .0 .0 .1) (rest .0 .1) (rest .1)
+    (⊎-elim (λ w. inl (w .taken)) (λ w. inr (w .1 .left)) (c .before .if2 .came))) (s .pre .1) (c .stopped .ensures)
 
 expression-returns-5 : (t : ℕ) → expression-lts.Need-returns-5 (expression-claims t) (expression-at t) expression.Post
-expression-returns-5 t c = reads-node (not-false _ (c .before .before .before .before .before .if1 .left)) (expression-arithmetic t (c .before .before)) (reads-then (Expression ∷ []) (c .before .expression .ensures) (c .expression2 .ensures))
+expression-returns-5 t c =
+    reads-node (not-false _ (c .before .before .before .before .before .if1 .left)) (expression-arithmetic t (c .before .before))
+    (reads-then (Expression ∷ []) (c .before .expression .ensures) (c .expression2 .ensures))
 
 path-returns : (t : ℕ) → path-lts.Need-returns (path-claims t) (path-at t) path.Post
 path-returns t c =
@@ -178,69 +243,95 @@ path-state-formula-requires-2 : (t : ℕ) → path-lts.Need-state-formula-requir
 path-state-formula-requires-2 t c κs = first-call (c .window .ensures) (c .before .before .before .before .before .pre .0)
 
 path-state-formula-requires-3 : (t : ℕ) → path-lts.Need-state-formula-requires-3 (path-claims t) (path-at t) path.Post
-path-state-formula-requires-3 t c κs = second-call (c .before .window .ensures) (c .state-formula2 .ensures) (c .before .before .before .before .before .before .pre .0)
+path-state-formula-requires-3 t c κs =
+    second-call (c .before .window .ensures) (c .state-formula2 .ensures) (c .before .before .before .before .before .before .pre .0)
 
 path-returns-2 : (t : ℕ) → path-lts.Need-returns-2 (path-claims t) (path-at t) path.Post
-path-returns-2 t c = reads-node (not-false _ (c .before .before .before .before .if1 .left)) (path-next t (c .before)) (c .state-formula .ensures)
+path-returns-2 t c =
+    reads-node (not-false _ (c .before .before .before .before .if1 .left)) (path-next t (c .before)) (c .state-formula .ensures)
 
 path-returns-3 : (t : ℕ) → path-lts.Need-returns-3 (path-claims t) (path-at t) path.Post
-path-returns-3 t c = reads-node (not-false _ (c .before .before .before .before .before .if1 .left)) (c .before .before .window .ensures) (reads-then (State ∷ []) (c .before .state-formula2 .ensures) (c .state-formula3 .ensures))
+path-returns-3 t c =
+    reads-node (not-false _ (c .before .before .before .before .before .if1 .left)) (c .before .before .window .ensures)
+    (reads-then (State ∷ []) (c .before .state-formula2 .ensures) (c .state-formula3 .ensures))
 
 path-returns-4 : (t : ℕ) → path-lts.Need-returns-4 (path-claims t) (path-at t) path.Post
 path-returns-4 t c =
     let s = c .before .before .before .before .before in
     let b = c .before .before .byte-at in
-    no-reading Path (s .args .text .now) (s .args .n) (s .args .p) (c .stopped .result) (not-false _ (c .before .before .before .if1 .left)) (b .result) (b .ensures)
-    (rw (ne-eqb (b .result) 88 (c .before .match .rest .0 .1), ne-eqb (b .result) 85 (c .before .match .rest .1)) refl) (s .pre .1) (c .stopped .ensures)
+    no-reading Path (s .args .text .now) (s .args .n) (s .args .p) (c .stopped .result)
+    (not-false _ (c .before .before .before .if1 .left)) (b .result) (b .ensures)
+    (rw (ne-eqb (b .result) 88 (c .before .match .rest .0 .1), ne-eqb (b .result) 85 (c .before .match .rest .1)) refl) (s .pre .1)
+    (c .stopped .ensures)
 
 state-formula-returns : (t : ℕ) → state-formula-lts.Need-returns (state-formula-claims t) (state-formula-at t) state-formula.Post
 state-formula-returns t c =
     let s = c .before .before in
     stays State (s .args .text .now) (s .args .n) (s .args .p) (not-true _ (c .if1 .taken)) (s .pre .1)
 
-state-formula-state-formula-requires : (t : ℕ) → state-formula-lts.Need-state-formula-requires (state-formula-claims t) (state-formula-at t) state-formula.Post
+state-formula-state-formula-requires : (t : ℕ)
+    → state-formula-lts.Need-state-formula-requires (state-formula-claims t) (state-formula-at t) state-formula.Post
 state-formula-state-formula-requires t c κs = first-call (state-formula-not t c) (c .before .before .before .before .before .pre .0)
 
-state-formula-state-formula-requires-2 : (t : ℕ) → state-formula-lts.Need-state-formula-requires-2 (state-formula-claims t) (state-formula-at t) state-formula.Post
+state-formula-state-formula-requires-2 : (t : ℕ)
+    → state-formula-lts.Need-state-formula-requires-2 (state-formula-claims t) (state-formula-at t) state-formula.Post
 state-formula-state-formula-requires-2 t c κs = first-call (state-formula-and t c) (c .before .before .before .before .before .pre .0)
 
-state-formula-state-formula-requires-3 : (t : ℕ) → state-formula-lts.Need-state-formula-requires-3 (state-formula-claims t) (state-formula-at t) state-formula.Post
-state-formula-state-formula-requires-3 t c κs = second-call (state-formula-and t (c .before)) (c .state-formula2 .ensures) (c .before .before .before .before .before .before .pre .0)
+state-formula-state-formula-requires-3 : (t : ℕ)
+    → state-formula-lts.Need-state-formula-requires-3 (state-formula-claims t) (state-formula-at t) state-formula.Post
+state-formula-state-formula-requires-3 t c κs =
+    second-call (state-formula-and t (c .before)) (c .state-formula2 .ensures) (c .before .before .before .before .before .before .pre .0)
 
-state-formula-label-requires : (t : ℕ) → state-formula-lts.Need-label-requires (state-formula-claims t) (state-formula-at t) state-formula.Post
+state-formula-label-requires : (t : ℕ)
+    → state-formula-lts.Need-label-requires (state-formula-claims t) (state-formula-at t) state-formula.Post
 state-formula-label-requires t c κs =
-    let e = c .before .before .before .before .before .byte-at .ensures in
-    (c .before .before .before .before .before .before .before .before .pre .1, omega (arith, e, c .before .if4 .left), omega (arith, e, c .if5 .taken))
+    let e = c .before .before .before .before .before .byte-at .ensures in (
+      c .before .before .before .before .before .before .before .before .pre .1,
+      omega (arith, e, c .before .if4 .left),
+      omega (arith, e, c .if5 .taken),
+    )
 
-state-formula-expression-requires : (t : ℕ) → state-formula-lts.Need-expression-requires (state-formula-claims t) (state-formula-at t) state-formula.Post
+state-formula-expression-requires : (t : ℕ)
+    → state-formula-lts.Need-expression-requires (state-formula-claims t) (state-formula-at t) state-formula.Post
 state-formula-expression-requires t c κs = first-call (state-formula-comparison t c) (c .before .before .before .before .before .pre .0)
 
-state-formula-expression-requires-2 : (t : ℕ) → state-formula-lts.Need-expression-requires-2 (state-formula-claims t) (state-formula-at t) state-formula.Post
-state-formula-expression-requires-2 t c κs = second-call (state-formula-comparison t (c .before)) (c .expression .ensures) (c .before .before .before .before .before .before .pre .0)
+state-formula-expression-requires-2 : (t : ℕ)
+    → state-formula-lts.Need-expression-requires-2 (state-formula-claims t) (state-formula-at t) state-formula.Post
+state-formula-expression-requires-2 t c κs =
+    second-call (state-formula-comparison t (c .before)) (c .expression .ensures)
+    (c .before .before .before .before .before .before .pre .0)
 
 state-formula-returns-2 : (t : ℕ) → state-formula-lts.Need-returns-2 (state-formula-claims t) (state-formula-at t) state-formula.Post
 state-formula-returns-2 t c = reads-leaf (not-false _ (c .before .before .before .if1 .left)) (state-formula-true t c)
 
 state-formula-returns-3 : (t : ℕ) → state-formula-lts.Need-returns-3 (state-formula-claims t) (state-formula-at t) state-formula.Post
-state-formula-returns-3 t c = reads-node (not-false _ (c .before .before .before .before .if1 .left)) (state-formula-not t (c .before)) (c .state-formula .ensures)
+state-formula-returns-3 t c =
+    reads-node (not-false _ (c .before .before .before .before .if1 .left)) (state-formula-not t (c .before)) (c .state-formula .ensures)
 
 state-formula-returns-4 : (t : ℕ) → state-formula-lts.Need-returns-4 (state-formula-claims t) (state-formula-at t) state-formula.Post
-state-formula-returns-4 t c = reads-node (not-false _ (c .before .before .before .before .before .if1 .left)) (state-formula-and t (c .before .before)) (reads-then (State ∷ []) (c .before .state-formula2 .ensures) (c .state-formula3 .ensures))
+state-formula-returns-4 t c =
+    reads-node (not-false _ (c .before .before .before .before .before .if1 .left)) (state-formula-and t (c .before .before))
+    (reads-then (State ∷ []) (c .before .state-formula2 .ensures) (c .state-formula3 .ensures))
 
 state-formula-returns-5 : (t : ℕ) → state-formula-lts.Need-returns-5 (state-formula-claims t) (state-formula-at t) state-formula.Post
-state-formula-returns-5 t c = reads-leaf (not-false _ (c .before .before .before .before .before .before .before .if1 .left)) (c .label .ensures)
+state-formula-returns-5 t c =
+    reads-leaf (not-false _ (c .before .before .before .before .before .before .before .if1 .left)) (c .label .ensures)
 
 state-formula-returns-6 : (t : ℕ) → state-formula-lts.Need-returns-6 (state-formula-claims t) (state-formula-at t) state-formula.Post
 state-formula-returns-6 t c =
     let s = c .before .before .before .before .before .before in
     let b = c .before .before .before .byte-at in
     let rest = c .before .before .match .rest in
-    no-reading State (s .args .text .now) (s .args .n) (s .args .p) (c .stopped .result) (not-false _ (c .before .before .before .before .if1 .left)) (b .result) (b .ensures)
+    no-reading State (s .args .text .now) (s .args .n) (s .args .p) (c .stopped .result)
+    (not-false _ (c .before .before .before .before .if1 .left)) (b .result) (b .ensures)
     (no-state (b .result) (rest .0 .0 .0 .1) (rest .0 .0 .1) (rest .0 .1) (rest .1)
-    (⊎-elim (λ w. inl (w .taken)) (⊎-elim (λ w. inr (inl (w .1 .left, w .2 .taken))) (λ w. inr (inr (w .3 .left)))) (c .before .if2 .came))) (s .pre .1) (c .stopped .ensures)
+    (⊎-elim (λ w. inl (w .taken)) (⊎-elim (λ w. inr (inl (w .1 .left, w .2 .taken))) (λ w. inr (inr (w .3 .left))))
+    (c .before .if2 .came))) (s .pre .1) (c .stopped .ensures)
 
 state-formula-returns-7 : (t : ℕ) → state-formula-lts.Need-returns-7 (state-formula-claims t) (state-formula-at t) state-formula.Post
-state-formula-returns-7 t c = reads-node (not-false _ (c .before .before .before .before .before .if1 .left)) (state-formula-comparison t (c .before .before)) (reads-then (Expression ∷ []) (c .before .expression .ensures) (c .expression2 .ensures))
+state-formula-returns-7 t c =
+    reads-node (not-false _ (c .before .before .before .before .before .if1 .left)) (state-formula-comparison t (c .before .before))
+    (reads-then (Expression ∷ []) (c .before .expression .ensures) (c .expression2 .ensures))
 
 pub +expression+path+state-formula-spec : {M : Type 1} → statement M
 +expression+path+state-formula-spec =

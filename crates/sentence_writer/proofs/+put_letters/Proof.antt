@@ -35,13 +35,19 @@ put-letters-claims t = (put-byte-reads.Asked, put-byte-reads.Learnt, put-letters
 put-letters-returns : (t : ℕ) → put-letters-lts.Need-returns (put-letters-claims t) (put-letters-at t) put-letters.Post
 put-letters-returns t c =
     let s = c .before .before in
-    put-no-letter (s .args .out .now) (s .args .t2) (s .args .letters) (s .args .from) (omega (arith, s .pre .1 .0, s .pre .1 .2)) (c .if1 .taken)
+    put-no-letter (s .args .out .now) (s .args .t2) (s .args .letters) (s .args .from) (omega (arith, s .pre .1 .0, s .pre .1 .2))
+    (c .if1 .taken)
 
 put-letters-returns-2 : (t : ℕ) → put-letters-lts.Need-returns-2 (put-letters-claims t) (put-letters-at t) put-letters.Post
 put-letters-returns-2 t c =
     let s = c .before .before .before .before .before .before .before .before .before .before .before in
-    let e : c .before .before .before .before .before .before .before .before .if2 .letter ≡ letterByte (getD (s .args .t2) (s .args .from) false) = ⊎-elim (λ w. w .1 ∙ ap letterByte (sym (w .0 .taken))) (λ w. w .1 ∙ ap letterByte (sym (w .0 .left))) (c .before .before .before .before .before .before .before .before .if2 .came) in
-    put-letter (s .args .t2) (s .args .letters) (s .args .from) (c .before .before .before .before .before .before .before .before .if2 .letter) (omega (arith, s .pre .1 .0, s .pre .1 .2)) (omega (arith, s .pre .1 .1, c .before .before .before .before .before .before .before .before .before .if1 .left)) e
+    let e : c .before .before .before .before .before .before .before .before .if2 .letter ≡ letterByte
+    (getD (s .args .t2) (s .args .from) false) =
+    ⊎-elim (λ w. w .1 ∙ ap letterByte (sym (w .0 .taken))) (λ w. w .1 ∙ ap letterByte (sym (w .0 .left)))
+    (c .before .before .before .before .before .before .before .before .if2 .came) in
+    put-letter (s .args .t2) (s .args .letters) (s .args .from)
+    (c .before .before .before .before .before .before .before .before .if2 .letter) (omega (arith, s .pre .1 .0, s .pre .1 .2))
+    (omega (arith, s .pre .1 .1, c .before .before .before .before .before .before .before .before .before .if1 .left)) e
     (c .before .before .before .before .before .before .put-byte .ensures) (c .before .before .put-letters .ensures)
 
 pub +put-letters-spec : {M : Type 1} → statement M

@@ -31,24 +31,37 @@ survey-from-below t =
     and 0 survey-from-kinds.ps (falls 0 survey-from-kinds.ps _<_ μ-survey-from t) survey-from.Pre
 
 abbrev survey-from-claims : ℕ → survey-from-lts.Claims
-survey-from-claims t = (survey-from-below t, survey-from.Post, node-size-reads.Asked, node-size-reads.Learnt, is-fault-reads.Asked, is-fault-reads.Learnt)
+survey-from-claims t =
+    (survey-from-below t, survey-from.Post, node-size-reads.Asked, node-size-reads.Learnt, is-fault-reads.Asked, is-fault-reads.Learnt)
 
 survey-from-returns : (t : ℕ) → survey-from-lts.Need-returns (survey-from-claims t) (survey-from-at t) survey-from.Post
 survey-from-returns t c =
     let s = c .before in
-    survey-none (s .args .letters) (listed (s .args .t1) (s .args .count)) (s .args .at) (omega (arith, listed-length (s .args .t1) (s .args .count) (omega (arith, s .pre .1 .0, s .pre .1 .2)), c .if1 .taken))
+    survey-none (s .args .letters) (listed (s .args .t1) (s .args .count)) (s .args .at)
+    (omega (arith, listed-length (s .args .t1) (s .args .count) (omega (arith, s .pre .1 .0, s .pre .1 .2)), c .if1 .taken))
 
 survey-from-add-t15 : (t : ℕ) → survey-from-lts.Need-add-t15 (survey-from-claims t) (survey-from-at t) survey-from.Post
 survey-from-add-t15 t c =
     let s = c .before .before .before .before .before in
-    omega (arith, c .before .node-size .ensures .1, c .before .before .survey-from .ensures .small, length-drop (s .args .at + 1) (listed (s .args .t1) (s .args .count)), listed-length (s .args .t1) (s .args .count) (omega (arith, s .pre .1 .0, s .pre .1 .2)), s .pre .1 .0)
+    omega (
+      arith,
+      c .before .node-size .ensures .1,
+      c .before .before .survey-from .ensures .small,
+      length-drop (s .args .at + 1) (listed (s .args .t1) (s .args .count)),
+      listed-length (s .args .t1) (s .args .count) (omega (arith, s .pre .1 .0, s .pre .1 .2)),
+      s .pre .1 .0,
+    )
 
 survey-from-returns-2 : (t : ℕ) → survey-from-lts.Need-returns-2 (survey-from-claims t) (survey-from-at t) survey-from.Post
 survey-from-returns-2 t c =
     let s = c .before .before .before .before .before .before .before in
-    survey-more (s .args .letters) (listed (s .args .t1) (s .args .count)) (s .args .at) (getD (s .args .t1) (s .args .at) (slot True) .node) (c .before .before .before .before .survey-from .result) (c .before .before .before .node-size .result) (c .before .is-fault .result)
-    (listed-here (s .args .t1) (s .args .count) (s .args .at) (omega (arith, s .pre .1 .0, s .pre .1 .2)) (omega (arith, s .pre .1 .1, c .before .before .before .before .before .before .if1 .left)))
-    (c .before .before .before .node-size .ensures .0) (c .before .before .before .node-size .ensures .1) (c .before .is-fault .ensures) (c .before .before .before .before .survey-from .ensures)
+    survey-more (s .args .letters) (listed (s .args .t1) (s .args .count)) (s .args .at)
+    (getD (s .args .t1) (s .args .at) (slot True) .node) (c .before .before .before .before .survey-from .result)
+    (c .before .before .before .node-size .result) (c .before .is-fault .result)
+    (listed-here (s .args .t1) (s .args .count) (s .args .at) (omega (arith, s .pre .1 .0, s .pre .1 .2))
+    (omega (arith, s .pre .1 .1, c .before .before .before .before .before .before .if1 .left)))
+    (c .before .before .before .node-size .ensures .0) (c .before .before .before .node-size .ensures .1) (c .before .is-fault .ensures)
+    (c .before .before .before .before .survey-from .ensures)
 
 pub +survey-from-spec : {M : Type 1} → statement M
 +survey-from-spec = close μ-survey-from λ t. survey-from-lts.spec (survey-from-claims t)

@@ -7,20 +7,27 @@ use borrow.Author.Tests.{not-true, not-false}
 use lib.ListN.{length}
 use Rattle.sentence_writer.specs.Contract.WriteRow.{counted, lettered}
 use Rattle.sentence_writer.proofs.Fitting.{listed-length}
-use Rattle.sentence_writer.proofs.WriteAll.{Fine, fine, nested, refuse, refuse-none, refuse-unfit, refuse-more, refuse-long, refuse-range, refuse-short, decide-wrote}
+use Rattle.sentence_writer.proofs.WriteAll.{Fine, fine, nested, refuse, refuse-none, refuse-unfit, refuse-more, refuse-long}
+use Rattle.sentence_writer.proofs.WriteAll.{refuse-range, refuse-short, decide-wrote}
 use borrow.Author.Needs.{needs}
 use Rattle.sentence_writer.proofs.decide.Statement.{statement}
 use Rattle.sentence_writer.proofs.decide.Tie as tie
 
 -- what is known once the list is surveyed
-surveyed : (c : tie.After-struct-known2) → Fine (c .before .before .before .before .before .before .before .before .before .before .args .s) (c .before .before .before .before .before .before .before .before .before .before .args .s .letters + 1 + c .before .survey-from .result .size)
+surveyed : (c : tie.After-struct-known2)
+    → let s = c .before .before .before .before .before .before .before .before .before .before .args .s in
+    Fine s (s .letters + 1 + c .before .survey-from .result .size)
 surveyed c =
     let a = c .before .before .before .before .before .before .before .before .before .before in
     let s = a .args .s in
     let r = c .before .before .before .before .before .nest in
-    let room : s .count ≤ length (s .nodes) = omega (arith, a .pre .1, c .before .before .before .before .before .before .before .before .if1 .left) in
-    fine s (c .before .survey-from .result) (a .pre .0) (omega (arith, c .before .before .before .before .before .before .if3 .left)) (c .before .before .before .before .before .before .before .if2 .left) (c .before .before .before .before .before .before .before .before .if1 .left)
-    (nested s (r .result) room (r .ensures) (not-false _ (c .before .before .before .before .if4 .left)) (c .before .before .if5 .left)) (c .before .survey-from .ensures)
+    let room : s .count ≤ length (s .nodes) =
+    omega (arith, a .pre .1, c .before .before .before .before .before .before .before .before .if1 .left) in
+    fine s (c .before .survey-from .result) (a .pre .0) (omega (arith, c .before .before .before .before .before .before .if3 .left))
+    (c .before .before .before .before .before .before .before .if2 .left)
+    (c .before .before .before .before .before .before .before .before .if1 .left)
+    (nested s (r .result) room (r .ensures) (not-false _ (c .before .before .before .before .if4 .left)) (c .before .before .if5 .left))
+    (c .before .survey-from .ensures)
 
 returns : tie.Need-returns
 returns c =
@@ -37,35 +44,51 @@ returns-3 c =
 returns-4 : tie.Need-returns-4
 returns-4 c =
     let r = c .before .nest in
-    refuse-unfit (c .before .before .before .before .before .before .args .s) (c .before .before .before .before .before .before .args .room) (r .result) (r .ensures) (not-true _ (c .if4 .taken))
+    refuse-unfit (c .before .before .before .before .before .before .args .s)
+    (c .before .before .before .before .before .before .args .room) (r .result) (r .ensures) (not-true _ (c .if4 .taken))
 
 returns-5 : tie.Need-returns-5
 returns-5 c =
     let a = c .before .before .before .before .before .before .before .before in
     let r = c .before .before .before .nest in
-    refuse-more (a .args .s) (a .args .room) (r .result) (omega (arith, a .pre .1, c .before .before .before .before .before .before .if1 .left)) (r .ensures) (not-false _ (c .before .before .if4 .left)) (c .if5 .taken)
+    refuse-more (a .args .s) (a .args .room) (r .result)
+    (omega (arith, a .pre .1, c .before .before .before .before .before .before .if1 .left)) (r .ensures)
+    (not-false _ (c .before .before .if4 .left)) (c .if5 .taken)
 
 add-size-2 : tie.Need-add-size-2
 add-size-2 c =
     let a = c .before .before .before .before .before .before .before .before .before .before in
     let s = a .args .s in
-    omega (arith, c .before .survey-from .ensures .small, listed-length (s .nodes) (s .count) (omega (arith, a .pre .1, c .before .before .before .before .before .before .before .before .if1 .left)), c .before .before .before .before .before .before .before .before .if1 .left, c .before .before .before .before .before .before .before .if2 .left)
+    omega (
+      arith,
+      c .before .survey-from .ensures .small,
+      listed-length (s .nodes) (s .count)
+          (omega (arith, a .pre .1, c .before .before .before .before .before .before .before .before .if1 .left)),
+      c .before .before .before .before .before .before .before .before .if1 .left,
+      c .before .before .before .before .before .before .before .if2 .left,
+    )
 
 returns-6 : tie.Need-returns-6
 returns-6 c =
-    refuse-long (c .before .before .before .before .before .before .before .before .before .before .before .args .room) (surveyed (c .before)) (c .if6 .taken)
+    refuse-long (c .before .before .before .before .before .before .before .before .before .before .before .args .room)
+    (surveyed (c .before)) (c .if6 .taken)
 
 returns-7 : tie.Need-returns-7
 returns-7 c =
-    refuse-range (c .before .before .before .before .before .before .before .before .before .before .before .before .args .room) (surveyed (c .before .before)) (c .before .if6 .left) (sym (c .before .before .before .survey-from .ensures .fault) ∙ c .if7 .taken)
+    refuse-range (c .before .before .before .before .before .before .before .before .before .before .before .before .args .room)
+    (surveyed (c .before .before)) (c .before .if6 .left) (sym (c .before .before .before .survey-from .ensures .fault) ∙ c .if7 .taken)
 
 returns-8 : tie.Need-returns-8
 returns-8 c =
-    refuse-short (c .before .before .before .before .before .before .before .before .before .before .before .before .before .args .room) (surveyed (c .before .before .before)) (c .before .before .if6 .left) (sym (c .before .before .before .before .survey-from .ensures .fault) ∙ c .before .if7 .left) (c .if8 .taken)
+    refuse-short (c .before .before .before .before .before .before .before .before .before .before .before .before .before .args .room)
+    (surveyed (c .before .before .before)) (c .before .before .if6 .left)
+    (sym (c .before .before .before .before .survey-from .ensures .fault) ∙ c .before .if7 .left) (c .if8 .taken)
 
 returns-9 : tie.Need-returns-9
 returns-9 c =
-    decide-wrote (c .before .before .before .before .before .before .before .before .before .before .before .before .before .args .room) (surveyed (c .before .before .before)) (c .before .before .if6 .left) (sym (c .before .before .before .before .survey-from .ensures .fault) ∙ c .before .if7 .left) (c .if8 .left)
+    decide-wrote (c .before .before .before .before .before .before .before .before .before .before .before .before .before .args .room)
+    (surveyed (c .before .before .before)) (c .before .before .if6 .left)
+    (sym (c .before .before .before .before .survey-from .ensures .fault) ∙ c .before .if7 .left) (c .if8 .left)
 
 pub decide-spec : {M : Type 1} → statement M
 decide-spec =

@@ -20,7 +20,8 @@ returns-3 c = sym (ap writable (c .before .node3 .given .1))
 
 returns-4 : tie.Need-returns-4
 returns-4 c =
-    other-arm writable true plain refl refl refl (λ r. refl) refl refl refl refl refl (λ l i o. absurd (miss plain 1 tt o)) (λ a b o. absurd (miss plain 6 tt o)) (λ a b o. absurd (miss plain 11 tt o))
+    other-arm writable true plain refl refl refl (λ r. refl) refl refl refl refl refl (λ l i o. absurd (miss plain 1 tt o))
+    (λ a b o. absurd (miss plain 6 tt o)) (λ a b o. absurd (miss plain 11 tt o))
     (c .before .args .node) (c .match .keys4)
 
 pub has-text-spec : {M : Type 1} → statement M

@@ -8,7 +8,8 @@ use Rattle.sentence_writer.proofs.put_label.Tie as tie
 
 returns : tie.Need-returns
 returns c =
-    put-then (_ ∷ []) (_ ∷ []) (c .before .before .before .before .before .before .put-byte .ensures) (c .before .before .put-byte2 .ensures)
+    put-then (_ ∷ []) (_ ∷ []) (c .before .before .before .before .before .before .put-byte .ensures)
+    (c .before .before .put-byte2 .ensures)
 
 pub put-label-spec : {M : Type 1} → statement M
 put-label-spec =

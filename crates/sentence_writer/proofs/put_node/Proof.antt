@@ -83,7 +83,8 @@ returns-4 c =
 
 returns-5 : tie.Need-returns-5
 returns-5 c =
-    put-as (ap (λ (x : ℕ). x ∷ []) (c .before .before .before .relation-byte .ensures) ∙ sym (ap nodeText (c .before .before .before .before .before .before .node2 .given .1))) (c .before .before .put-byte4 .ensures)
+    put-as (ap (λ (x : ℕ). x ∷ []) (c .before .before .before .relation-byte .ensures)
+    ∙ sym (ap nodeText (c .before .before .before .before .before .before .node2 .given .1))) (c .before .before .put-byte4 .ensures)
 
 returns-6 : tie.Need-returns-6
 returns-6 c =

@@ -24,44 +24,89 @@ decide-requires : tie.Need-decide-requires
 decide-requires c κs =
     lengths (c .before)
 
+-- Each need names the places before it, the last first: where the letters and the dot are written, where the answer is matched,
+-- where it is decided, and where the function begins.
+
 put-letters-requires : tie.Need-put-letters-requires
 put-letters-requires c κs =
-    let s = c .before .before .before .before .before .before .before .before .args .s in
-    let l = lengths (c .before .before .before .before .before .before .before .before) in
-    let k = cleared (c .before .before .before .before .before .before .decide .ensures) (c .before .before .before .before .answer2 .given .1) in
-    (k .few, omega arith, l .0, omega (arith, text-length (prefixOf s) (nodesOf s), length-take-le (s .letters) (s .exists) (omega (arith, l .0, k .few)), k .fits))
+    let matched = c .before .before .before .before in
+    let decided = matched .before .before in
+    let start = decided .before .before in
+    let s = start .args .s in
+    let l = lengths start in
+    let k = cleared (decided .decide .ensures) (matched .answer2 .given .1) in (
+      k .few,
+      omega arith,
+      l .0,
+      omega (arith, text-length (prefixOf s) (nodesOf s), length-take-le (s .letters) (s .exists) (omega (arith, l .0, k .few)), k .fits),
+    )
 
 put-byte-requires : tie.Need-put-byte-requires
 put-byte-requires c κs =
-    let s = c .before .before .before .before .before .before .before .before .before .before .before .before .args .s in
-    let l = lengths (c .before .before .before .before .before .before .before .before .before .before .before .before) in
-    let k = cleared (c .before .before .before .before .before .before .before .before .before .before .decide .ensures) (c .before .before .before .before .before .before .before .before .answer2 .given .1) in
-    let p = c .before .before .before .put-letters .ensures in
-    omega (arith, p .next, put-length (map letterByte (prefixOf s)) p, length-map (prefixOf s) letterByte, text-length (prefixOf s) (nodesOf s), length-take-le (s .letters) (s .exists) (omega (arith, l .0, k .few)), k .fits)
+    let lettered = c .before .before .before in
+    let matched = lettered .before .before .before .before .before in
+    let decided = matched .before .before in
+    let start = decided .before .before in
+    let s = start .args .s in
+    let l = lengths start in
+    let k = cleared (decided .decide .ensures) (matched .answer2 .given .1) in
+    let p = lettered .put-letters .ensures in
+    omega (
+      arith,
+      p .next,
+      put-length (map letterByte (prefixOf s)) p,
+      length-map (prefixOf s) letterByte,
+      text-length (prefixOf s) (nodesOf s),
+      length-take-le (s .letters) (s .exists) (omega (arith, l .0, k .few)),
+      k .fits,
+    )
 
 put-nodes-requires : tie.Need-put-nodes-requires
 put-nodes-requires c κs =
-    let s = c .before .before .before .before .before .before .before .before .before .before .before .before .before .before .before .before .args .s in
-    let l = lengths (c .before .before .before .before .before .before .before .before .before .before .before .before .before .before .before .before) in
-    let k = cleared (c .before .before .before .before .before .before .before .before .before .before .before .before .before .before .decide .ensures) (c .before .before .before .before .before .before .before .before .before .before .before .before .answer2 .given .1) in
-    let p = c .before .before .before .before .before .before .before .put-letters .ensures in
-    let q = c .before .before .before .put-byte .ensures in (
+    let dotted = c .before .before .before in
+    let lettered = dotted .before .before .before .before in
+    let matched = lettered .before .before .before .before .before in
+    let decided = matched .before .before in
+    let start = decided .before .before in
+    let s = start .args .s in
+    let l = lengths start in
+    let k = cleared (decided .decide .ensures) (matched .answer2 .given .1) in
+    let p = lettered .put-letters .ensures in
+    let q = dotted .put-byte .ensures in (
       k .room-for,
       omega arith,
       l .1,
       all-writable (k .spells .nests),
-      omega (arith, p .next, q .next, put-length (map letterByte (prefixOf s)) p, put-length (46 ∷ []) q, length-map (prefixOf s) letterByte, text-length (prefixOf s) (nodesOf s), length-take-le (s .letters) (s .exists) (omega (arith, l .0, k .few)), k .fits),
+      omega (
+        arith,
+        p .next,
+        q .next,
+        put-length (map letterByte (prefixOf s)) p,
+        put-length (46 ∷ []) q,
+        length-map (prefixOf s) letterByte,
+        text-length (prefixOf s) (nodesOf s),
+        length-take-le (s .letters) (s .exists) (omega (arith, l .0, k .few)),
+        k .fits,
+      ),
     )
 
 returns : tie.Need-returns
 returns c =
-    answer-refused (c .before .before .before .before .before .args .out .now) (c .before .before .before .decide .ensures) (c .before .answer .given .1)
+    let decided = c .before .before .before in
+    answer-refused (decided .before .before .args .out .now) (decided .decide .ensures) (c .before .answer .given .1)
 
 returns-2 : tie.Need-returns-2
 returns-2 c =
-    let s = c .before .before .before .before .before .before .before .before .before .before .before .before .before .before .before .before .before .before .before .args .s in
-    answer-wrote (c .before .before .before .before .before .before .before .before .before .before .before .before .before .before .before .before .before .before .before .args .out .now) _ (cleared (c .before .before .before .before .before .before .before .before .before .before .before .before .before .before .before .before .before .decide .ensures) (c .before .before .before .before .before .before .before .before .before .before .before .before .before .before .before .answer2 .given .1))
-    (put-then (map letterByte (prefixOf s)) _ (c .before .before .before .before .before .before .before .before .before .before .put-letters .ensures) (put-then (46 ∷ []) (bodyText (nodesOf s)) (c .before .before .before .before .before .before .put-byte .ensures) (c .before .before .put-nodes .ensures)))
+    let bodied = c .before .before in
+    let dotted = bodied .before .before .before .before in
+    let lettered = dotted .before .before .before .before in
+    let matched = lettered .before .before .before .before .before in
+    let decided = matched .before .before in
+    let start = decided .before .before in
+    let s = start .args .s in
+    answer-wrote (start .args .out .now) _ (cleared (decided .decide .ensures) (matched .answer2 .given .1))
+    (put-then (map letterByte (prefixOf s)) _ (lettered .put-letters .ensures)
+    (put-then (46 ∷ []) (bodyText (nodesOf s)) (dotted .put-byte .ensures) (bodied .put-nodes .ensures)))
 
 pub write-sentence-spec : {M : Type 1} → statement M
 write-sentence-spec =

@@ -1,9 +1,8 @@
 -- `operands` and `size_at` meet their contracts, by what the node wants. The measure is the number of places left, counted twice.
--- Assumes nothing.
 use borrow.Author.Needs.{needs}
 use mathlib.Core.Path.{refl, sym, ap, _∙_}
 use Rattle.trees.specs.Wanted.{operandCount}
-use Rattle.sizes.proofs.Walk.{sized-past, sized-two}
+use Rattle.sizes.proofs.Walk.{sized-as, sized-past, sized-two}
 use Prim.Native.Nat.{ℕ, _+_, _-_, _*_, _<_}
 use borrow.Fn.Kinds.{In}
 use borrow.Fn.PlainCycle.{Measures, is, falls, and}
@@ -64,13 +63,16 @@ size-at-claims t = (
 operands-returns : (t : ℕ) → operands-lts.Need-returns (operands-claims t) (operands-at t) operands.Post
 operands-returns t c =
     let s = c .before .before .before .before in
-    sized-two (s .args .nodes) (s .args .at) (s .args .base) (s .args .n) (c .before .before .before .size-at .result) (c .before .before .size-at2 .result)
-    (c .before .before .before .size-at .ensures) (c .before .before .size-at2 .ensures)
+    let first = c .before .before .before .size-at in
+    let second = c .before .before .size-at2 in
+    sized-two (s .args .nodes) (s .args .at) (s .args .base) (s .args .n) (first .result) (second .result)
+    (first .ensures) (second .ensures)
 
 size-at-returns : (t : ℕ) → size-at-lts.Need-returns (size-at-claims t) (size-at-at t) size-at.Post
 size-at-returns t c =
     let s = c .before .before in
-    sized-past (s .args .t1) (s .args .at) (s .args .base) (s .args .n) _ (c .before .if1 .taken) (s .pre .1 .0) (c .plain .ensures .0)
+    sized-as (c .plain .ensures)
+    (sized-past (s .args .t1) (s .args .at) (s .args .base) (s .args .n) (c .before .if1 .taken) (s .pre .1 .0))
 
 size-at-returns-2 : (t : ℕ) → size-at-lts.Need-returns-2 (size-at-claims t) (size-at-at t) size-at.Post
 size-at-returns-2 t c =
@@ -93,33 +95,15 @@ size-at-returns-4 t c =
     (c .before .operands .ensures)
 
 pub +operands+size-at-spec : {M : Type 1} → statement M
-+operands+size-at-spec = close μ-operands μ-size-at (λ t. operands-lts.spec (
-  size-at-below t,
-  size-at.Post,
-)
-    (operands-at t)
-    operands.Post
++operands+size-at-spec =
+    close μ-operands μ-size-at
+    (λ t.
+    operands-lts.spec (operands-claims t) (operands-at t) operands.Post
     (λ c κs. search needs)
     (λ c κs. search needs)
     (operands-returns t))
-    λ t. size-at-lts.spec (
-      plain-reads.Asked,
-      plain-reads.Learnt,
-      wants-of-reads.Asked,
-      wants-of-reads.Learnt,
-      of-none-reads.Asked,
-      of-none-reads.Learnt,
-      size-at-below t,
-      size-at.Post,
-      of-one-reads.Asked,
-      of-one-reads.Learnt,
-      operands-below t,
-      operands.Post,
-      of-two-reads.Asked,
-      of-two-reads.Learnt,
-    )
-    (size-at-at t)
-    size-at.Post
+    λ t.
+    size-at-lts.spec (size-at-claims t) (size-at-at t) size-at.Post
     (λ c κs. search needs)
     (size-at-returns t)
     (λ c. search needs)

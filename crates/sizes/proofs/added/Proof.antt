@@ -1,6 +1,8 @@
--- `added` meets its contract. Assumes nothing.
+-- `added` meets its contract.
 use borrow.Author.Needs.{needs}
-use mathlib.Core.Path.{_∙_}
+use Prim.Native.Nat.{ℕ, _+_}
+use mathlib.Core.Path.{ap₂, _∙_}
+use Rattle.sizes.specs.Sizing.{capped, measured}
 use Rattle.sizes.proofs.Capped.{capped-result}
 use Rattle.sizes.proofs.added.Statement.{statement}
 use Rattle.sizes.proofs.added.Tie as tie
@@ -10,9 +12,12 @@ plus-requires c κs = (capped-result _ _ (c .before .times2 .ensures), capped-re
 
 returns : tie.Need-returns
 returns c =
-    let j = c .judged .ensures in
-    let s = c .before .before .before .before in
-    (j .0, cc (j .1, j .2, j .3), j .2 ∙ s .times .ensures, cc (j .3, c .before .plus .ensures, c .before .before .times3 .ensures, c .before .before .before .times2 .ensures))
+    let crosses = c .before .before .before in
+    let t = crosses .before .before .args .t in
+    c .judged .ensures ∙
+    ap₂ (λ (d m : ℕ). measured (t .next) d m (t .over)) (crosses .before .times .ensures)
+    (c .before .plus .ensures ∙
+    ap₂ (λ (x y : ℕ). capped (x + y)) (crosses .times2 .ensures) (c .before .before .times3 .ensures))
 
 pub added-spec : {M : Type 1} → statement M
 added-spec =

@@ -1,16 +1,20 @@
--- `constant` meets its contract: its numbers are below 2^32. Assumes nothing.
+-- `constant` meets its contract: its numbers are below 2^32.
 use borrow.Author.Needs.{needs}
-use mathlib.Core.Path.{sym, _∙_}
+use Prim.Native.Nat.{ℕ}
+use mathlib.Core.Bool.{false}
+use mathlib.Core.Path.{sym, ap₂, _∙_}
 use native.Mathlib.Omega.{arith}
+use Rattle.sizes.specs.Sizing.{measured}
 use Rattle.sizes.proofs.Capped.{capped-small}
 use Rattle.sizes.proofs.constant.Statement.{statement}
 use Rattle.sizes.proofs.constant.Tie as tie
 
 returns : tie.Need-returns
 returns c =
-    let j = c .judged .ensures in
-    let f = c .before .fits in
-    (j .0, j .1, j .2 ∙ sym (capped-small _ (omega (arith, f .bottom))), j .3 ∙ sym (capped-small _ (omega (arith, f .top))))
+    let start = c .before in
+    c .judged .ensures ∙
+    ap₂ (λ (d m : ℕ). measured (start .args .next) d m false)
+    (sym (capped-small _ (omega (arith, start .fits .bottom)))) (sym (capped-small _ (omega (arith, start .fits .top))))
 
 pub constant-spec : {M : Type 1} → statement M
 constant-spec = tie.close (tie.spec (λ c κs. search needs) returns)

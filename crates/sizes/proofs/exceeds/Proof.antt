@@ -1,4 +1,4 @@
--- `exceeds` meets its contract: what is found at place 0. Assumes nothing.
+-- `exceeds` meets its contract: what is found at place 0.
 use borrow.Author.Needs.{needs}
 use Rattle.sizes.proofs.exceeds.Statement.{statement}
 use Rattle.sizes.proofs.exceeds.Tie as tie

@@ -1,8 +1,10 @@
 -- `sizes::of_one` meets its contract: three nodes want one thing.
 use borrow.Author.Needs.{needs}
 use mathlib.Core.List.{[], _∷_}
-use mathlib.Core.Path.{_∙_}
-use Rattle.sizes.proofs.Walk.{sized-not, sized-probability, sized-next, other-arm}
+use Prim.Native.Nat.{ℕ}
+use mathlib.Core.Path.{ap, _∙_}
+use Rattle.sizes.specs.Sizing.{ofPath}
+use Rattle.sizes.proofs.Walk.{sized-not, sized-probability, sized-next, sized-as, other-arm}
 use Rattle.sizes.proofs.of_one.Statement.{statement}
 use Rattle.sizes.proofs.of_one.Tie as tie
 
@@ -10,10 +12,20 @@ returns : tie.Need-returns
 returns c = record { each = λ slots at room e w s. sized-not slots at _ _ room _ s (e ∙ c .enum-told .given .1) }
 
 returns-2 : tie.Need-returns-2
-returns-2 c = record { each = λ slots at room e w s. sized-probability slots at _ _ room _ _ s (c .probable .ensures .0) (c .probable .ensures .1) (c .probable .ensures .2) (c .probable .ensures .3) (e ∙ c .before .enum-told2 .given .1) }
+returns-2 c = record {
+  each = λ slots at room e w s.
+      sized-as (c .probable .ensures)
+      (sized-probability slots at _ _ room _ s (e ∙ c .before .enum-told2 .given .1));
+}
 
 returns-3 : tie.Need-returns-3
-returns-3 c = record { each = λ slots at room e w s. sized-next slots at _ _ room _ _ s (c .stepped .ensures .0) (c .stepped .ensures .1) (c .stepped .ensures .2 ∙ c .before .power .ensures) (e ∙ c .before .before .enum-told3 .given .1) }
+returns-3 c = record {
+  each = λ slots at room e w s.
+      let t = c .before .before .before .before .args .t in
+      sized-as
+      (c .stepped .ensures ∙ ap (λ (d : ℕ). ofPath (t .next) d (t .over)) (c .before .power .ensures))
+      (sized-next slots at _ _ room _ s (e ∙ c .before .before .enum-told3 .given .1));
+}
 
 returns-4 : tie.Need-returns-4
 returns-4 c = record {

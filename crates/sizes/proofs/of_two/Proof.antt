@@ -1,28 +1,58 @@
 -- `sizes::of_two` meets its contract: six nodes want two things.
 use borrow.Author.Needs.{needs}
 use mathlib.Core.List.{[], _∷_}
-use mathlib.Core.Path.{_∙_}
-use Rattle.sizes.proofs.Walk.{sized-and, sized-compare, sized-sum, sized-difference, sized-product, sized-until, other-arm}
+use Prim.Native.Nat.{ℕ}
+use mathlib.Core.Path.{ap, _∙_}
+use Rattle.sizes.specs.Sizing.{ofPath}
+use Rattle.sizes.proofs.Walk.{sized-and, sized-compare, sized-sum, sized-difference, sized-product, sized-until, sized-as, other-arm}
 use Rattle.sizes.proofs.of_two.Statement.{statement}
 use Rattle.sizes.proofs.of_two.Tie as tie
 
 returns : tie.Need-returns
-returns c = record { each = λ slots at room e w s. sized-and slots at _ _ room _ s _ (c .joined .ensures .0) (c .joined .ensures .1) (e ∙ c .before .enum-told .given .1) }
+returns c = record {
+  each = λ slots at room e w s.
+      sized-as (c .joined .ensures)
+      (sized-and slots at _ _ room _ s (e ∙ c .before .enum-told .given .1));
+}
 
 returns-2 : tie.Need-returns-2
-returns-2 c = record { each = λ slots at room e w s. sized-compare slots at _ _ room _ s _ (c .crossed .ensures .0) (c .crossed .ensures .1) (c .before .enum-told2 .given .0 .0) (e ∙ c .before .enum-told2 .given .1) }
+returns-2 c = record {
+  each = λ slots at room e w s.
+      let node = c .before .enum-told2 .given in
+      sized-as (c .crossed .ensures)
+      (sized-compare slots at _ _ room _ s (node .0 .0) (e ∙ node .1));
+}
 
 returns-3 : tie.Need-returns-3
-returns-3 c = record { each = λ slots at room e w s. sized-sum slots at _ _ room _ s _ (c .added .ensures .0) (c .added .ensures .1) (c .added .ensures .2) (c .added .ensures .3) (e ∙ c .before .enum-told3 .given .1) }
+returns-3 c = record {
+  each = λ slots at room e w s.
+      sized-as (c .added .ensures)
+      (sized-sum slots at _ _ room _ s (e ∙ c .before .enum-told3 .given .1));
+}
 
 returns-4 : tie.Need-returns-4
-returns-4 c = record { each = λ slots at room e w s. sized-difference slots at _ _ room _ s _ (c .added2 .ensures .0) (c .added2 .ensures .1) (c .added2 .ensures .2) (c .added2 .ensures .3) (e ∙ c .before .enum-told4 .given .1) }
+returns-4 c = record {
+  each = λ slots at room e w s.
+      sized-as (c .added2 .ensures)
+      (sized-difference slots at _ _ room _ s (e ∙ c .before .enum-told4 .given .1));
+}
 
 returns-5 : tie.Need-returns-5
-returns-5 c = record { each = λ slots at room e w s. sized-product slots at _ _ room _ s _ (c .multiplied .ensures .0) (c .multiplied .ensures .1) (c .multiplied .ensures .2) (c .multiplied .ensures .3) (e ∙ c .before .enum-told5 .given .1) }
+returns-5 c = record {
+  each = λ slots at room e w s.
+      sized-as (c .multiplied .ensures)
+      (sized-product slots at _ _ room _ s (e ∙ c .before .enum-told5 .given .1));
+}
 
 returns-6 : tie.Need-returns-6
-returns-6 c = record { each = λ slots at room e w s. let h = c .before .before .before .node .given in sized-until slots at _ _ room _ s _ (c .stepped .ensures .0) (h .0 .0) (h .0 .1 .0) (c .stepped .ensures .1) (c .stepped .ensures .2 ∙ c .before .until-denominator .ensures) (e ∙ h .1) }
+returns-6 c = record {
+  each = λ slots at room e w s.
+      let node = c .before .before .before .node .given in
+      let t = c .before .before .before .before .before .args .t in
+      sized-as
+      (c .stepped .ensures ∙ ap (λ (d : ℕ). ofPath (t .next) d (t .over)) (c .before .until-denominator .ensures))
+      (sized-until slots at _ _ room _ s (node .0 .0) (node .0 .1 .0) (e ∙ node .1));
+}
 
 returns-7 : tie.Need-returns-7
 returns-7 c = record {

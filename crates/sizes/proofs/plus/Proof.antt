@@ -1,4 +1,4 @@
--- `plus` meets its contract, by the test for too large. Assumes nothing.
+-- `plus` meets its contract, by the test for too large.
 use borrow.Author.Needs.{needs}
 use mathlib.Core.Path.{sym}
 use native.Mathlib.Omega.{arith}

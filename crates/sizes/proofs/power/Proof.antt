@@ -1,4 +1,4 @@
--- `power` meets its contract. The invariant: the number is the power so far, capped. Assumes nothing.
+-- `power` meets its contract. The invariant: the number is the power so far, capped.
 use borrow.Author.Needs.{needs}
 use Prim.Native.Nat.{_-_, _^_, _≤_}
 use mathlib.Core.Path.{_≡_, sym, ap, _∙_}

@@ -1,8 +1,9 @@
--- `times` meets its contract: the quotient of 2^62 says whether the product is too large. Assumes nothing.
+-- `times` meets its contract: the quotient of 2^62 says whether the product is too large.
 use borrow.Author.Needs.{needs}
 use Prim.Native.Nat.{ℕ, _*_, _≤_}
 use mathlib.Core.Path.{_≡_, sym, ap, _∙_}
 use native.Mathlib.Omega.{arith}
+use Rattle.meaning.specs.Size.{sizeLimit}
 use Rattle.sizes.proofs.Capped.{capped-small, capped-large, product-large, product-small}
 use Rattle.sizes.proofs.times.Statement.{statement}
 use Rattle.sizes.proofs.times.Tie as tie
@@ -20,7 +21,7 @@ returns-2 c =
     sym (capped-large _ (product-large _ _ h (c .if2 .taken)))
 
 -- where the test fails the product is at most 2^62
-small : (c : lts.Else2 reads.Pre reads.Post) → c .before .before .args .a * c .before .before .args .b ≤ 4611686018427387904
+small : (c : lts.Else2 reads.Pre reads.Post) → c .before .before .args .a * c .before .before .args .b ≤ sizeLimit
 small c = product-small _ _ (c .if2 .left)
 
 mul-result : tie.Need-mul-result

@@ -1,4 +1,4 @@
--- `too_large` meets its contract. Assumes nothing.
+-- `too_large` meets its contract.
 use mathlib.Core.Path.{refl}
 use Rattle.meaning.specs.Size.{tooLarge}
 use Rattle.sizes.proofs.too_large.Statement.{statement}

@@ -1,4 +1,4 @@
--- `until_denominator` meets its contract: the exponent is at most 4 × 2^32. Assumes nothing.
+-- `until_denominator` meets its contract: the exponent is at most 4 × 2^32.
 use borrow.Author.Needs.{needs}
 use Prim.Native.Nat.{_*_, _≤_}
 use native.Mathlib.Nat.{mul-le-mul-right}

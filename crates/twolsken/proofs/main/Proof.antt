@@ -1,4 +1,5 @@
--- `main` is safe and ends: what was read of each file lies within its buffer. Assumes nothing.
+-- `main` is safe and ends: what was read of each file lies within its buffer, and the buffers have as many bytes as `judged` asks for.
+-- Assumes nothing.
 use borrow.Author.Needs.{needs}
 use Rattle.io.specs.Counts.{Counts}
 use Rattle.twolsken.proofs.Fronts.{counts-read}
@@ -21,17 +22,13 @@ sentence c =
     let at-read = c .before .before .before .before in
     counts-read (at-read .read-file2 .last .1 .0) (c .before .s .given .1) (at-read .read-file2 .ensures)
 
-array-share-prefix-model : tie.Need-array-share-prefix-model
-array-share-prefix-model c = model (c .before .before .before .before .before .before .before) .0
-
-slice-aggregate-answer : tie.Need-slice-aggregate-answer
-slice-aggregate-answer c = model (c .before .before .before .before .before .before .before .before) .1
-
-array-share-prefix-sentence : tie.Need-array-share-prefix-sentence
-array-share-prefix-sentence c = sentence (c .before) .0
-
-slice-aggregate-answer-2 : tie.Need-slice-aggregate-answer-2
-slice-aggregate-answer-2 c = sentence (c .before .before) .1
+judged-requires : tie.Need-judged-requires
+judged-requires c κs = (
+  search needs,
+  model (c .before .before .before .before .before .before .before .before .before),
+  search needs,
+  sentence (c .before .before),
+)
 
 pub main-spec : {M : Type 1} → statement M
 main-spec =
@@ -49,10 +46,8 @@ main-spec =
     (λ c. search needs)
     (λ c. search needs)
     (λ c. search needs)
-    array-share-prefix-model
-    slice-aggregate-answer
-    array-share-prefix-sentence
-    slice-aggregate-answer-2
-    (λ c κs. search needs)
+    (λ c. search needs)
+    (λ c. search needs)
+    judged-requires
     (λ c κs. search needs)
     (λ c. search needs))

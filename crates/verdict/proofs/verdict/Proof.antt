@@ -5,7 +5,7 @@ use native.Mathlib.Omega.{arith}
 use borrow.Author.Needs.{needs}
 use lib.ListN.{length, take}
 use lib.Seq.{length-take-le}
-use Rattle.question.specs.Rows.{QuestionRow}
+use Rattle.question.specs.Contract.{QuestionRow, areaSize}
 use Rattle.question.proofs.Numbers.{none-of}
 use Rattle.question.proofs.Settled.{space, ready-of}
 use Rattle.question.proofs.Cleared.{back-long, cleared-so}
@@ -31,9 +31,9 @@ none c =
 slice-relend-prefix-judged : tie.Need-slice-relend-prefix-judged
 slice-relend-prefix-judged c = space (none (c .before .before))
 
--- the area that is lent is 8,192 numbers long
-lent : (c : tie.Else1) → length (take 8192 (c .before .before .before .before .before .before .before .args .work .now)) ≡ 8192
-lent c = length-take-le 8192 (c .before .before .before .before .before .before .before .args .work .now) (space (none c))
+-- the front of the area that is lent has the numbers that a call uses
+lent : (c : tie.Else1) → length (take areaSize (c .before .before .before .before .before .before .before .args .work .now)) ≡ areaSize
+lent c = length-take-le areaSize (c .before .before .before .before .before .before .before .args .work .now) (space (none c))
 
 slice-aggregate-judged : tie.Need-slice-aggregate-judged
 slice-aggregate-judged c = sym (lent (c .before .before .before))
@@ -44,8 +44,8 @@ judged-requires c κs =
     let asked = free .before in
     (ready-of (none free) (asked .before .before .read-model .ensures) (asked .before .read-sentence .ensures), lent free)
 
--- and so it is when it comes back
-back : (c : tie.After-judged) → length (c .judged .last .1 .1 .0) ≡ 8192
+-- its length is unchanged on return
+back : (c : tie.After-judged) → length (c .judged .last .1 .1 .0) ≡ areaSize
 back c = c .judged .kept .1 .1 .0 ∙ lent (c .before .before .before .before)
 
 zero-requires : tie.Need-zero-requires

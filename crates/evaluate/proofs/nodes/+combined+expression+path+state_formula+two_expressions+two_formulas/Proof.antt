@@ -28,27 +28,32 @@ use borrow.Fn.Kinds.{In}
 use borrow.Fn.PlainCycle.{Measures, is, falls, and}
 use Rattle.evaluate.proofs.nodes.combined.Reads as combined
 use Rattle.evaluate.proofs.nodes.combined.Kinds as combined-kinds
-use Rattle.evaluate.proofs.nodes.+combined+expression+path+state_formula+two_expressions+two_formulas.Lts-combined as combined-lts
+use Rattle.evaluate.proofs.nodes.+combined+expression+path+state_formula+two_expressions+two_formulas.Lts-combined as
+    combined-lts
 use Rattle.evaluate.proofs.nodes.expression.Reads as expression
 use Rattle.evaluate.proofs.nodes.expression.Kinds as expression-kinds
-use Rattle.evaluate.proofs.nodes.+combined+expression+path+state_formula+two_expressions+two_formulas.Lts-expression as expression-lts
+use Rattle.evaluate.proofs.nodes.+combined+expression+path+state_formula+two_expressions+two_formulas.Lts-expression as
+    expression-lts
 use Rattle.evaluate.proofs.nodes.path.Reads as path
 use Rattle.evaluate.proofs.nodes.path.Kinds as path-kinds
 use Rattle.evaluate.proofs.nodes.+combined+expression+path+state_formula+two_expressions+two_formulas.Lts-path as
     path-lts
 use Rattle.evaluate.proofs.nodes.state_formula.Reads as state-formula
 use Rattle.evaluate.proofs.nodes.state_formula.Kinds as state-formula-kinds
-use Rattle.evaluate.proofs.nodes.+combined+expression+path+state_formula+two_expressions+two_formulas.Lts-state_formula as state-formula-lts
+use Rattle.evaluate.proofs.nodes.+combined+expression+path+state_formula+two_expressions+two_formulas.Lts-state_formula as
+    state-formula-lts
 use Rattle.evaluate.proofs.nodes.two_expressions.Reads as two-expressions
 use Rattle.evaluate.proofs.nodes.two_expressions.Kinds as two-expressions-kinds
-use Rattle.evaluate.proofs.nodes.+combined+expression+path+state_formula+two_expressions+two_formulas.Lts-two_expressions as two-expressions-lts
+use Rattle.evaluate.proofs.nodes.+combined+expression+path+state_formula+two_expressions+two_formulas.Lts-two_expressions as
+    two-expressions-lts
 use Rattle.evaluate.proofs.nodes.two_formulas.Reads as two-formulas
 use Rattle.evaluate.proofs.nodes.two_formulas.Kinds as two-formulas-kinds
-use Rattle.evaluate.proofs.nodes.+combined+expression+path+state_formula+two_expressions+two_formulas.Lts-two_formulas as two-formulas-lts
+use Rattle.evaluate.proofs.nodes.+combined+expression+path+state_formula+two_expressions+two_formulas.Lts-two_formulas as
+    two-formulas-lts
 use Rattle.evaluate.proofs.nodes.nothing.Reads as nothing-reads
-use Rattle.evaluate.proofs.plain.label.Reads as label-reads
+use Rattle.layers.proofs.plain.label.Reads as label-reads
 use Rattle.evaluate.proofs.plain.relation_of.Reads as relation-of-reads
-use Rattle.evaluate.proofs.plain.swap.Reads as swap-reads
+use Rattle.layers.proofs.plain.swap.Reads as swap-reads
 use Rattle.evaluate.proofs.plain.until_within.Reads as until-within-reads
 use Rattle.evaluate.proofs.survey.survey.Reads as survey-reads
 use Rattle.fractions.proofs.codes.combine.Reads as combine-reads
@@ -57,8 +62,8 @@ use Rattle.fractions.proofs.codes.constant.Reads as constant-reads
 use Rattle.layers.proofs.plain.always.Reads as always-reads
 use Rattle.layers.proofs.plain.both.Reads as both-reads
 use Rattle.layers.proofs.plain.negated.Reads as negated-reads
-use Rattle.layers.proofs.step.joint_step.Reads as joint-step-reads
-use Rattle.layers.proofs.until.scaled.Reads as scaled-reads
+use Rattle.steps.proofs.joint_step.Reads as joint-step-reads
+use Rattle.layers.proofs.power.scaled.Reads as scaled-reads
 use Rattle.evaluate.proofs.nodes.+combined+expression+path+state_formula+two_expressions+two_formulas.{
   statement,
 }
@@ -236,7 +241,8 @@ combined-returns t c =
     (c .before .before .before .combine .ensures)
 
 -- the place after the node is a number of 64 bits
-expression-next : (t : ℕ) (start : expression-lts.Start (expression-claims t) (expression-at t) expression.Post) → Fits w64 (start .args .at + 1)
+expression-next : (t : ℕ) (start : expression-lts.Start (expression-claims t) (expression-at t) expression.Post) →
+    Fits w64 (start .args .at + 1)
 expression-next t start = next-fits (start .args .at) (expression-inside (start .pre .1))
 
 expression-mul-slot : (t : ℕ) → expression-lts.Need-mul-slot (expression-claims t) (expression-at t) expression.Post
@@ -353,14 +359,17 @@ path-until-within-requires t c κs =
 
 path-mul-scaled : (t : ℕ) → path-lts.Need-mul-scaled (path-claims t) (path-at t) path.Post
 path-mul-scaled t c =
-    let node = c .before .before .before .before .before .before .before .before .before .before .node .given in
-    times-fit _ (until-times
-    (c .before .before .before .before .before .before .before .before .before .before .before .before .before .before .pre .1) (node .0 .0) (node .0 .1 .0) (node .1))
+    let told = c .before .before .before .before .before .before .before .before .before .before in
+    let start = told .before .before .before .before in
+    let node = told .node .given in
+    times-fit _ (until-times (start .pre .1) (node .0 .0) (node .0 .1 .0) (node .1))
 
 path-scaled-requires-2 : (t : ℕ) → path-lts.Need-scaled-requires-2 (path-claims t) (path-at t) path.Post
 path-scaled-requires-2 t c κs =
-    let node = c .before .before .before .before .before .before .before .before .before .before .node .given in
-    until-scales (c .before .before .before .before .before .before .before .before .before .before .before .before .before .before .pre .1) (node .0 .0) (node .0 .1 .0) (node .1)
+    let told = c .before .before .before .before .before .before .before .before .before .before in
+    let start = told .before .before .before .before in
+    let node = told .node .given in
+    until-scales (start .pre .1) (node .0 .0) (node .0 .1 .0) (node .1)
 
 path-returns : (t : ℕ) → path-lts.Need-returns (path-claims t) (path-at t) path.Post
 path-returns t c =
@@ -379,7 +388,9 @@ path-returns-3 : (t : ℕ) → path-lts.Need-returns-3 (path-claims t) (path-at 
 path-returns-3 t c = no-path (c .before .match .keys3)
 
 -- the place after the node is a number of 64 bits
-state-formula-next : (t : ℕ) (start : state-formula-lts.Start (state-formula-claims t) (state-formula-at t) state-formula.Post) → Fits w64 (start .args .at + 1)
+state-formula-next : (t : ℕ)
+    (start : state-formula-lts.Start (state-formula-claims t) (state-formula-at t) state-formula.Post) →
+    Fits w64 (start .args .at + 1)
 state-formula-next t start = next-fits (start .args .at) (formula-inside (start .pre .1))
 
 state-formula-mul-slot : (t : ℕ) → state-formula-lts.Need-mul-slot (state-formula-claims t) (state-formula-at t)
@@ -487,83 +498,95 @@ state-formula-returns-6 : (t : ℕ) → state-formula-lts.Need-returns-6 (state-
     state-formula.Post
 state-formula-returns-6 t c = no-formula (c .match .keys6)
 
-two-expressions-survey-requires : (t : ℕ) → two-expressions-lts.Need-survey-requires (two-expressions-claims t)
-    (two-expressions-at t) two-expressions.Post
+-- ---- two expressions
+
+two-expressions-survey-requires : (t : ℕ) → two-expressions-lts.Need-survey-requires (two-expressions-claims t) (two-expressions-at t)
+    two-expressions.Post
 two-expressions-survey-requires t c κs = place-most (c .before .args .at) (expressions-inside (c .before .pre .1))
 
 two-expressions-expression-requires : (t : ℕ) → two-expressions-lts.Need-expression-requires (two-expressions-claims t)
-    (two-expressions-at t) two-expressions.Post
+    (two-expressions-at t)
+    two-expressions.Post
 two-expressions-expression-requires t c κs =
     let start = c .before .before .before .before .before .before .before in (
       to-each (start .args .at) (start .args .at) t (start .pre .0) (le-refl (start .args .at)),
       first-expression-whole (start .pre .1),
     )
 
-two-expressions-sub-expression : (t : ℕ) → two-expressions-lts.Need-sub-expression (two-expressions-claims t)
-    (two-expressions-at t) two-expressions.Post
+two-expressions-sub-expression : (t : ℕ) → two-expressions-lts.Need-sub-expression (two-expressions-claims t) (two-expressions-at t)
+    two-expressions.Post
 two-expressions-sub-expression t c =
-    front-kept (c .before .before .before .before .before .before .before .before .before .before .args .g .tuples)
-    (expressions-room (c .before .before .before .before .before .before .before .before .before .before .pre .1))
-    (c .before .before .expression .kept .1 .1 .1 .1 .1 .0)
+    let called = c .before .before in
+    let start = called .before .before .before .before .before .before .before .before in
+    front-kept (start .args .g .tuples) (expressions-room (start .pre .1)) (called .expression .kept .1 .1 .1 .1 .1 .0)
 
-two-expressions-expression-requires-2 : (t : ℕ) →
-    two-expressions-lts.Need-expression-requires-2 (two-expressions-claims t) (two-expressions-at t)
+two-expressions-expression-requires-2 : (t : ℕ) → two-expressions-lts.Need-expression-requires-2
+    (two-expressions-claims t) (two-expressions-at t)
     two-expressions.Post
 two-expressions-expression-requires-2 t c κs =
-    let start = c .before .before .before .before .before .before .before .before .before .before .before in
-    let first = c .before .before .before .before .before .before .before .before .before .survey .ensures in
-    let second = c .before .before .before .before .before .before .before .before .survey2 .ensures in
-    let call = c .before .before .before .expression in (
+    let called = c .before .before .before in
+    let surveyed = called .before .before .before .before .before in
+    let start = surveyed .before .before .before in
+    let first = surveyed .before .survey .ensures in
+    let second = surveyed .survey2 .ensures in
+    let call = called .expression in (
       to-each (start .args .at) _ t (start .pre .0) (first .forward),
-      second-expression-past (start .pre .1) first second (call .last .1 .1 .1 .1 .1 .0)
-          (call .kept .1 .1 .1 .1 .1 .0) (c .before .before .before .before .before .if1 .taken),
+      second-expression-past (start .pre .1) first second (call .last .1 .1 .1 .1 .1 .0) (call .kept .1 .1 .1 .1 .1 .0)
+          (called .before .before .if1 .taken),
     )
 
 two-expressions-returns : (t : ℕ) → two-expressions-lts.Need-returns (two-expressions-claims t) (two-expressions-at t)
     two-expressions.Post
 two-expressions-returns t c =
-    let start = c .before .before .before .before .before .before .before .before .before .before .before .before .before .before in
-    let call = c .before .before .before .before .before .before .expression in
+    let called = c .before .before .before .before .before .before in
+    let surveyed = called .before .before .before .before .before .before in
+    let start = surveyed .before .before in
+    let call = called .expression in
     let other = c .before .before .expression2 in
     let T = start .args .g .tuples in
     let back = put-back T (call .last .1 .1 .1 .1 .1 .0) (other .last .1 .1 .1 .1 .1 .0)
     (front-kept T (expressions-room (start .pre .1)) (call .kept .1 .1 .1 .1 .1 .0))
     (other .kept .1 .1 .1 .1 .1 .0) in
-    expressions-in-order (c .before .before .before .before .before .before .before .before .before .before .before .before .survey .ensures) back (call .ensures) (other .ensures)
+    expressions-in-order (surveyed .survey .ensures) back (call .ensures) (other .ensures)
 
-two-expressions-expression-requires-3 : (t : ℕ) →
-    two-expressions-lts.Need-expression-requires-3 (two-expressions-claims t) (two-expressions-at t)
+two-expressions-expression-requires-3 : (t : ℕ) → two-expressions-lts.Need-expression-requires-3
+    (two-expressions-claims t) (two-expressions-at t)
     two-expressions.Post
 two-expressions-expression-requires-3 t c κs =
-    let start = c .before .before .before .before .before .before .before in
-    let first = c .before .before .before .before .before .survey .ensures in
+    let surveyed = c .before .before .before .before .before in
+    let start = surveyed .before .before in
+    let first = surveyed .survey .ensures in
     (to-each (start .args .at) _ t (start .pre .0) (first .forward), second-expression-whole (start .pre .1) first)
 
-two-expressions-sub-expression-2 : (t : ℕ) → two-expressions-lts.Need-sub-expression-2 (two-expressions-claims t)
-    (two-expressions-at t) two-expressions.Post
+two-expressions-sub-expression-2 : (t : ℕ) → two-expressions-lts.Need-sub-expression-2 (two-expressions-claims t) (two-expressions-at t)
+    two-expressions.Post
 two-expressions-sub-expression-2 t c =
-    front-kept (c .before .before .before .before .before .before .before .before .before .before .args .g .tuples)
-    (expressions-room (c .before .before .before .before .before .before .before .before .before .before .pre .1))
-    (c .before .before .expression3 .kept .1 .1 .1 .1 .1 .0)
+    let called = c .before .before in
+    let start = called .before .before .before .before .before .before .before .before in
+    front-kept (start .args .g .tuples) (expressions-room (start .pre .1)) (called .expression3 .kept .1 .1 .1 .1 .1 .0)
 
-two-expressions-expression-requires-4 : (t : ℕ) →
-    two-expressions-lts.Need-expression-requires-4 (two-expressions-claims t) (two-expressions-at t)
+two-expressions-expression-requires-4 : (t : ℕ) → two-expressions-lts.Need-expression-requires-4
+    (two-expressions-claims t) (two-expressions-at t)
     two-expressions.Post
 two-expressions-expression-requires-4 t c κs =
-    let start = c .before .before .before .before .before .before .before .before .before .before .before in
-    let first = c .before .before .before .before .before .before .before .before .before .survey .ensures in
-    let second = c .before .before .before .before .before .before .before .before .survey2 .ensures in
-    let call = c .before .before .before .expression3 in (
+    let called = c .before .before .before in
+    let surveyed = called .before .before .before .before .before in
+    let start = surveyed .before .before .before in
+    let first = surveyed .before .survey .ensures in
+    let second = surveyed .survey2 .ensures in
+    let call = called .expression3 in (
       to-each (start .args .at) (start .args .at) t (start .pre .0) (le-refl (start .args .at)),
       first-expression-past (start .pre .1) first second (call .last .1 .1 .1 .1 .1 .0) (call .kept .1 .1 .1 .1 .1 .0)
-          (c .before .before .before .before .before .if1 .left),
+          (called .before .before .if1 .left),
     )
 
-two-expressions-swap-requires : (t : ℕ) → two-expressions-lts.Need-swap-requires (two-expressions-claims t)
-    (two-expressions-at t) two-expressions.Post
+two-expressions-swap-requires : (t : ℕ) → two-expressions-lts.Need-swap-requires (two-expressions-claims t) (two-expressions-at t)
+    two-expressions.Post
 two-expressions-swap-requires t c κs =
-    let start = c .before .before .before .before .before .before .before .before .before .before .before .before .before .before .before in
-    let call = c .before .before .before .before .before .before .before .expression3 in
+    let called = c .before .before .before .before .before .before .before in
+    let surveyed = called .before .before .before .before .before .before in
+    let start = surveyed .before .before in
+    let call = called .expression3 in
     let other = c .before .before .before .expression4 in
     let T = start .args .g .tuples in
     let back = put-back T (call .last .1 .1 .1 .1 .1 .0) (other .last .1 .1 .1 .1 .1 .0)
@@ -571,107 +594,129 @@ two-expressions-swap-requires t c κs =
     (other .kept .1 .1 .1 .1 .1 .0) in
     room-kept (room-kept (expressions-room (start .pre .1)) (call .kept .1 .1 .1 .1 .1 .0)) (back .long)
 
-two-expressions-returns-2 : (t : ℕ) → two-expressions-lts.Need-returns-2 (two-expressions-claims t)
-    (two-expressions-at t) two-expressions.Post
+two-expressions-returns-2 : (t : ℕ) → two-expressions-lts.Need-returns-2 (two-expressions-claims t) (two-expressions-at t)
+    two-expressions.Post
 two-expressions-returns-2 t c =
-    let start = c .before .before .before .before .before .before .before .before .before .before .before .before .before .before .before .before .before .before in
-    let call = c .before .before .before .before .before .before .before .before .before .before .expression3 in
+    let called = c .before .before .before .before .before .before .before .before .before .before in
+    let surveyed = called .before .before .before .before .before .before in
+    let start = surveyed .before .before in
+    let call = called .expression3 in
     let other = c .before .before .before .before .before .before .expression4 in
     let T = start .args .g .tuples in
     let back = put-back T (call .last .1 .1 .1 .1 .1 .0) (other .last .1 .1 .1 .1 .1 .0)
     (front-kept T (expressions-room (start .pre .1)) (call .kept .1 .1 .1 .1 .1 .0))
     (other .kept .1 .1 .1 .1 .1 .0) in
-    expressions-crossed (c .before .before .before .before .before .before .before .before .before .before .before .before .before .before .before .before .survey .ensures) back (call .ensures) (other .ensures) (c .before .before .swap .ensures)
+    expressions-crossed (surveyed .survey .ensures) back (call .ensures) (other .ensures)
+    (c .before .before .swap .ensures)
 
-two-formulas-survey-requires : (t : ℕ) → two-formulas-lts.Need-survey-requires (two-formulas-claims t)
-    (two-formulas-at t) two-formulas.Post
+-- ---- two state formulas
+
+two-formulas-survey-requires : (t : ℕ) → two-formulas-lts.Need-survey-requires (two-formulas-claims t) (two-formulas-at t)
+    two-formulas.Post
 two-formulas-survey-requires t c κs = place-most (c .before .args .at) (formulas-inside (c .before .pre .1))
 
-two-formulas-state-formula-requires : (t : ℕ) → two-formulas-lts.Need-state-formula-requires (two-formulas-claims t)
-    (two-formulas-at t) two-formulas.Post
+two-formulas-state-formula-requires : (t : ℕ) → two-formulas-lts.Need-state-formula-requires (two-formulas-claims t) (two-formulas-at t)
+    two-formulas.Post
 two-formulas-state-formula-requires t c κs =
     let start = c .before .before .before .before .before .before .before in (
       to-each (start .args .at) (start .args .at) t (start .pre .0) (le-refl (start .args .at)),
       first-formula-whole (start .pre .1),
     )
 
-two-formulas-sub-state-formula : (t : ℕ) → two-formulas-lts.Need-sub-state-formula (two-formulas-claims t)
-    (two-formulas-at t) two-formulas.Post
+two-formulas-sub-state-formula : (t : ℕ) → two-formulas-lts.Need-sub-state-formula (two-formulas-claims t) (two-formulas-at t)
+    two-formulas.Post
 two-formulas-sub-state-formula t c =
-    front-kept (c .before .before .before .before .before .before .before .before .before .before .args .g .tuples)
-    (formulas-room (c .before .before .before .before .before .before .before .before .before .before .pre .1))
-    (c .before .before .state-formula .kept .1 .1 .1 .1 .1 .0)
+    let called = c .before .before in
+    let start = called .before .before .before .before .before .before .before .before in
+    front-kept (start .args .g .tuples) (formulas-room (start .pre .1)) (called .state-formula .kept .1 .1 .1 .1 .1 .0)
 
-two-formulas-state-formula-requires-2 : (t : ℕ) →
-    two-formulas-lts.Need-state-formula-requires-2 (two-formulas-claims t) (two-formulas-at t) two-formulas.Post
+two-formulas-state-formula-requires-2 : (t : ℕ) → two-formulas-lts.Need-state-formula-requires-2 (two-formulas-claims t) (two-formulas-at t)
+    two-formulas.Post
 two-formulas-state-formula-requires-2 t c κs =
-    let start = c .before .before .before .before .before .before .before .before .before .before .before in
-    let first = c .before .before .before .before .before .before .before .before .before .survey .ensures in
-    let second = c .before .before .before .before .before .before .before .before .survey2 .ensures in
-    let call = c .before .before .before .state-formula in (
+    let called = c .before .before .before in
+    let surveyed = called .before .before .before .before .before in
+    let start = surveyed .before .before .before in
+    let first = surveyed .before .survey .ensures in
+    let second = surveyed .survey2 .ensures in
+    let call = called .state-formula in (
       to-each (start .args .at) _ t (start .pre .0) (first .forward),
       second-formula-past (start .pre .1) first second (call .last .1 .1 .1 .1 .1 .0) (call .kept .1 .1 .1 .1 .1 .0)
-          (c .before .before .before .before .before .if1 .taken),
+          (called .before .before .if1 .taken),
     )
 
 two-formulas-returns : (t : ℕ) → two-formulas-lts.Need-returns (two-formulas-claims t) (two-formulas-at t)
     two-formulas.Post
 two-formulas-returns t c =
-    let start = c .before .before .before .before .before .before .before .before .before .before .before .before .before .before in
-    let call = c .before .before .before .before .before .before .state-formula in
+    let called = c .before .before .before .before .before .before in
+    let surveyed = called .before .before .before .before .before .before in
+    let start = surveyed .before .before in
+    let call = called .state-formula in
     let other = c .before .before .state-formula2 in
     let T = start .args .g .tuples in
     let back = put-back T (call .last .1 .1 .1 .1 .1 .0) (other .last .1 .1 .1 .1 .1 .0)
-    (front-kept T (formulas-room (start .pre .1)) (call .kept .1 .1 .1 .1 .1 .0)) (other .kept .1 .1 .1 .1 .1 .0) in
-    formulas-in-order (c .before .before .before .before .before .before .before .before .before .before .before .before .survey .ensures) back (call .ensures) (other .ensures)
+    (front-kept T (formulas-room (start .pre .1)) (call .kept .1 .1 .1 .1 .1 .0))
+    (other .kept .1 .1 .1 .1 .1 .0) in
+    formulas-in-order (surveyed .survey .ensures) back (call .ensures) (other .ensures)
 
-two-formulas-state-formula-requires-3 : (t : ℕ) →
-    two-formulas-lts.Need-state-formula-requires-3 (two-formulas-claims t) (two-formulas-at t) two-formulas.Post
+two-formulas-state-formula-requires-3 : (t : ℕ) → two-formulas-lts.Need-state-formula-requires-3 (two-formulas-claims t) (two-formulas-at t)
+    two-formulas.Post
 two-formulas-state-formula-requires-3 t c κs =
-    let start = c .before .before .before .before .before .before .before in
-    let first = c .before .before .before .before .before .survey .ensures in
+    let surveyed = c .before .before .before .before .before in
+    let start = surveyed .before .before in
+    let first = surveyed .survey .ensures in
     (to-each (start .args .at) _ t (start .pre .0) (first .forward), second-formula-whole (start .pre .1) first)
 
-two-formulas-sub-state-formula-2 : (t : ℕ) → two-formulas-lts.Need-sub-state-formula-2 (two-formulas-claims t)
-    (two-formulas-at t) two-formulas.Post
+two-formulas-sub-state-formula-2 : (t : ℕ) → two-formulas-lts.Need-sub-state-formula-2 (two-formulas-claims t) (two-formulas-at t)
+    two-formulas.Post
 two-formulas-sub-state-formula-2 t c =
-    front-kept (c .before .before .before .before .before .before .before .before .before .before .args .g .tuples)
-    (formulas-room (c .before .before .before .before .before .before .before .before .before .before .pre .1))
-    (c .before .before .state-formula3 .kept .1 .1 .1 .1 .1 .0)
+    let called = c .before .before in
+    let start = called .before .before .before .before .before .before .before .before in
+    front-kept (start .args .g .tuples) (formulas-room (start .pre .1)) (called .state-formula3 .kept .1 .1 .1 .1 .1 .0)
 
-two-formulas-state-formula-requires-4 : (t : ℕ) →
-    two-formulas-lts.Need-state-formula-requires-4 (two-formulas-claims t) (two-formulas-at t) two-formulas.Post
+two-formulas-state-formula-requires-4 : (t : ℕ) → two-formulas-lts.Need-state-formula-requires-4 (two-formulas-claims t) (two-formulas-at t)
+    two-formulas.Post
 two-formulas-state-formula-requires-4 t c κs =
-    let start = c .before .before .before .before .before .before .before .before .before .before .before in
-    let first = c .before .before .before .before .before .before .before .before .before .survey .ensures in
-    let second = c .before .before .before .before .before .before .before .before .survey2 .ensures in
-    let call = c .before .before .before .state-formula3 in (
+    let called = c .before .before .before in
+    let surveyed = called .before .before .before .before .before in
+    let start = surveyed .before .before .before in
+    let first = surveyed .before .survey .ensures in
+    let second = surveyed .survey2 .ensures in
+    let call = called .state-formula3 in (
       to-each (start .args .at) (start .args .at) t (start .pre .0) (le-refl (start .args .at)),
       first-formula-past (start .pre .1) first second (call .last .1 .1 .1 .1 .1 .0) (call .kept .1 .1 .1 .1 .1 .0)
-          (c .before .before .before .before .before .if1 .left),
+          (called .before .before .if1 .left),
     )
 
 two-formulas-swap-requires : (t : ℕ) → two-formulas-lts.Need-swap-requires (two-formulas-claims t) (two-formulas-at t)
     two-formulas.Post
 two-formulas-swap-requires t c κs =
-    let start = c .before .before .before .before .before .before .before .before .before .before .before .before .before .before .before in
-    let call = c .before .before .before .before .before .before .before .state-formula3 in
+    let called = c .before .before .before .before .before .before .before in
+    let surveyed = called .before .before .before .before .before .before in
+    let start = surveyed .before .before in
+    let call = called .state-formula3 in
     let other = c .before .before .before .state-formula4 in
     let T = start .args .g .tuples in
     let back = put-back T (call .last .1 .1 .1 .1 .1 .0) (other .last .1 .1 .1 .1 .1 .0)
-    (front-kept T (formulas-room (start .pre .1)) (call .kept .1 .1 .1 .1 .1 .0)) (other .kept .1 .1 .1 .1 .1 .0) in
+    (front-kept T (formulas-room (start .pre .1)) (call .kept .1 .1 .1 .1 .1 .0))
+    (other .kept .1 .1 .1 .1 .1 .0) in
     room-kept (room-kept (formulas-room (start .pre .1)) (call .kept .1 .1 .1 .1 .1 .0)) (back .long)
 
 two-formulas-returns-2 : (t : ℕ) → two-formulas-lts.Need-returns-2 (two-formulas-claims t) (two-formulas-at t)
     two-formulas.Post
 two-formulas-returns-2 t c =
-    let start = c .before .before .before .before .before .before .before .before .before .before .before .before .before .before .before .before .before .before in
-    let call = c .before .before .before .before .before .before .before .before .before .before .state-formula3 in
+    let called = c .before .before .before .before .before .before .before .before .before .before in
+    let surveyed = called .before .before .before .before .before .before in
+    let start = surveyed .before .before in
+    let call = called .state-formula3 in
     let other = c .before .before .before .before .before .before .state-formula4 in
     let T = start .args .g .tuples in
     let back = put-back T (call .last .1 .1 .1 .1 .1 .0) (other .last .1 .1 .1 .1 .1 .0)
-    (front-kept T (formulas-room (start .pre .1)) (call .kept .1 .1 .1 .1 .1 .0)) (other .kept .1 .1 .1 .1 .1 .0) in
-    formulas-crossed (c .before .before .before .before .before .before .before .before .before .before .before .before .before .before .before .before .survey .ensures) back (call .ensures) (other .ensures) (c .before .before .swap .ensures)
+    (front-kept T (formulas-room (start .pre .1)) (call .kept .1 .1 .1 .1 .1 .0))
+    (other .kept .1 .1 .1 .1 .1 .0) in
+    formulas-crossed (surveyed .survey .ensures) back (call .ensures) (other .ensures)
+    (c .before .before .swap .ensures)
+
+-- ---- all six
 
 pub +combined+expression+path+state-formula+two-expressions+two-formulas-spec :
     {M : Type 1} → statement M

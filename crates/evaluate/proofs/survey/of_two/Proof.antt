@@ -7,7 +7,8 @@ use types.Run.{OneOf, miss}
 use denote.Enum.Declared.{tagOf}
 use Rattle.sentence.proofs.Node.{the-type}
 use Rattle.sentence.specs.declared.Node.{Node}
-use Rattle.sentence.specs.declared.Node.the-variants.{True, Label, Not, And, Compare, Probability, Constant, Sum, Difference, Product, Next, Until}
+use Rattle.sentence.specs.declared.Node.the-variants.{True, Label, Not, And, Compare, Probability, Constant}
+use Rattle.sentence.specs.declared.Node.the-variants.{Sum, Difference, Product, Next, Until}
 use Rattle.evaluate.specs.Surveys.{layersOfTwo}
 use Rattle.evaluate.proofs.survey.of_two.Statement.{statement}
 use Rattle.evaluate.proofs.survey.of_two.Tie as tie
@@ -32,7 +33,10 @@ as-two Next k o = refl
 as-two (Until k1 k2) k o = absurd (miss noUntil 11 tt o)
 
 returns : tie.Need-returns
-returns c = (c .at-least-three .ensures .0, c .at-least-three .ensures .1 ∙ sym (ap (λ (n : Node). layersOfTwo n (c .before .before .before .args .two .layers)) (c .before .enum-told .given .1)))
+returns c =
+    let two = c .before .before .before .args .two in
+    let call = c .at-least-three .ensures in
+    (call .0, call .1 ∙ sym (ap (λ (n : Node). layersOfTwo n (two .layers)) (c .before .enum-told .given .1)))
 
 returns-2 : tie.Need-returns-2
 returns-2 c = (refl, as-two (c .before .args .node) (c .before .args .two .layers) (c .match .keys2))

@@ -3,7 +3,7 @@ use borrow.Author.Needs.{needs}
 use mathlib.Core.Path.{sym, ap}
 use Rattle.refusal.specs.Answers.{numberIn}
 use Rattle.numerator.specs.declared.Answer.{Answer}
-use Rattle.numerator.specs.Calls.{replyOf}
+use Rattle.numerator.specs.Contract.{numeratorReply}
 use Rattle.exports.proofs.Theorems.{values-given, values-refused}
 use Rattle.exports.proofs.questions.twolsken_numerator.Statement.{statement}
 use Rattle.exports.proofs.questions.twolsken_numerator.Tie as tie
@@ -15,8 +15,8 @@ returns c =
     record {
       counted = call .result;
       answer = call .ensures;
-      answered = sym (ap (λ (a : Answer). numberIn (replyOf a)) e);
-      value-left = sym (values-given (ap replyOf e) _);
+      answered = sym (ap (λ (a : Answer). numberIn (numeratorReply a)) e);
+      value-left = sym (values-given (ap numeratorReply e) _);
     }
 
 returns-2 : tie.Need-returns-2
@@ -26,8 +26,8 @@ returns-2 c =
     record {
       counted = call .result;
       answer = call .ensures;
-      answered = sym (ap (λ (a : Answer). numberIn (replyOf a)) e);
-      value-left = sym (values-refused (ap replyOf e) _);
+      answered = sym (ap (λ (a : Answer). numberIn (numeratorReply a)) e);
+      value-left = sym (values-refused (ap numeratorReply e) _);
     }
 
 pub twolsken-numerator-spec : {M : Type 1} → statement M

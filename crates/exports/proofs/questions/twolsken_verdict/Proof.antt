@@ -7,15 +7,27 @@ use Rattle.exports.proofs.questions.twolsken_verdict.Tie as tie
 
 returns : tie.Need-returns
 unfolding verdictCode
-returns c = record { answer = c .before .before .before .before .verdict .result; ensures = c .before .before .before .before .verdict .ensures; coded = sym (ap verdictCode (c .enum-told .given .1)) }
+returns c = record {
+  answer = c .before .before .before .before .verdict .result;
+  ensures = c .before .before .before .before .verdict .ensures;
+  coded = sym (ap verdictCode (c .enum-told .given .1));
+}
 
 returns-2 : tie.Need-returns-2
 unfolding verdictCode
-returns-2 c = record { answer = c .before .before .before .before .verdict .result; ensures = c .before .before .before .before .verdict .ensures; coded = sym (ap verdictCode (c .enum-told2 .given .1)) }
+returns-2 c = record {
+  answer = c .before .before .before .before .verdict .result;
+  ensures = c .before .before .before .before .verdict .ensures;
+  coded = sym (ap verdictCode (c .enum-told2 .given .1));
+}
 
 returns-3 : tie.Need-returns-3
 unfolding verdictCode
-returns-3 c = record { answer = c .before .before .before .before .before .verdict .result; ensures = c .before .before .before .before .before .verdict .ensures; coded = sym (ap verdictCode (c .before .answer .given .1)) }
+returns-3 c = record {
+  answer = c .before .before .before .before .before .verdict .result;
+  ensures = c .before .before .before .before .before .verdict .ensures;
+  coded = sym (ap verdictCode (c .before .answer .given .1));
+}
 
 pub twolsken-verdict-spec : {M : Type 1} → statement M
 twolsken-verdict-spec =

@@ -3,7 +3,7 @@ use borrow.Author.Needs.{needs}
 use mathlib.Core.Path.{ap, sym, _∙_}
 use Rattle.refusal.specs.Answers.{numberIn, replyOf}
 use Rattle.refusal.proofs.Ensuring.{filled-given, filled-refused}
-use Rattle.exports.specs.Sentences.{sentenceHead, letterCodes, codesOf}
+use Rattle.codes.specs.Codes.{sentenceHead, letterCodes, codesOf}
 use Rattle.exports.proofs.sentences.twolsken_read_sentence.Statement.{statement}
 use Rattle.exports.proofs.sentences.twolsken_read_sentence.Tie as tie
 

@@ -6,7 +6,7 @@ use mir.Syntax.{w64}
 use mir.Val.{boolByte, toZ, ofZ}
 use Rattle.fractions.specs.declared.Making.{Making}
 use Rattle.fractions.specs.Codes.{coded, decoded, Small}
-use Rattle.fractions.specs.Operations.{Fits}
+use Rattle.fractions.specs.Operations.{MakingFits}
 use Rattle.fractions.proofs.Magnitude.{decoded-reads}
 use Rattle.fractions.proofs.Operands.{back, operated-small, fits-as, made-as}
 use Rattle.fractions.proofs.codes.made.Statement.{statement}
@@ -21,7 +21,7 @@ second c = decoded-reads (c .before .before .fits .y) (c .decode2 .ensures)
 
 -- it fits what is known to be made of it
 both-fit : (c : tie.After-decode2) {known : Making} → c .before .before .args .making ≡ known →
-    Fits known (c .before .before .args .d1) (c .before .before .args .d2)
+    MakingFits known (c .before .before .args .d1) (c .before .before .args .d2)
     (toZ w64 (ofZ w64 (c .before .decode .result))) (toZ w64 (ofZ w64 (c .decode2 .result)))
 both-fit c e =
     fits-as (c .before .before .args .d1) (c .before .before .args .d2) e (first c) (second c) (c .before .before .pre)

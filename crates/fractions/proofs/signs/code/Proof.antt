@@ -9,13 +9,14 @@ use lib.Signed.{ltZ, nonNeg}
 use mir.Facts.{toZ-ofZ}
 use mir.Syntax.{w64}
 use mir.Val.{Fits, toZ, ofZ}
-use Rattle.fractions.specs.Codes.{coded}
+use Rattle.meaning.specs.Size.{sizeLimit}
+use Rattle.fractions.specs.Codes.{upperHalf, coded}
 use Rattle.fractions.proofs.Magnitude.{small-fits, op-fits, op-reads, minus-fits, below-zero, not-below-zero}
 use Rattle.fractions.proofs.signs.code.Statement.{statement}
 use Rattle.fractions.proofs.signs.code.Tie as tie
 
 -- below 0: nothing less the number is within the ends, is read back as it is, and has the code
-size-below : (c : tie.Then1) → natAbs (pos 0 -ℤ c .before .args .x) ≤ 2 ^ 62
+size-below : (c : tie.Then1) → natAbs (pos 0 -ℤ c .before .args .x) ≤ sizeLimit
 size-below c = minus-fits (c .before .args .x) (c .before .pre .size)
 
 back-below : (c : tie.Then1) →
@@ -24,7 +25,7 @@ back-below c = op-reads _-ℤ_ {a = pos 0} refl (toZ-ofZ (c .before .fits .x)) (
 
 below : (c : tie.Then1) →
     T (nonNeg (pos 0 -ℤ c .before .args .x)) ×
-    (9223372036854775808 + natAbs (pos 0 -ℤ c .before .args .x) ≡ coded (c .before .args .x))
+    (upperHalf + natAbs (pos 0 -ℤ c .before .args .x) ≡ coded (c .before .args .x))
 below c =
     below-zero (c .before .args .x)
     (subst (λ z. ltZ z (pos 0) ≡ true) (toZ-ofZ (c .before .fits .x)) (c .if1 .taken))
@@ -45,7 +46,7 @@ cast-result c =
 
 add-result : tie.Need-add-result
 add-result c =
-    subst (λ z. Fits w64 (9223372036854775808 + natAbs z)) (sym (back-below c))
+    subst (λ z. Fits w64 (upperHalf + natAbs z)) (sym (back-below c))
     (record { fits = omega (arith, size-below c) })
 
 cast-result-2 : tie.Need-cast-result-2
@@ -54,7 +55,7 @@ cast-result-2 c =
     (not-below c .0, record { fits = omega (arith, c .before .pre .size) })
 
 returns : tie.Need-returns
-returns c = ap (λ z. 9223372036854775808 + natAbs z) (back-below c) ∙ below c .1
+returns c = ap (λ z. upperHalf + natAbs z) (back-below c) ∙ below c .1
 
 returns-2 : tie.Need-returns-2
 returns-2 c = ap natAbs (toZ-ofZ (c .before .fits .x)) ∙ not-below c .1

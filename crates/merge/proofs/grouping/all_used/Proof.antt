@@ -22,7 +22,9 @@ returns : tie.Need-returns Inv-loop μ-loop
 returns c = failed-at (c .before .before .before .loop .inv) (omega arith) (sym (c .before .is-used .ensures) ∙ not-true _ (c .if1 .taken))
 
 loop-again : tie.Need-loop-again Inv-loop μ-loop
-loop-again c = passed-next (c .before .before .before .loop .inv) (omega arith) (sym (c .before .is-used .ensures) ∙ not-false _ (c .if1 .left))
+loop-again c =
+    passed-next (c .before .before .before .loop .inv) (omega arith)
+    (sym (c .before .is-used .ensures) ∙ not-false _ (c .if1 .left))
 
 returns-2 : tie.Need-returns-2 Inv-loop μ-loop
 returns-2 c = passed-all (c .before .loop .inv) (omega arith)

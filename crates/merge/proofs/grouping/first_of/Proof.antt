@@ -27,7 +27,11 @@ returns c =
     }
 
 loop-again : tie.Need-loop-again Inv-loop μ-loop
-loop-again c = (search needs, below-more _ _ (c .before .before .before .loop .inv .1) (λ e. c .if1 .left (c .before .group-of .ensures .0 ∙ e)))
+loop-again c = (
+  search needs,
+  below-more _ _ (c .before .before .before .loop .inv .1)
+      (λ e. c .if1 .left (c .before .group-of .ensures .0 ∙ e)),
+)
 
 returns-2 : tie.Need-returns-2 Inv-loop μ-loop
 returns-2 c = record { within = c .before .loop .inv .0; before = c .before .loop .inv .1; found = λ less. absurd (omega arith) }

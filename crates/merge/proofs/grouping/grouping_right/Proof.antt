@@ -5,7 +5,7 @@ use mathlib.Core.Bool.{Bool, _&&_}
 use mathlib.Core.Path.{ap, _∙_}
 use lib.Dec.{eqb}
 use lib.ListN.{length}
-use Rattle.counting.specs.Below.{every}
+use Rattle.counting.specs.Below.{everyBelow}
 use Rattle.merge.specs.Groups.{isUsed, groupingRight}
 use Rattle.merge.proofs.grouping.grouping_right.Statement.{statement}
 use Rattle.merge.proofs.grouping.grouping_right.Tie as tie
@@ -15,7 +15,7 @@ unfolding groupingRight
 returns c =
     let a = c .before .before .before .args in
     ap (λ (b : Bool). eqb (length (a .grouping .now)) (a .n) && b)
-    (c .all-used .ensures ∙ ap (λ (k : ℕ). every k (isUsed (a .grouping .now))) (c .before .group-count .ensures .0))
+    (c .all-used .ensures ∙ ap (λ (k : ℕ). everyBelow k (isUsed (a .grouping .now))) (c .before .group-count .ensures .0))
 
 pub grouping-right-spec : {M : Type 1} → statement M
 grouping-right-spec = tie.close (tie.spec (λ c κs. search needs) (λ c κs. search needs) returns)

@@ -6,14 +6,15 @@ use mathlib.Core.Path.{_≡_, sym, ap, ap₂, _∙_}
 use native.Mathlib.Omega.{arith}
 use lib.Dec.{eqb}
 use lib.ListN.{getD}
-use Rattle.counting.specs.Below.{sum}
+use Rattle.counting.specs.Below.{sumBelow}
 use Rattle.counting.proofs.Laws.{sum-none, sum-more}
 use Rattle.merge.specs.Groups.{groupOf}
 use Rattle.merge.proofs.totals.total_into.Statement.{statement}
 use Rattle.merge.proofs.totals.total_into.Tie as tie
 
 abbrev Inv-loop : tie.InvT-loop
-Inv-loop row grouping n h total₀ t₀ total t = (t ≤ n) × (total ≡ sum t (λ k. cond (eqb (groupOf grouping k) h) (getD row k 0) 0)) × (total ≤ 65535 * t)
+Inv-loop row grouping n h total₀ t₀ total t =
+    (t ≤ n) × (total ≡ sumBelow t (λ k. cond (eqb (groupOf grouping k) h) (getD row k 0) 0)) × (total ≤ 65535 * t)
 
 abbrev μ-loop : tie.MeasureT-loop
 μ-loop row grouping n h total₀ t₀ total t = n - t

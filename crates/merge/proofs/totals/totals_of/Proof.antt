@@ -7,14 +7,16 @@ use mathlib.Core.Path.{refl}
 use native.Mathlib.Omega.{arith}
 use lib.Dec.{eqb}
 use lib.ListN.{getD}
-use Rattle.counting.specs.Below.{sum, table}
+use Rattle.counting.specs.Below.{sumBelow, table}
 use Rattle.counting.proofs.Laws.{Filled, filled-none, filled-next, filled-all}
 use Rattle.merge.specs.Groups.{groupOf}
 use Rattle.merge.proofs.totals.totals_of.Statement.{statement}
 use Rattle.merge.proofs.totals.totals_of.Tie as tie
 
 abbrev Inv-loop : tie.InvT-loop
-Inv-loop grouping n rows totals₀ s₀ totals s = Filled 32 (λ s. table 32 (λ h. sum n (λ t. cond (eqb (groupOf grouping t) h) (getD (getD rows s []) t 0) 0))) [] s totals
+Inv-loop grouping n rows totals₀ s₀ totals s =
+    Filled 32 (λ s. table 32 (λ h. sumBelow n (λ t. cond (eqb (groupOf grouping t) h) (getD (getD rows s []) t 0) 0)))
+    [] s totals
 
 abbrev μ-loop : tie.MeasureT-loop
 μ-loop grouping n rows totals₀ s₀ totals s = 32 - s

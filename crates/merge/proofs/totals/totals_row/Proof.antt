@@ -6,7 +6,7 @@ use mathlib.Core.Path.{refl}
 use native.Mathlib.Omega.{arith}
 use lib.Dec.{eqb}
 use lib.ListN.{getD}
-use Rattle.counting.specs.Below.{sum}
+use Rattle.counting.specs.Below.{sumBelow}
 use Rattle.counting.proofs.Laws.{Filled, filled-none, filled-next, filled-all}
 use Rattle.merge.specs.Groups.{groupOf}
 use Rattle.merge.proofs.Counts.{sum-part}
@@ -14,7 +14,8 @@ use Rattle.merge.proofs.totals.totals_row.Statement.{statement}
 use Rattle.merge.proofs.totals.totals_row.Tie as tie
 
 abbrev Inv-loop : tie.InvT-loop
-Inv-loop row grouping n totals₀ h₀ totals h = Filled 32 (λ h. sum n (λ t. cond (eqb (groupOf grouping t) h) (getD row t 0) 0)) 0 h totals
+Inv-loop row grouping n totals₀ h₀ totals h =
+    Filled 32 (λ h. sumBelow n (λ t. cond (eqb (groupOf grouping t) h) (getD row t 0) 0)) 0 h totals
 
 abbrev μ-loop : tie.MeasureT-loop
 μ-loop row grouping n totals₀ h₀ totals h = 32 - h

@@ -5,7 +5,7 @@ use mathlib.Core.Path.{sym, _∙_}
 use native.Mathlib.Omega.{arith}
 use lib.Dec.{eqb}
 use borrow.Author.Tests.{not-true, not-false}
-use Rattle.counting.specs.Below.{every}
+use Rattle.counting.specs.Below.{everyBelow}
 use Rattle.counting.proofs.Laws.{Passed, passed-none, passed-next, passed-all, failed-at}
 use Rattle.block.specs.Block.{byteOf}
 use Rattle.model.specs.Layout.{fieldsOf, contentByte}
@@ -13,7 +13,7 @@ use Rattle.model.proofs.laid.blocks_laid.Statement.{statement}
 use Rattle.model.proofs.laid.blocks_laid.Tie as tie
 
 abbrev Inv-loop : tie.InvT-loop
-Inv-loop file count i₀ i = Passed count (λ i. every 510 (λ j. eqb (byteOf file i j) (contentByte (fieldsOf file) i j))) i
+Inv-loop file count i₀ i = Passed count (λ i. everyBelow 510 (λ j. eqb (byteOf file i j) (contentByte (fieldsOf file) i j))) i
 
 abbrev μ-loop : tie.MeasureT-loop
 μ-loop file count i₀ i = count - i
@@ -22,10 +22,12 @@ loop-holds : tie.Need-loop-holds Inv-loop μ-loop
 loop-holds c = passed-none
 
 returns : tie.Need-returns Inv-loop μ-loop
-returns c = failed-at (c .before .before .before .loop .inv) (omega arith) (sym (c .before .block-laid .ensures) ∙ not-true _ (c .if1 .taken))
+returns c = failed-at (c .before .before .before .loop .inv) (omega arith)
+    (sym (c .before .block-laid .ensures) ∙ not-true _ (c .if1 .taken))
 
 loop-again : tie.Need-loop-again Inv-loop μ-loop
-loop-again c = passed-next (c .before .before .before .loop .inv) (omega arith) (sym (c .before .block-laid .ensures) ∙ not-false _ (c .if1 .left))
+loop-again c = passed-next (c .before .before .before .loop .inv) (omega arith)
+    (sym (c .before .block-laid .ensures) ∙ not-false _ (c .if1 .left))
 
 returns-2 : tie.Need-returns-2 Inv-loop μ-loop
 returns-2 c = passed-all (c .before .loop .inv) (omega arith)

@@ -12,7 +12,8 @@ returns : tie.Need-returns
 returns c =
     let file = c .before .before .before .before .args .file .now in
     ap₂ _&&_
-    (ap₂ _&&_ (ap (λ (x : ℕ). eqb x 1) (c .before .before .block-byte .ensures)) (ap (λ (x : ℕ). eqb x 0) (c .before .block-byte2 .ensures)))
+    (ap₂ _&&_ (ap (λ (x : ℕ). eqb x 1) (c .before .before .block-byte .ensures))
+    (ap (λ (x : ℕ). eqb x 0) (c .before .block-byte2 .ensures)))
     (c .zeros .ensures) ∙
     head-test file (λ k. c .before .before .before .shared-slice-known .given k .fits)
 

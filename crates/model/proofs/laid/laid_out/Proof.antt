@@ -5,11 +5,11 @@ use mathlib.Core.Path.{_≡_, ap, ap₂, sym, _∙_}
 use native.Mathlib.Omega.{arith}
 use borrow.Author.Tests.{not-true, not-false, eq-eqb, ne-eqb}
 use lib.Dec.{eqb}
-use Rattle.counting.specs.Below.{every}
+use Rattle.counting.specs.Below.{everyBelow}
 use Rattle.block.specs.Block.{byteOf, blocksIn}
 use Rattle.model.specs.declared.Model.{Model}
 use Rattle.model.specs.Layout.{contentByte, blocks}
-use Rattle.model.specs.Rows.{fieldsRight, laidOut}
+use Rattle.model.specs.Rules.{fieldsRight, laidOut}
 use Rattle.model.proofs.Rightness.{states-few}
 use Rattle.model.proofs.laid.laid_out.Statement.{statement}
 use Rattle.model.proofs.laid.laid_out.Tie as tie
@@ -22,14 +22,16 @@ returns : tie.Need-returns
 unfolding laidOut
 returns c =
     let a = c .before .before .before .before .args in
-    sym (ap (λ (b : Bool). b && eqb (blocksIn (a .file .now)) (blocks (a .m .n)) && every (blocksIn (a .file .now)) (λ i. every 510 (λ j. eqb (byteOf (a .file .now) i j) (contentByte (a .m) i j))))
+    sym (ap (λ (b : Bool). b && eqb (blocksIn (a .file .now)) (blocks (a .m .n)) && everyBelow (blocksIn (a .file .now))
+    (λ i. everyBelow 510 (λ j. eqb (byteOf (a .file .now) i j) (contentByte (a .m) i j))))
     (sym (c .before .fields-right .ensures) ∙ not-true _ (c .if1 .taken)))
 
 returns-2 : tie.Need-returns-2
 unfolding laidOut
 returns-2 c =
     let a = c .before .before .before .before .before .args in
-    sym (ap₂ (λ (b e : Bool). b && e && every (blocksIn (a .file .now)) (λ i. every 510 (λ j. eqb (byteOf (a .file .now) i j) (contentByte (a .m) i j))))
+    sym (ap₂ (λ (b e : Bool). b && e && everyBelow (blocksIn (a .file .now))
+    (λ i. everyBelow 510 (λ j. eqb (byteOf (a .file .now) i j) (contentByte (a .m) i j))))
     (right (c .before)) (ne-eqb _ _ (c .if2 .taken)))
 
 blocks-laid-requires : tie.Need-blocks-laid-requires
@@ -39,7 +41,8 @@ returns-3 : tie.Need-returns-3
 unfolding laidOut
 returns-3 c =
     let a = c .before .before .before .before .before .before .args in
-    let standing : Model → Bool = λ m. every (blocksIn (a .file .now)) (λ i. every 510 (λ j. eqb (byteOf (a .file .now) i j) (contentByte m i j))) in
+    let standing : Model → Bool =
+    λ m. everyBelow (blocksIn (a .file .now)) (λ i. everyBelow 510 (λ j. eqb (byteOf (a .file .now) i j) (contentByte m i j))) in
     c .blocks-laid .ensures ∙ ap standing (sym (c .before .before .before .before .before .before .pre)) ∙
     sym (ap₂ (λ (b e : Bool). b && e && standing (a .m)) (right (c .before .before)) (eq-eqb _ _ (c .before .if2 .left)))
 

@@ -14,7 +14,8 @@ use Rattle.model.proofs.laid.row_block_laid.Tie as tie
 -- the two marks, of the block in the file
 marked : (c : tie.After-block-byte2) →
     let a = c .before .before .before .args in
-    (eqb (c .before .block-byte .result) 2 && eqb (c .block-byte2 .result) (a .i)) ≡ (eqb (byteOf (a .file .now) (a .i) 0) 2 && eqb (byteOf (a .file .now) (a .i) 1) (a .i))
+    (eqb (c .before .block-byte .result) 2 && eqb (c .block-byte2 .result) (a .i)) ≡
+    (eqb (byteOf (a .file .now) (a .i) 0) 2 && eqb (byteOf (a .file .now) (a .i) 1) (a .i))
 marked c =
     let a = c .before .before .before .args in
     ap₂ _&&_

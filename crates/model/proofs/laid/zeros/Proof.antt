@@ -20,10 +20,12 @@ loop-holds : tie.Need-loop-holds Inv-loop μ-loop
 loop-holds c = passed-none
 
 returns : tie.Need-returns Inv-loop μ-loop
-returns c = failed-at (c .before .before .before .loop .inv) (omega arith) (ap (λ (x : ℕ). eqb x 0) (sym (c .before .block-byte .ensures)) ∙ not-true _ (c .if1 .taken))
+returns c = failed-at (c .before .before .before .loop .inv) (omega arith)
+    (ap (λ (x : ℕ). eqb x 0) (sym (c .before .block-byte .ensures)) ∙ not-true _ (c .if1 .taken))
 
 loop-again : tie.Need-loop-again Inv-loop μ-loop
-loop-again c = passed-next (c .before .before .before .loop .inv) (omega arith) (ap (λ (x : ℕ). eqb x 0) (sym (c .before .block-byte .ensures)) ∙ not-false _ (c .if1 .left))
+loop-again c = passed-next (c .before .before .before .loop .inv) (omega arith)
+    (ap (λ (x : ℕ). eqb x 0) (sym (c .before .block-byte .ensures)) ∙ not-false _ (c .if1 .left))
 
 returns-2 : tie.Need-returns-2 Inv-loop μ-loop
 returns-2 c = passed-all (c .before .loop .inv) (omega arith)

@@ -1,6 +1,6 @@
 -- `model::reader::length_right` meets its contract as it stands.
 use borrow.Author.Needs.{needs}
-use Rattle.model.specs.Rows.{lengthRight}
+use Rattle.model.specs.Rules.{lengthRight}
 use Rattle.model.proofs.reader.length_right.Statement.{statement}
 use Rattle.model.proofs.reader.length_right.Tie as tie
 

@@ -4,13 +4,13 @@ use Prim.Native.Nat.{ℕ, _+_, _*_, _-_, _≤_}
 use mathlib.Core.Path.{_≡_, sym, ap₂, _∙_}
 use native.Mathlib.Omega.{arith}
 use lib.ListN.{getD}
-use Rattle.counting.specs.Below.{sum}
+use Rattle.counting.specs.Below.{sumBelow}
 use Rattle.counting.proofs.Laws.{sum-none, sum-more}
 use Rattle.model.proofs.rules.row_sum.Statement.{statement}
 use Rattle.model.proofs.rules.row_sum.Tie as tie
 
 abbrev Inv-loop : tie.InvT-loop
-Inv-loop row total₀ t₀ total t = (t ≤ 32) × (total ≡ sum t (λ k. getD row k 0)) × (total ≤ 65535 * t)
+Inv-loop row total₀ t₀ total t = (t ≤ 32) × (total ≡ sumBelow t (λ k. getD row k 0)) × (total ≤ 65535 * t)
 
 abbrev μ-loop : tie.MeasureT-loop
 μ-loop row total₀ t₀ total t = 32 - t
@@ -21,7 +21,8 @@ loop-holds c = (search needs, sym (sum-none _), search needs)
 loop-again : tie.Need-loop-again Inv-loop μ-loop
 loop-again c = (
   search needs,
-  ap₂ (λ (a b : ℕ). a + b) (c .before .before .before .loop .inv .1) (c .wide16 .ensures .0) ∙ sym (sum-more (c .before .before .before .loop .t) (λ k. getD (c .before .before .before .before .args .row .now) k 0)),
+  ap₂ (λ (a b : ℕ). a + b) (c .before .before .before .loop .inv .1) (c .wide16 .ensures .0)
+      ∙ sym (sum-more (c .before .before .before .loop .t) (λ k. getD (c .before .before .before .before .args .row .now) k 0)),
   search needs,
 )
 

@@ -8,13 +8,13 @@ use native.Mathlib.Omega.{arith}
 use lib.Dec.{leb, eqb}
 use lib.ListN.{getD}
 use borrow.Author.Tests.{not-true, not-false}
-use Rattle.counting.specs.Below.{sum}
+use Rattle.counting.specs.Below.{sumBelow}
 use Rattle.counting.proofs.Laws.{Passed, passed-none, passed-next, passed-all, failed-at}
 use Rattle.model.proofs.rules.rows_add_up.Statement.{statement}
 use Rattle.model.proofs.rules.rows_add_up.Tie as tie
 
 abbrev Inv-loop : tie.InvT-loop
-Inv-loop n d rows s₀ s = Passed 32 (λ s. leb n s || eqb (sum 32 (λ t. getD (getD rows s []) t 0)) d) s
+Inv-loop n d rows s₀ s = Passed 32 (λ s. leb n s || eqb (sumBelow 32 (λ t. getD (getD rows s []) t 0)) d) s
 
 abbrev μ-loop : tie.MeasureT-loop
 μ-loop n d rows s₀ s = 32 - s
@@ -26,7 +26,7 @@ loop-holds c = passed-none
 summed : (c : tie.After-row-sum Inv-loop μ-loop) →
     let s = c .before .before .before .before .loop .s in
     let a = c .before .before .before .before .before .args in
-    (leb (a .n) s || eqb (sum 32 (λ t. getD (getD (a .t1) s []) t 0)) (a .d)) ≡ (leb (a .n) s || eqb (c .row-sum .result) (a .d))
+    (leb (a .n) s || eqb (sumBelow 32 (λ t. getD (getD (a .t1) s []) t 0)) (a .d)) ≡ (leb (a .n) s || eqb (c .row-sum .result) (a .d))
 summed c =
     let s = c .before .before .before .before .loop .s in
     let a = c .before .before .before .before .before .args in
@@ -36,7 +36,8 @@ returns : tie.Need-returns Inv-loop μ-loop
 returns c = failed-at (c .before .before .before .before .before .loop .inv) (omega arith) (summed (c .before) ∙ not-true _ (c .if1 .taken))
 
 loop-again : tie.Need-loop-again Inv-loop μ-loop
-loop-again c = passed-next (c .before .before .before .before .before .loop .inv) (omega arith) (summed (c .before) ∙ not-false _ (c .if1 .left))
+loop-again c = passed-next (c .before .before .before .before .before .loop .inv) (omega arith)
+    (summed (c .before) ∙ not-false _ (c .if1 .left))
 
 returns-2 : tie.Need-returns-2 Inv-loop μ-loop
 returns-2 c = passed-all (c .before .loop .inv) (omega arith)

@@ -6,17 +6,18 @@ use mathlib.Core.Path.{ap, _∙_}
 use lib.Dec.{leb, eqb}
 use mathlib.Core.Bool.{_||_}
 use lib.ListN.{getD}
-use Rattle.counting.specs.Below.{sum, every}
-use Rattle.model.specs.Rows.{rowsRight}
+use Rattle.counting.specs.Below.{sumBelow, everyBelow}
+use Rattle.model.specs.Rules.{allAddUp}
 use Rattle.model.proofs.rules.rows_right.Statement.{statement}
 use Rattle.model.proofs.rules.rows_right.Tie as tie
 
 returns : tie.Need-returns
-unfolding rowsRight
+unfolding allAddUp
 returns c =
     let m = c .before .before .before .args .m in
     c .rows-add-up .ensures ∙
-    ap (λ (rows : List (List ℕ)). every 32 (λ s. leb (m .n) s || eqb (sum 32 (λ t. getD (getD rows s []) t 0)) (m .d))) (c .before .before .rows-of .ensures)
+    ap (λ (rows : List (List ℕ)). everyBelow 32 (λ s. leb (m .n) s || eqb (sumBelow 32 (λ t. getD (getD rows s []) t 0)) (m .d)))
+    (c .before .before .rows-of .ensures)
 
 pub rows-right-spec : {M : Type 1} → statement M
 rows-right-spec =

@@ -8,7 +8,7 @@ use native.Mathlib.Omega.{arith}
 use lib.Dec.{ltb, eqb}
 use lib.ListN.{getD}
 use borrow.Author.Tests.{not-true, not-false}
-use Rattle.counting.specs.Below.{every}
+use Rattle.counting.specs.Below.{everyBelow}
 use Rattle.counting.proofs.Laws.{Passed, passed-none, passed-next, passed-all, failed-at}
 use Rattle.model.proofs.rules.states_right.Statement.{statement}
 use Rattle.model.proofs.rules.states_right.Tie as tie
@@ -17,7 +17,7 @@ abbrev Inv-loop : tie.InvT-loop
 Inv-loop n a masks rows s₀ s = Passed 32
     (λ s.
     (ltb s n && ltb (getD masks s 0) (2 ^ a) || eqb (getD masks s 0) 0) &&
-    every 32 (λ t. ltb s n && ltb t n || eqb (getD (getD rows s []) t 0) 0)) s
+    everyBelow 32 (λ t. ltb s n && ltb t n || eqb (getD (getD rows s []) t 0) 0)) s
 
 abbrev μ-loop : tie.MeasureT-loop
 μ-loop n a masks rows s₀ s = 32 - s

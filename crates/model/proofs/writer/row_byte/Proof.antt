@@ -28,7 +28,8 @@ returns-2 c = sym (ap (rowByte (fields (c .before)) _) (c .match .keys2))
 
 returns-3 : tie.Need-returns-3
 unfolding rowByte
-returns-3 c = c .weight-byte .ensures ∙ sym (row-rest (fields (c .before .before .before)) _ _ (past (c .before .before)) (c .before .if1 .taken))
+returns-3 c = c .weight-byte .ensures
+    ∙ sym (row-rest (fields (c .before .before .before)) _ _ (past (c .before .before)) (c .before .if1 .taken))
 
 returns-4 : tie.Need-returns-4
 unfolding rowByte

@@ -12,7 +12,8 @@ use Rattle.model.proofs.writer.write_blocks.Statement.{statement}
 use Rattle.model.proofs.writer.write_blocks.Tie as tie
 
 abbrev Inv-loop : tie.InvT-loop
-Inv-loop n a d masks rows count out₀ i₀ out i = (i ≤ count) × (length out ≡ length out₀) × (out ≡ atFront (blocksBelow (modelOf n a d masks rows) i) out₀)
+Inv-loop n a d masks rows count out₀ i₀ out i =
+    (i ≤ count) × (length out ≡ length out₀) × (out ≡ atFront (blocksBelow (modelOf n a d masks rows) i) out₀)
 
 abbrev μ-loop : tie.MeasureT-loop
 μ-loop n a d masks rows count out₀ i₀ out i = count - i
@@ -27,8 +28,11 @@ loop-holds c = (search needs, refl, blocks-none (fields (c .before)) (c .before 
 loop-again : tie.Need-loop-again Inv-loop μ-loop
 loop-again c =
     let l = c .before .before .before .before .before .loop in
-    let start = c .before .before .before .before .before .before .before in
-    (search needs, c .before .out .given .1 ∙ l .inv .1, blocks-more (fields start) (start .args .out .now) (l .i) (l .out) _ (l .inv .2) (c .before .before .write-block .ensures))
+    let start = c .before .before .before .before .before .before .before in (
+      search needs,
+      c .before .out .given .1 ∙ l .inv .1,
+      blocks-more (fields start) (start .args .out .now) (l .i) (l .out) _ (l .inv .2) (c .before .before .write-block .ensures),
+    )
 
 same-length : tie.Need-same-length Inv-loop μ-loop
 same-length c = c .before .loop .inv .1

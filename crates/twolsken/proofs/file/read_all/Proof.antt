@@ -8,7 +8,7 @@ use native.Mathlib.Omega.{arith}
 use lib.ListN.{length, take, drop, length-drop}
 use lib.Seq.{take-all}
 use borrow.Author.Needs.{needs}
-use Rattle.twolsken.specs.Reads.{AtFront}
+use Rattle.twolsken.specs.Working.{AtFront}
 use Rattle.twolsken.specs.declared.file.Contents.{Contents}
 use Rattle.twolsken.specs.declared.file.Contents.the-variants.{Bytes}
 use Rattle.twolsken.proofs.Fronts.{counts, counts-read}

@@ -1,0 +1,4 @@
+-- The laws of the codes.
+pub mod Arms
+pub mod Back
+pub mod Told

@@ -1,0 +1,2 @@
+-- The codes of the exported calls.
+pub mod Codes

@@ -1,0 +1,40 @@
+-- Read model, write model and merge as other languages see them: the contracts of the three calls. An exported reader leaves the
+-- numbers of a record in the memory that is lent to it where no row applies, and on a refusal what the memory held.
+use Prim.Native.Nat.{ℕ}
+use mathlib.Core.List.{List, [], _∷_}
+use mathlib.Core.Path.{_≡_}
+use lib.ListN.{length, getD}
+use Rattle.refusal.specs.Answers.{numberIn, filled, replyOf}
+use Rattle.model.specs.declared.Model.{Model}
+use Rattle.model.specs.declared.ModelRead.{ModelRead}
+use Rattle.model.specs.Layout.{modelOf}
+use Rattle.model.specs.Contract.{ReadModelEnsures, WriteModelEnsures}
+use Rattle.codes.specs.Codes.{Coded, codeOf}
+use Rattle.merge.specs.Contract.{MergeEnsures}
+
+-- N, A and D, in this order
+abbrev pub headOf : Model → List ℕ
+headOf m = m .n ∷ m .a ∷ m .d ∷ []
+
+-- read model, exported: the number of what read model answers, and the three parts of the model
+pub record ExportedReadModel (file : List ℕ) (head masks : List ℕ) (rows : List (List ℕ)) (head′ masks′ : List ℕ) (rows′ : List (List ℕ))
+    (r : ℕ) : Type 0 where
+  pub read : ModelRead
+  pub answer : ReadModelEnsures file read
+  pub answered : r ≡ numberIn (replyOf (read .outcome))
+  pub head-left : head′ ≡ filled (replyOf (read .outcome)) (headOf (read .model)) head
+  pub masks-left : masks′ ≡ filled (replyOf (read .outcome)) (read .model .masks) masks
+  pub rows-left : rows′ ≡ filled (replyOf (read .outcome)) (read .model .weights .rows) rows
+
+-- the model that the three parts stand for: N, A and D in this order, the masks and the weights
+abbrev pub modelOfParts : (head masks : List ℕ) → List (List ℕ) → Model
+modelOfParts head = modelOf (getD head 0 0) (getD head 1 0) (getD head 2 0)
+
+-- write model, exported
+abbrev pub ExportedWriteModel : Model → (before after : List ℕ) → ℕ → Type 0
+ExportedWriteModel m before = Coded codeOf (λ w after. WriteModelEnsures m before after w)
+
+-- merge, exported
+abbrev pub ExportedMerge : (file grouping before after : List ℕ) → ℕ → Type 0
+ExportedMerge file grouping before =
+    Coded codeOf (λ w after. MergeEnsures file grouping before after w)

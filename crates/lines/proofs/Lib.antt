@@ -1,0 +1,2 @@
+-- What is said of a text without its newline.
+pub mod Newlines

@@ -1,0 +1,50 @@
+-- Document 01, 'Calls and refusal numbers', for numerator: its rows, and what the call answers and leaves.
+use Prim.Native.Nat.{ℕ, _≤_}
+use mathlib.Core.Bool.{Bool, false}
+use mathlib.Core.List.{List}
+use mathlib.Core.Path.{_≡_}
+use lib.ListN.{length, getD}
+use Rattle.refusal.specs.Answers.{Reply, gives, refuses, Ensured}
+use Rattle.model.specs.Layout.{fieldsOf}
+use Rattle.sentence.specs.Grammar.{Spells}
+use Rattle.meaning.specs.Tree.{Formula, always, PathFormula, next, pathsOf}
+use Rattle.meaning.specs.Meaning.{numerator, denominator}
+use Rattle.trees.specs.Listed.{formulaNodes}
+use Rattle.chain.specs.Of.{chainOf}
+use Rattle.paths.specs.Tuples.{membersBelow}
+use Rattle.question.specs.Contract.{QuestionRow, SentenceOf, cleared, areaSize}
+use Rattle.numerator.specs.declared.Answer.{Answer}
+use Rattle.numerator.specs.declared.Answer.the-variants.{Counted, Refused}
+
+-- the document's words for an answer: the numerator and the denominator, or the number of a refusal
+abbrev pub numeratorReply : Answer → Reply (ℕ × ℕ)
+numeratorReply (Counted top bottom) = gives (top, bottom)
+numeratorReply (Refused number) = refuses number
+
+-- the path formula with a number, counted from 0 in written order (where there is none, row 15 applies)
+unfoldable pub numbered : Formula → ℕ → PathFormula
+numbered f number = getD (pathsOf f) number (next always)
+
+-- the rows: those of the question, and row 15, where the tuple's length is not n, a member is not below N, or there is no such
+-- path formula
+pub data NumeratorRow (file text tuple : List ℕ) (number room : ℕ) : ℕ → Type 0 where
+  question : {n : ℕ} → QuestionRow file text room n → NumeratorRow file text tuple number room n
+  long : {ps : List Bool} (f : Formula) → Spells ps (formulaNodes f) text → (length tuple ≡ length ps → ⊥) →
+      NumeratorRow file text tuple number room 15
+  member : membersBelow (fieldsOf file .n) tuple ≡ false → NumeratorRow file text tuple number room 15
+  missing : {ps : List Bool} (f : Formula) → Spells ps (formulaNodes f) text → length (pathsOf f) ≤ number →
+      NumeratorRow file text tuple number room 15
+
+-- the correct result of numerator: the numerator of the path formula at the tuple, and its denominator; the first `areaSize`
+-- numbers of the area are zero afterwards
+pub record Counts (file text tuple : List ℕ) (number : ℕ) (before : List ℕ) (values : ℕ × ℕ) (after : List ℕ) : Type 0 where
+  pub sentence : SentenceOf text
+  pub top : values .0 ≡ numerator (numbered (sentence .body) number) (chainOf (fieldsOf file)) (length (sentence .prefix)) tuple
+  pub bottom : values .1 ≡ denominator (numbered (sentence .body) number) (fieldsOf file .d) (length (sentence .prefix))
+  pub left : after ≡ cleared areaSize before
+
+-- what numerator ensures of the model file, the sentence text, the tuple, the path formula's number, the work area before and
+-- after, and what it answers
+pub record NumeratorEnsures (file text tuple : List ℕ) (number : ℕ) (before : List ℕ) (answer : Answer) (after : List ℕ) : Type 0 where
+  pub ensured : Ensured (NumeratorRow file text tuple number (length before)) (Counts file text tuple number before) before
+      (numeratorReply answer) after

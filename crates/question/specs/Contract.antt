@@ -1,0 +1,66 @@
+-- Document 01, 'Calls and refusal numbers': the rows 1 to 11, which verdict and numerator share. A question is a model file, a
+-- sentence text and a work area.
+use Prim.Native.Nat.{ℕ, _<_}
+use mathlib.Core.Bool.{Bool, true, false}
+use mathlib.Core.List.{List, _++_}
+use mathlib.Core.Path.{_≡_}
+use lib.Dec.{ltb}
+use lib.ListN.{length, drop, replicate}
+use Rattle.refusal.specs.Rows.{Applies}
+use Rattle.model.specs.Layout.{fieldsOf}
+use Rattle.model.specs.Contract.{fileRows}
+use Rattle.sentence.specs.declared.Node.{Node}
+use Rattle.sentence.specs.declared.Node.the-variants.{True, Label, Not, And, Compare, Probability}
+use Rattle.sentence.specs.declared.Node.the-variants.{Constant, Sum, Difference, Product, Next, Until}
+use Rattle.sentence.specs.Grammar.{Spells}
+use Rattle.sentence_reader.specs.Contract.{ReadRow}
+use Rattle.meaning.specs.Lists.{every}
+use Rattle.meaning.specs.Chain.{tupleCount}
+use Rattle.meaning.specs.Tree.{Formula}
+use Rattle.meaning.specs.Size.{exceeds}
+use Rattle.trees.specs.Listed.{formulaNodes}
+use Rattle.chain.specs.Of.{chainOf}
+
+-- how many numbers the work area has to have: 8,192 numbers of 64 bits
+abbrev pub areaSize : ℕ
+areaSize = 8192
+
+-- a node's label letter, if it has one, is below A
+abbrev pub labelRight : ℕ → Node → Bool
+labelRight a True = true
+labelRight a (Label l v) = ltb l a
+labelRight a Not = true
+labelRight a And = true
+labelRight a (Compare r) = true
+labelRight a Probability = true
+labelRight a (Constant t b) = true
+labelRight a Sum = true
+labelRight a Difference = true
+labelRight a Product = true
+labelRight a Next = true
+labelRight a (Until k1 k2) = true
+
+-- the rows: `QuestionRow file text room n` says that the row with the number n applies to the model file, the sentence text
+-- and a work area of `room` numbers. A sentence is the prefix ps and the body f that spell the text: every node list of the grammar
+-- is that of a tree, and of one only (`formula-of` and `sentence-once` of the crate `trees`).
+pub data QuestionRow (file text : List ℕ) (room : ℕ) : ℕ → Type 0 where
+  area : room < areaSize → QuestionRow file text room 1
+  model : {n : ℕ} → Applies n (fileRows file) → QuestionRow file text room n
+  sentence : {n : ℕ} → ReadRow text n → QuestionRow file text room n
+  labels : {ps : List Bool} (f : Formula) → Spells ps (formulaNodes f) text →
+      every (labelRight (fieldsOf file .a)) (formulaNodes f) ≡ false →
+      QuestionRow file text room 9
+  size : {ps : List Bool} (f : Formula) → Spells ps (formulaNodes f) text → exceeds f (fieldsOf file .d) (length ps) ≡ true →
+      QuestionRow file text room 10
+  tuples : {ps : List Bool} (f : Formula) → Spells ps (formulaNodes f) text → 1024 < tupleCount (chainOf (fieldsOf file)) (length ps) →
+      QuestionRow file text room 11
+
+-- the sentence of a text: the prefix and the body that spell it
+pub record SentenceOf (text : List ℕ) : Type 0 where
+  pub prefix : List Bool
+  pub body : Formula
+  pub spelled : Spells prefix (formulaNodes body) text
+
+-- after an answer the first n numbers of the work area are zero, the others unchanged
+unfoldable pub cleared : ℕ → List ℕ → List ℕ
+cleared n before = replicate n 0 ++ drop n before

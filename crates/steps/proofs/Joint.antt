@@ -1,0 +1,195 @@
+-- A step of one variable means `stepOne`, and one variable after another, the last first, is the joint step.
+use Prim.Native.Nat.{ℕ, suc, _+_, _*_, _-_, _/_, _%_, _^_, _≤_, _<_}
+use mathlib.Core.List.{List}
+use mathlib.Core.Path.{_≡_, refl, sym, ap, ap₂, subst, _∙_}
+use native.Mathlib.Nat.{mod-lt, pow-suc, pow-succ', pow-zero, pow-le-pow-right, mul-le-mul-right}
+use native.Mathlib.Numerals.{add-one}
+use native.Mathlib.Omega.{arith}
+use lib.ListN.{length, getD, set}
+use Rattle.counting.specs.Below.{sumBelow}
+use Rattle.counting.proofs.Laws.{sum-same}
+use Rattle.meaning.specs.Lists.{below, total}
+use Rattle.meaning.specs.Chain.{Chain, Sound, Tuple, Inside}
+use Rattle.meaning.proofs.Single.{stepOne, stepFrom, stepOne-at, stepFrom-joint}
+use Rattle.meaning.proofs.Numbers.{tupleOf, tuple-inside, each-length}
+use Rattle.layers.specs.Layers.{Layer, RestKept}
+use Rattle.layers.specs.Held.{weightIn}
+use Rattle.steps.specs.Columns.{start, LayerFits, LayerStepped}
+use Rattle.layers.specs.Held.{Holds, LayerSizes}
+use Rattle.steps.specs.Steps.{StepFits, Stepped}
+use Rattle.steps.proofs.Columns.{columnOf, start-split, start-column, place-below, column-below}
+use Rattle.layers.proofs.Places.{pow-some, pow-place, state-at, tuple-moved}
+use Rattle.meaning.proofs.Sums.{total-sum}
+use Rattle.steps.proofs.Sums.{sum-bounded}
+
+-- the row of a state adds up to D
+pub row-sum : {c : Chain} {rows : List (List ℕ)} {N : ℕ} → Holds c rows N → (s : ℕ) → s < N →
+    sumBelow N (weightIn rows s) ≡ c .D
+unfolding Sound
+row-sum {c} {rows} {N} h s l =
+    sum-same N (λ t m. h .weights s t l m) ∙
+    sym (total-sum N (c .weight s)) ∙
+    ap (λ (x : ℕ). total (c .weight s) (below x)) (sym (h .states)) ∙
+    h .sound s (omega (arith, h .states))
+
+-- every place of a tuple's column lies in the layer
+place-in : (N stride above k t : ℕ) → 1 ≤ N → 1 ≤ stride → k < above * N * stride → t < N →
+    start N stride k + t * stride < above * N * stride
+place-in N stride above k t some apart l m =
+    let e = start-column N stride some apart k in
+    let c = column-below N stride some apart above k l in
+    let p = place-below N stride some apart (columnOf N stride k) t m above c in
+    omega arith
+
+-- ---- a layer in which one variable has been stepped
+module _ {rows : List (List ℕ)} {N T : ℕ} {before after : List ℕ} (n i : ℕ) (some : 1 ≤ N) (whole : T ≡ N ^ n)
+    (less : i < n) (h : LayerStepped rows N (N ^ (n - suc i)) T before after) where
+  -- the layer of any function is that of the function stepped by the variable
+  pub one-layer : (c : Chain) → Holds c rows N → (f : Tuple → ℕ) → Layer N n f before → Layer N n (stepOne c i f) after
+  one-layer c held f layer = record { at = here }
+    where
+      here : (k : ℕ) → k < N ^ n → getD after k 0 ≡ stepOne c i f (tupleOf N n k)
+      here k l =
+          let stride = N ^ (n - suc i) in
+          let apart = pow-some N (n - suc i) some in
+          let tuple = tupleOf N n k in
+          let s = k / stride % N in
+          let state = state-at N some n i k less l in
+          let inside : i < length tuple = omega (arith, each-length (tuple-inside N n k l)) in
+          let split = start-split N stride some apart k in
+          let at : (t : ℕ) → t < N → getD before (start N stride k + t * stride) 0 ≡ f (set tuple i t) = λ t m.
+          layer .at (start N stride k + t * stride)
+          (subst (λ (x : ℕ). start N stride k + t * stride < x) (sym (pow-place N n i less))
+          (place-in N stride (N ^ i) k t some apart (subst (λ (x : ℕ). k < x) (pow-place N n i less) l) m)) ∙
+          ap f (tuple-moved N some n i k (start N stride k + t * stride) t less l m (omega arith)) in
+          h .each k (omega arith) ∙
+          sum-same N (λ t m. ap₂ _*_ (held .weights s t (mod-lt (k / stride) some) m) (at t m)) ∙
+          sym (total-sum N (λ t. c .weight s t * f (set tuple i t))) ∙
+          ap₂ (λ (x y : ℕ). total (λ t. c .weight x t * f (set tuple i t)) (below y)) (sym state) (sym (held .states)) ∙
+          sym (stepOne-at c i f tuple inside)
+
+  -- its numbers are at most D times what they were
+  pub one-small : (D bound : ℕ) → ((s : ℕ) → s < N → sumBelow N (weightIn rows s) ≡ D) →
+      ((k : ℕ) → k < T → getD before k 0 ≤ bound) → (k : ℕ) → k < T → getD after k 0 ≤ D * bound
+  one-small D bound sums small k l =
+      let stride = N ^ (n - suc i) in
+      let apart = pow-some N (n - suc i) some in
+      let s = k / stride % N in
+      let place = pow-place N n i less in
+      let e = h .each k l in
+      let q = sum-bounded N (weightIn rows s) (λ t. getD before (start N stride k + t * stride) 0) bound
+      (λ t m.
+      small (start N stride k + t * stride)
+      (omega (arith, whole, place, place-in N stride (N ^ i) k t some apart (omega (arith, whole, place)) m))) in
+      let d = ap (λ (x : ℕ). x * bound) (sums s (mod-lt (k / stride) some)) in
+      omega arith
+
+-- one factor more
+scaled : (D m bound : ℕ) → D * (D ^ m * bound) ≡ D ^ suc m * bound
+scaled D m bound =
+    let e : D ^ suc m * bound ≡ D * D ^ m * bound = ap (λ (x : ℕ). x * bound) (pow-succ' D m) in
+    omega arith
+
+-- the last m variables have stepped
+pub record Stepping (rows : List (List ℕ)) (N n T : ℕ) (before : List ℕ) (m stride : ℕ) (after : List ℕ) : Type 0 where
+  pub upTo : m ≤ n
+  pub strided : stride ≡ N ^ m
+  pub each : (c : Chain) → Holds c rows N → (f : Tuple → ℕ) → Layer N n f before →
+      Layer N n (λ s. stepFrom c (n - m) m f s) after
+  pub small : (D bound : ℕ) → ((s : ℕ) → s < N → sumBelow N (weightIn rows s) ≡ D) →
+      ((k : ℕ) → k < T → getD before k 0 ≤ bound) → (k : ℕ) → k < T → getD after k 0 ≤ D ^ m * bound
+  pub kept : RestKept T before after
+
+module _ {rows : List (List ℕ)} {N n T : ℕ} {before : List ℕ} where
+  -- before the first turn
+  pub stepping-none : Stepping rows N n T before 0 1 before
+  unfolding stepFrom
+  stepping-none = record {
+    upTo = omega arith;
+    strided = sym (pow-zero N);
+    each = λ c h f layer. record { at = layer .at };
+    small = λ D bound sums small k l.
+        let e : D ^ 0 * bound ≡ bound = ap (λ (x : ℕ). x * bound) (pow-zero D) ∙ omega arith in
+        omega (arith, small k l);
+    kept = record { long = refl; rest = refl };
+  }
+
+  module _ (fits : StepFits rows N n T before) {m stride : ℕ} {after : List ℕ}
+      (h : Stepping rows N n T before m stride after) (less : m < n) where
+    -- the variable in this place has the stride
+    at-stride : stride ≡ N ^ (n - suc (n - suc m))
+    at-stride = h .strided ∙ ap (λ (x : ℕ). N ^ x) (omega arith)
+
+    -- what a step of one variable asks
+    pub layer-fits : LayerFits rows N stride T after
+    layer-fits = record {
+      some = fits .sizes .some;
+      states = fits .sizes .states;
+      apart = subst (λ (x : ℕ). 1 ≤ x) (sym (h .strided)) (pow-some N m (fits .sizes .some));
+      above = N ^ (n - suc m);
+      whole =
+          fits .sizes .whole ∙
+          pow-place N n (n - suc m) (omega arith) ∙
+          ap (λ (x : ℕ). N ^ (n - suc m) * N * x) (sym at-stride);
+      few = fits .sizes .few;
+      room = omega (arith, fits .room, h .kept .long);
+      bound = fits .chain .D ^ m * fits .bound;
+      small = h .small (fits .chain .D) (fits .bound) (row-sum (fits .holds)) (fits .small);
+      fits = λ s l.
+          let D = fits .chain .D in
+          let e = ap (λ (x : ℕ). x * (D ^ m * fits .bound)) (row-sum (fits .holds) s l) in
+          let p = scaled D m (fits .bound) in
+          let q = mul-le-mul-right (fits .bound) (pow-le-pow-right (fits .weighed) {i = suc m} {j = n} less) in
+          omega (arith, fits .fits);
+    }
+
+    -- the next stride is at most T
+    pub stride-small : stride * N ≤ T
+    stride-small =
+        let e : stride * N ≡ N ^ suc m = ap (λ (x : ℕ). x * N) (h .strided) ∙ sym (pow-suc N m) in
+        omega (arith, fits .sizes .whole, pow-le-pow-right (fits .sizes .some) {i = suc m} {j = n} less)
+
+    -- one variable more
+    pub stepping-next : {now : List ℕ} → LayerStepped rows N stride T after now →
+        Stepping rows N n T before (m + 1) (stride * N) now
+    unfolding stepFrom
+    stepping-next {now} one = record {
+      upTo = omega arith;
+      strided = ap (λ (x : ℕ). x * N) (h .strided) ∙ sym (pow-suc N m) ∙ ap (λ (x : ℕ). N ^ x) (sym (add-one m));
+      each = λ c held f layer.
+          subst (λ (x : ℕ). Layer N n (λ s. stepFrom c (n - x) x f s) now) (sym (add-one m))
+          (subst (λ (x : ℕ). Layer N n (stepOne c (n - suc m) (λ s. stepFrom c x m f s)) now) (omega arith)
+          (one-layer n (n - suc m) (fits .sizes .some) (fits .sizes .whole) (omega arith) placed c held
+          (λ s. stepFrom c (n - m) m f s) (h .each c held f layer)));
+      small = λ D bound sums small k l.
+          let p = scaled D m bound in
+          let e : D ^ (m + 1) * bound ≡ D ^ suc m * bound = ap (λ (x : ℕ). D ^ x * bound) (add-one m) in
+          omega (
+            arith,
+            one-small n (n - suc m) (fits .sizes .some) (fits .sizes .whole) (omega arith) placed D (D ^ m * bound) sums
+                (h .small D bound sums small) k l,
+          );
+      kept = record {
+        long = one .kept .long ∙ h .kept .long;
+        rest = one .kept .rest ∙ h .kept .rest;
+      };
+    }
+      where
+        placed : LayerStepped rows N (N ^ (n - suc (n - suc m))) T after now
+        placed = subst (λ (x : ℕ). LayerStepped rows N x T after now) at-stride one
+
+  -- after the last turn the joint step has been made
+  pub stepping-all : {m stride : ℕ} {after : List ℕ} → LayerSizes N n T → Stepping rows N n T before m stride after → n ≤ m →
+      Stepped rows N n T before after
+  stepping-all {m} sizes h done = record {
+    each = λ c held f layer. record {
+      at = λ k l.
+          let e : m ≡ n = omega arith in
+          let e′ : n - m ≡ 0 = omega arith in
+          h .each c held f layer .at k l ∙
+          ap₂ (λ (x y : ℕ). stepFrom c x y f (tupleOf N n k)) e′ e ∙
+          stepFrom-joint c
+          (subst (λ (x : ℕ). Inside x n (tupleOf N n k)) (sym (held .states)) (tuple-inside N n k l)) f;
+    };
+    kept = h .kept;
+  }

@@ -1,0 +1,5 @@
+-- What belongs to no one function.
+pub mod Sums
+pub mod Columns
+pub mod Namings
+pub mod Joint

@@ -1,0 +1,123 @@
+// A joint step of a layer in place, one variable after another: n × N products a tuple, or n times as many as a row has
+// weights that are not 0, where each has few.
+pub mod sparse;
+
+ghost use mathlib.Core.Path.{_≡_};
+ghost use Prim.Native.Nat.{_*_, _<_};
+ghost use lib.ListN.{length};
+ghost use Rattle.layers.specs.Held.{mostStates};
+ghost use Rattle.steps.specs.Sparse.{RowsNamed};
+ghost use Rattle.steps.specs.Columns.{ColumnIn, ColumnRead, ColumnFits, ColumnStepped, LayerFits, LayerStepped};
+ghost use Rattle.steps.specs.Steps.{StepFits, Stepped};
+use layers::STATES;
+use sparse::PLACES;
+
+// Reads the numbers of a column.
+fn read_column(states: usize, stride: usize, at: usize, layer: &[u64], column: &mut [u64; STATES])
+    requires { ⌜ ColumnIn states stride at (now layer) × (length (now column) ≡ mostStates) ⌝ }
+    ensures { λ r. ⌜ ColumnRead states stride at (now (layer .entry)) (now (column .exit)) ⌝ }
+{
+    let mut place = at;
+    let mut s: usize = 0;
+    while s < states {
+        column[s] = layer[place];
+        place += stride;
+        s += 1;
+    }
+}
+
+// Steps the variable's state in one column: its numbers are copied, then each is the sum of its state's row.
+fn step_column(
+    rows: &[[u16; STATES]; STATES],
+    places: &[[u8; PLACES]; STATES],
+    most: usize,
+    states: usize,
+    stride: usize,
+    at: usize,
+    layer: &mut [u64],
+    column: &mut [u64; STATES],
+)
+    requires { ⌜ ColumnFits (now rows) states stride at (now layer) × RowsNamed (now rows) states most (now places) ×
+        (length (now column) ≡ mostStates) ⌝ }
+    ensures { λ r. ⌜ ColumnStepped (now (rows .entry)) states stride at (now (layer .entry)) (now (layer .exit)) ×
+        (length (now (column .exit)) ≡ mostStates) ⌝ }
+{
+    read_column(states, stride, at, layer, column);
+    let mut place = at;
+    let mut s: usize = 0;
+    while s < states {
+        layer[place] = sparse::row_sum(&rows[s], &places[s], column, states, most);
+        place += stride;
+        s += 1;
+    }
+}
+
+// Steps one variable at all tuples. Its state changes every `stride` places: where `stride` columns have been stepped,
+// the next starts past their last places.
+fn step_variable(
+    rows: &[[u16; STATES]; STATES],
+    places: &[[u8; PLACES]; STATES],
+    most: usize,
+    states: usize,
+    stride: usize,
+    tuples: usize,
+    layer: &mut [u64],
+)
+    requires { ⌜ LayerFits (now rows) states stride tuples (now layer) × RowsNamed (now rows) states most (now places) ⌝ }
+    ensures { λ r. ⌜ LayerStepped (now (rows .entry)) states stride tuples (now (layer .entry)) (now (layer .exit)) ⌝ }
+{
+    let columns = tuples / states;
+    let mut column = [0u64; STATES];
+    let mut at: usize = 0;
+    let mut within: usize = 0;
+    let mut j: usize = 0;
+    while j < columns {
+        step_column(rows, places, most, states, stride, at, layer, &mut column);
+        at += 1;
+        within += 1;
+        if within == stride {
+            at += stride * states - stride;
+            within = 0;
+        }
+        j += 1;
+    }
+}
+
+// A joint step by the places that name the rows' weights: all n variables step, the last first.
+pub fn joint_named(
+    rows: &[[u16; STATES]; STATES],
+    places: &[[u8; PLACES]; STATES],
+    most: usize,
+    states: usize,
+    variables: usize,
+    tuples: usize,
+    work: &mut [u64],
+)
+    requires { ⌜ StepFits (now rows) states variables tuples (now work) × RowsNamed (now rows) states most (now places) ⌝ }
+    ensures { λ r. ⌜ Stepped (now (rows .entry)) states variables tuples (now (work .entry)) (now (work .exit)) ⌝ }
+{
+    let mut stride: usize = 1;
+    let mut m: usize = 0;
+    while m < variables {
+        step_variable(rows, places, most, states, stride, tuples, work);
+        stride = stride * states;
+        m += 1;
+    }
+}
+
+// A joint step. The layer of a function becomes the layer of its step; from a formula's truth it is the numerator of
+// next.
+pub fn joint_step(
+    rows: &[[u16; STATES]; STATES],
+    states: usize,
+    variables: usize,
+    tuples: usize,
+    work: &mut [u64],
+)
+    requires { ⌜ StepFits (now rows) states variables tuples (now work) ⌝ }
+    ensures { λ r. ⌜ Stepped (now (rows .entry)) states variables tuples (now (work .entry)) (now (work .exit)) ⌝ }
+{
+    let mut places = [[0u8; PLACES]; STATES];
+    let most = sparse::name_rows(rows, states, &mut places);
+    joint_named(rows, &places, most, states, variables, tuples, work);
+}

@@ -1,0 +1,41 @@
+-- What the steps mean for paths: from the truth of its formulas, the layer of a path's numerator.
+use Prim.Native.Nat.{ℕ, _^_, _≤_, _<_}
+use mathlib.Core.Bool.{Bool, true, false, cond}
+use mathlib.Core.List.{List}
+use mathlib.Core.Path.{_≡_, sym, _∙_}
+use native.Mathlib.Nat.{le-of-eq, le-trans}
+use native.Mathlib.Omega.{arith}
+use lib.ListN.{getD, drop}
+use Rattle.meaning.specs.Chain.{Chain, Tuple}
+use Rattle.meaning.specs.Tree.{Formula, next, until}
+use Rattle.meaning.specs.Meaning.{holds, numerator}
+use Rattle.meaning.proofs.Numbers.{tupleOf}
+use Rattle.meaning.proofs.Until.{numerator-next}
+use Rattle.layers.specs.Layers.{Layer, truth}
+use Rattle.layers.specs.Held.{Holds}
+use Rattle.steps.specs.Steps.{Stepped}
+use Rattle.untils.specs.Untils.{UntilTaken}
+
+-- a truth is at most 1
+pub truth-small : {N n : ℕ} (p : Tuple → Bool) {w : List ℕ} → Layer N n (truth p) w →
+    (k : ℕ) → k < N ^ n → getD w k 0 ≤ 1
+truth-small {N} {n} p h k l = le-trans (le-of-eq (h .at k l)) (small (p (tupleOf N n k)))
+  where
+    small : (b : Bool) → cond b 1 0 ≤ 1
+    small true = omega arith
+    small false = omega arith
+
+module _ {rows : List (List ℕ)} {N n T : ℕ} {before after : List ℕ} {c : Chain} (held : Holds c rows N) (f : Formula)
+    (one : Layer N n (truth (λ t. holds f c n t)) before) where
+  -- the numerator of next is a joint step of its formula's truth
+  pub next-layer : Stepped rows N n T before after → Layer N n (numerator (next f) c n) after
+  next-layer stepped = record {
+    at = λ k l.
+        stepped .each c held (truth (λ t. holds f c n t)) one .at k l ∙ sym (numerator-next f c n (tupleOf N n k));
+  }
+
+  -- the numerator of until
+  pub until-layer : {d k1 k2 : ℕ} (g : Formula) → Layer N n (truth (λ t. holds g c n t)) (drop T before) → c .D ≡ d →
+      UntilTaken rows N n T d k1 k2 before after → Layer N n (numerator (until k1 k2 f g) c n) after
+  unfolding numerator
+  until-layer g two sums taken = taken .each c held sums (λ t. holds f c n t) (λ t. holds g c n t) one two

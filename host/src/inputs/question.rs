@@ -1,0 +1,248 @@
+//! Pairs of a model file and a sentence text: such as are answered, such as
+//! each row of a verdict refuses, and such as stand at an end of the size rule.
+
+use super::model::{self, file_of, model_with};
+use super::sentence::{self, Lean, Loose, Taste};
+use super::Rng;
+use crate::second::meaning::{answer, too_large, Way, TUPLES, WORK};
+use crate::second::sentence::{read_sentence, Node, Sentence};
+use crate::second::Model;
+
+/// A model file and a sentence text.
+#[derive(Clone, Debug)]
+pub struct Pair {
+    /// The model file.
+    pub file: Vec<u8>,
+    /// The sentence text.
+    pub text: Vec<u8>,
+}
+
+/// A pair of any kind, most of them answered.
+pub fn pair(rng: &mut Rng) -> Pair {
+    match rng.below(40) {
+        0..=2 => Pair { file: model::file(rng), ..fitting(rng) },
+        3 | 4 => Pair { text: sentence::text(rng), ..fitting(rng) },
+        5 => Pair { file: model::file(rng), text: sentence::text(rng) },
+        6 => with_label_beyond(rng),
+        7..=9 => at_size_limit(rng),
+        10 => at_tuple_limit(rng),
+        11 => near(rng),
+        12 => several(rng),
+        13..=20 => tight(rng),
+        _ => fitting(rng),
+    }
+}
+
+/// The length of a work area: enough in most cases, with the limit on both sides.
+pub fn work_length(rng: &mut Rng) -> usize {
+    match rng.below(40) {
+        0 => rng.pick(&[0, 1, 512, WORK - 2, WORK - 1]),
+        1 | 2 => WORK + 1,
+        3 => WORK + rng.between(1, 40),
+        4 => 9_000,
+        _ => WORK,
+    }
+}
+
+/// A pair that is nearly always answered.
+pub fn fitting(rng: &mut Rng) -> Pair {
+    let most = if rng.chance(1, 40) { TUPLES } else { rng.pick(&[4, 16, 16, 27, 36, 64, 81]) };
+    let (model, letters) = chain(rng, most);
+    let size = match rng.below(6) {
+        0 => rng.between(1, 64),
+        1 => rng.between(1, 30),
+        _ => rng.between(1, 12),
+    };
+    let loose = fitting_sentence(rng, &model, letters, size);
+    Pair { file: file_of(&model), text: loose.text() }
+}
+
+/// A model of few labels and, mostly, a small D, and a number of letters with
+/// which it has at most so many tuples.
+pub fn chain(rng: &mut Rng, tuples: usize) -> (Model, usize) {
+    let letters = rng.pick(&[1, 1, 1, 2, 2, 2, 3, 4]);
+    let most = (1..=32usize).rev().find(|n| n.pow(letters as u32) <= tuples).unwrap_or(1);
+    let n = rng.between(most.min(2), most);
+    let any = rng.between(1, 65_535) as u32;
+    let d = rng.pick(&[1, 1, 2, 2, 2, 2, 3, 3, 4, 4, 5, 6, 10, 100, 65_535, any]);
+    let a = rng.between(1, 3) as u32;
+    (model_with(rng, n as u32, a, d), letters)
+}
+
+/// The greatest k up to 60 with D to the power letters × k at most 2^62.
+pub fn widest_window(d: u32, letters: usize) -> usize {
+    let fits = |k: &usize| {
+        let end = 1u128 << 62;
+        (0..letters * k).try_fold(1u128, |x, _| Some(x * u128::from(d)).filter(|&x| x <= end)).is_some()
+    };
+    (0..=60).take_while(fits).last().unwrap_or(0)
+}
+
+/// A sentence of about the given size that the size rule allows on a model, if
+/// a few attempts find one.
+pub fn fitting_sentence(rng: &mut Rng, model: &Model, letters: usize, size: usize) -> Loose {
+    let widest = widest_window(model.d, letters);
+    let lean = rng.pick(&[Lean::Any, Lean::Any, Lean::Left, Lean::Right, Lean::Even]);
+    let work = if rng.chance(1, 100) { 3_000_000 } else { 30_000 };
+    let mut found = None;
+    for attempt in 0..8 {
+        let window = rng.pick(&[1, 1, 2, 3, 5, 8, widest / 3, widest]).min(widest).min(60 >> attempt);
+        let (top, bottom) = rng.pick(&[(9, 1), (2, 2), (3, 3), (4, 4), (60, 60)]);
+        let taste = Taste { variables: letters, labels: model.a as usize, window, top, bottom, lean };
+        let size = (size >> (attempt / 2)).max(1);
+        let loose = sentence::sentence(rng, &taste, size);
+        let fits = |read: &Sentence| !too_large(read, model.d) && cost(model, read) <= work;
+        let good = read_sentence(&loose.text()).is_ok_and(|read| fits(&read));
+        found = Some(loose);
+        if good {
+            break;
+        }
+    }
+    found.expect("there is an attempt")
+}
+
+/// About how many products the steps of a sentence's paths take on a model.
+pub fn cost(model: &Model, sentence: &Sentence) -> usize {
+    let n = model.n as usize;
+    let tuples = n.pow(sentence.letters as u32);
+    let steps = sentence.nodes[..sentence.count].iter().map(|node| match node {
+        Node::Next => 1,
+        Node::Until { to, .. } => *to as usize,
+        _ => 0,
+    });
+    steps.sum::<usize>() * n * tuples * sentence.letters
+}
+
+/// A pair whose body compares a path's probability with a constant that is its
+/// value at some tuple, or one unit beside it.
+pub fn tight(rng: &mut Rng) -> Pair {
+    let (model, letters) = chain(rng, 36);
+    let window = widest_window(model.d, letters).min(rng.between(1, 4));
+    let labels = model.a as usize;
+    let taste = Taste { variables: letters, labels, window, top: 3, bottom: 3, lean: Lean::Any };
+    let size = rng.between(2, 9);
+    let path = sentence::path(rng, &taste, size);
+    let file = file_of(&model);
+    let mut loose = Loose { prefix: sentence::prefix(rng, letters), list: Vec::new() };
+    loose.list = vec![Node::Compare(sentence::relation(rng)), Node::Probability];
+    loose.list.extend_from_slice(&path);
+    loose.list.push(Node::Constant { top: 1, bottom: 1 });
+    if let Ok(found) = answer(&file, &loose.text(), Way::Table) {
+        let bottom = found.paths[0].bottom;
+        let top = rng.pick(&found.paths[0].tops);
+        let top = rng.pick(&[top, top, top, top + 1, top.saturating_sub(1)]);
+        if bottom <= 65_535 && top <= 65_535 {
+            loose.list.pop();
+            loose.list.push(Node::Constant { top: top as u32, bottom: bottom as u32 });
+        }
+    }
+    Pair { file, text: loose.text() }
+}
+
+/// A pair that compares a probability with a constant from which it differs by
+/// less than a rounded division shows: state 0 reaches state 1 within k steps
+/// with (g / (D − 1)) × (1 − 1 / D^k).
+fn near(rng: &mut Rng) -> Pair {
+    let d = rng.pick(&[2, 3, 3, 4, 5, 8, 10, 1_000, 65_535]);
+    let goal = rng.between(1, d - 1);
+    let mut model = Model { n: 3, a: 2, d: d as u32, ..Model::empty() };
+    model.masks[..3].copy_from_slice(&[2, 1, 0]);
+    model.weights[0][..3].copy_from_slice(&[1, goal as u16, (d - 1 - goal) as u16]);
+    model.weights[1][1] = d as u16;
+    model.weights[2][2] = d as u16;
+    let window = widest_window(d as u32, 1).max(1) - 1;
+    let relation = char::from(rng.pick(b"<L=G>"));
+    let compared = format!("{relation}PU0,{window}:Ta1#{goal}/{};", d - 1);
+    let text = match rng.below(3) {
+        0 => format!("E.&b1{compared}"),
+        1 => format!("A.!&b1!{compared}"),
+        _ => format!("{}.{compared}", char::from(rng.pick(b"AE"))),
+    };
+    Pair { file: file_of(&model), text: text.into_bytes() }
+}
+
+/// A pair whose sentence names a label near A, on either side.
+fn with_label_beyond(rng: &mut Rng) -> Pair {
+    let (mut model, letters) = chain(rng, 36);
+    model.a = rng.between(model.a as usize, 16) as u32;
+    let label = ((model.a as usize) + rng.below(3)).saturating_sub(1).min(15) as u8;
+    let variable = rng.between(1, letters) as u8;
+    let mut loose =
+        Loose { prefix: sentence::prefix(rng, letters), list: vec![Node::Label { label, variable }] };
+    if rng.chance(1, 2) {
+        loose.list.insert(0, Node::Next);
+        loose.list.insert(0, Node::Probability);
+        loose.list.insert(0, Node::Compare(sentence::relation(rng)));
+        loose.list.push(Node::Constant { top: 1, bottom: 2 });
+    }
+    Pair { file: file_of(&model), text: loose.text() }
+}
+
+/// A pair whose number of tuples stands near 1,024, on either side.
+fn at_tuple_limit(rng: &mut Rng) -> Pair {
+    let (n, letters) =
+        rng.pick(&[(32, 1), (31, 2), (32, 2), (10, 3), (11, 3), (5, 4), (6, 4), (32, 3), (32, 4), (1, 4)]);
+    let d = rng.between(1, 3) as u32;
+    let model = model_with(rng, n, 2, d);
+    let prefix = "AE".repeat(2)[..letters].to_string();
+    let body = rng.pick(&["T", "a1", "!&a1b1", "=PXa1PXb1", "LPU0,2:a1b1#1/2;", "<#1/2;#1/3;"]);
+    Pair { file: file_of(&model), text: format!("{prefix}.{body}").into_bytes() }
+}
+
+/// A pair to which each of rows 6 to 11 applies or not, by chance.
+fn several(rng: &mut Rng) -> Pair {
+    let (n, letters) = rng.pick(&[(2, 3), (5, 4), (11, 3), (6, 4), (32, 2)]);
+    let d = rng.pick(&[1, 2, 65_535]);
+    let label = rng.pick(&["a1", "a1", "b1", "p2"]);
+    let variable = rng.pick(&["a1", "a2", "a4"]);
+    let to = rng.pick(&[1, 1, 3, 21, 22, 60, 61]);
+    let back = rng.pick(&["", "", "", "", "T"]);
+    let many = "!".repeat(rng.pick(&[0, 0, 57, 58, 59, 60]));
+    let text = format!("{}.{many}LPU1,{to}:{variable}{label}#0/1;{back}", &"AEAE"[..letters]);
+    Pair { file: file_of(&model_with(rng, n, 1, d)), text: text.into_bytes() }
+}
+
+/// A pair whose sizes stand at an end of the size rule, on either side.
+pub fn at_size_limit(rng: &mut Rng) -> Pair {
+    let any = rng.between(2, 65_535) as u32;
+    let d = rng.pick(&[1, 2, 2, 3, 4, 5, 7, 10, 16, 255, 256, 46_340, 65_535, any]);
+    let letters = rng.between(1, 3);
+    let n = rng.between(1, 3) as u32;
+    let model = model_with(rng, n, 1, d);
+    let widest = widest_window(d, letters);
+    let window = rng.pick(&[widest, widest, widest + 1, rng.clone().below(widest + 1)]);
+    let steps = (letters * window) as u32;
+    let left = (1u128 << 62) / u128::from(d).checked_pow(steps).unwrap_or(1 << 62).max(1);
+    let end = (left + rng.below(3) as u128).saturating_sub(1).min(65_536);
+    let until = format!("PU{},{window}:Ta1", rng.below(2).min(window));
+    let half = window / 2;
+    let body = match rng.below(11) {
+        0 => format!("G{until}#0/1;"),
+        1 => format!("G{until}#0/{end};"),
+        2 => format!("G{until}#{end}/1;"),
+        3 => format!("L#1/{end};{until}"),
+        4 => format!("=*{until}#{end}/1;#1/1;"),
+        5 => format!("=*#1/{end};{until}#0/1;"),
+        6 => format!("<+{until}#{end}/1;#1/1;"),
+        7 => format!("<-PU0,{half}:a1TPU0,{}:Ta1#{end}/1;", window - half),
+        8 => format!(">+PU0,{half}:Ta1PU0,{}:a1a1#1/{end};", window - half),
+        9 => format!("GPX>{until}#{end}/1;#1/1;"),
+        _ => format!("=PU0,1:a1!<#1/{end};{until}#1/1;"),
+    };
+    let text = format!("{}.{body}", &"AEAE"[..letters]);
+    Pair { file: file_of(&model), text: text.into_bytes() }
+}
+
+#[cfg(test)]
+mod tests {
+    use super::*;
+
+    #[test]
+    fn the_widest_window_is_that_of_the_examples() {
+        assert_eq!(widest_window(4, 1), 31);
+        assert_eq!(widest_window(1, 4), 60);
+        assert_eq!(widest_window(2, 1), 60);
+        assert_eq!(widest_window(3, 1), 39);
+        assert_eq!(widest_window(65_535, 4), 0);
+    }
+}

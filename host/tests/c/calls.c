@@ -1,0 +1,224 @@
+/*
+ * Calls each function of the header with values that matter in each place, on document 01's models, and stops at the first
+ * answer that is not the document's. What read model and read sentence leave is handed to the writers as it is.
+ */
+#include "twolsken.h"
+
+#include <stdio.h>
+#include <string.h>
+
+static int wrong;
+
+/* Says where an answer is not the expected one. */
+#define IS(expected, got) is(#got, __LINE__, (uint64_t)(expected), (uint64_t)(got))
+
+static void is(const char *what, int line, uint64_t expected, uint64_t got) {
+    if (expected != got) {
+        fprintf(stderr, "line %d: %s is %llu, not %llu\n", line, what, (unsigned long long)got,
+                (unsigned long long)expected);
+        wrong = 1;
+    }
+}
+
+static uint64_t work[TWOLSKEN_WORK_AREA + 1];
+
+/* The file of M2, and its length. */
+static uint8_t file[TWOLSKEN_LONGEST_FILE];
+static size_t length;
+
+/* Write model, then read model, then write what was read. */
+static void models(void) {
+    const uint32_t head[3] = {3, 1, 4};
+    const uint16_t masks[TWOLSKEN_STATES] = {0, 1, 1};
+    uint16_t rows[TWOLSKEN_STATES][TWOLSKEN_STATES] = {{2, 1, 1}, {0, 3, 1}, {0, 0, 4}};
+    uint64_t answer = twolsken_write_model(head, masks, rows, file, sizeof file);
+    IS(0, twolsken_writer_refusal(answer));
+    IS(1024, answer);
+    length = (size_t)answer;
+    IS(3, file[1]);
+    IS(1, file[2]);
+    IS(4, file[4]);
+
+    uint32_t head_read[3] = {9, 9, 9};
+    uint16_t masks_read[TWOLSKEN_STATES];
+    uint16_t rows_read[TWOLSKEN_STATES][TWOLSKEN_STATES];
+    IS(TWOLSKEN_REFUSAL_FILE_LENGTH, twolsken_read_model(file, length - 1, head_read, masks_read, rows_read));
+    IS(9, head_read[2]);
+    IS(0, twolsken_read_model(file, length, head_read, masks_read, rows_read));
+    IS(0, memcmp(head, head_read, sizeof head));
+    IS(0, memcmp(masks, masks_read, sizeof masks));
+    IS(0, memcmp(rows, rows_read, sizeof rows));
+
+    uint8_t out[TWOLSKEN_LONGEST_FILE];
+    IS(length, twolsken_write_model(head_read, masks_read, rows_read, out, sizeof out));
+    IS(0, memcmp(file, out, length));
+    answer = twolsken_write_model(head_read, masks_read, rows_read, out, length - 1);
+    IS(TWOLSKEN_REFUSED + 14, answer);
+    IS(TWOLSKEN_REFUSAL_OUTPUT_SHORT, twolsken_writer_refusal(answer));
+    rows_read[2][0] = 1;
+    answer = twolsken_write_model(head_read, masks_read, rows_read, out, sizeof out);
+    IS(TWOLSKEN_REFUSAL_ROW_SUM, twolsken_writer_refusal(answer));
+    masks_read[2] = 2;
+    answer = twolsken_write_model(head_read, masks_read, rows_read, out, sizeof out);
+    IS(TWOLSKEN_REFUSAL_LAYOUT, twolsken_writer_refusal(answer));
+    const uint32_t wide[3] = {259, 1, 4};
+    answer = twolsken_write_model(wide, masks, rows, out, sizeof out);
+    IS(TWOLSKEN_REFUSAL_LAYOUT, twolsken_writer_refusal(answer));
+}
+
+/* The bytes of a text. */
+static const uint8_t *bytes(const char *text) { return (const uint8_t *)text; }
+
+/* Read sentence on every kind of node, then write what was read. */
+static void sentences(void) {
+    const char *text = "AE.&!a1&<+*PXp2#7/8;PU1,20:TT-#0/1;#1/1;&L#0/1;#1/1;&=#0/1;#1/1;&G#0/1;#1/1;>#0/1;#1/1;";
+    const uint32_t tags[12] = {TWOLSKEN_AND,         TWOLSKEN_NOT,     TWOLSKEN_LABEL,   TWOLSKEN_AND,
+                               TWOLSKEN_COMPARE,     TWOLSKEN_SUM,     TWOLSKEN_PRODUCT, TWOLSKEN_PROBABILITY,
+                               TWOLSKEN_NEXT,        TWOLSKEN_LABEL,   TWOLSKEN_CONSTANT, TWOLSKEN_PROBABILITY};
+    uint64_t head[2] = {9, 9};
+    uint8_t exists[TWOLSKEN_LETTERS];
+    uint32_t codes[TWOLSKEN_NODES][3];
+    IS(TWOLSKEN_REFUSAL_GRAMMAR, twolsken_read_sentence(bytes(text), strlen(text) - 1, head, exists, codes));
+    IS(9, head[0]);
+    IS(0, twolsken_read_sentence(bytes(text), strlen(text), head, exists, codes));
+    IS(2, head[0]);
+    IS(0, exists[0]);
+    IS(1, exists[1]);
+    for (size_t i = 0; i < 12; i++) {
+        IS(tags[i], codes[i][0]);
+    }
+    IS(TWOLSKEN_LESS, codes[4][1]);
+    IS(15, codes[9][1]);
+    IS(2, codes[9][2]);
+    IS(7, codes[10][1]);
+    IS(8, codes[10][2]);
+    IS(TWOLSKEN_UNTIL, codes[12][0]);
+    IS(1, codes[12][1]);
+    IS(20, codes[12][2]);
+    IS(TWOLSKEN_TRUE, codes[13][0]);
+    IS(TWOLSKEN_DIFFERENCE, codes[15][0]);
+    const uint32_t relations[4] = {TWOLSKEN_AT_MOST, TWOLSKEN_EQUAL, TWOLSKEN_AT_LEAST, TWOLSKEN_GREATER};
+    const size_t places[4] = {19, 23, 27, 30};
+    for (size_t i = 0; i < 4; i++) {
+        IS(TWOLSKEN_COMPARE, codes[places[i]][0]);
+        IS(relations[i], codes[places[i]][1]);
+    }
+
+    uint8_t out[TWOLSKEN_LONGEST_TEXT];
+    IS(strlen(text), twolsken_write_sentence(head[0], head[1], exists, codes, out, sizeof out));
+    IS(0, memcmp(text, out, strlen(text)));
+    uint64_t answer = twolsken_write_sentence(head[0], head[1], exists, codes, out, strlen(text) - 1);
+    IS(TWOLSKEN_REFUSAL_OUTPUT_SHORT, twolsken_writer_refusal(answer));
+    answer = twolsken_write_sentence(1, head[1], exists, codes, out, sizeof out);
+    IS(TWOLSKEN_REFUSAL_RANGE, twolsken_writer_refusal(answer));
+    answer = twolsken_write_sentence(head[0], head[1] - 1, exists, codes, out, sizeof out);
+    IS(TWOLSKEN_REFUSAL_GRAMMAR, twolsken_writer_refusal(answer));
+}
+
+/* Merge: M2 by 0 1 1 has the rows 2 2 and 0 4. */
+static void merges(void) {
+    const uint8_t grouping[3] = {0, 1, 1}, unlike[3] = {0, 0, 1}, unused[3] = {0, 2, 2};
+    uint8_t out[TWOLSKEN_LONGEST_FILE];
+    IS(1024, twolsken_merge(file, length, grouping, 3, out, sizeof out));
+    uint32_t head[3];
+    uint16_t masks[TWOLSKEN_STATES];
+    uint16_t rows[TWOLSKEN_STATES][TWOLSKEN_STATES];
+    IS(0, twolsken_read_model(out, 1024, head, masks, rows));
+    IS(2, head[0]);
+    IS(2, rows[0][0]);
+    IS(2, rows[0][1]);
+    IS(4, rows[1][1]);
+    IS(TWOLSKEN_REFUSAL_FILE_LENGTH,
+       twolsken_writer_refusal(twolsken_merge(file, length + 1, grouping, 3, out, sizeof out)));
+    IS(TWOLSKEN_REFUSAL_GROUPING,
+       twolsken_writer_refusal(twolsken_merge(file, length, grouping, 2, out, sizeof out)));
+    IS(TWOLSKEN_REFUSAL_GROUPING,
+       twolsken_writer_refusal(twolsken_merge(file, length, unused, 3, out, sizeof out)));
+    IS(TWOLSKEN_REFUSAL_NOT_ALIKE,
+       twolsken_writer_refusal(twolsken_merge(file, length, unlike, 3, out, sizeof out)));
+    IS(TWOLSKEN_REFUSAL_OUTPUT_SHORT,
+       twolsken_writer_refusal(twolsken_merge(file, length, grouping, 3, out, 1023)));
+}
+
+/* Verdict on M2, whose state 0 meets the label within two steps in 12 of 16 runs. */
+static uint32_t judged(const char *text, size_t room) {
+    return twolsken_verdict(file, length, bytes(text), strlen(text), work, room);
+}
+
+static void verdicts(void) {
+    memset(work, 1, sizeof work);
+    IS(TWOLSKEN_REFUSAL_WORK_AREA, judged("A.GPU0,2:Ta1#12/16;", TWOLSKEN_WORK_AREA - 1));
+    IS(UINT64_C(0x0101010101010101), work[0]);
+    uint32_t answer = judged("A.GPU0,2:Ta1#12/16;", TWOLSKEN_WORK_AREA);
+    IS(TWOLSKEN_HOLDS, answer);
+    IS(0, twolsken_verdict_refusal(answer));
+    IS(0, work[0] | work[TWOLSKEN_WORK_AREA - 1]);
+    IS(UINT64_C(0x0101010101010101), work[TWOLSKEN_WORK_AREA]);
+    answer = judged("A.>PU0,2:Ta1#12/16;", TWOLSKEN_WORK_AREA);
+    IS(TWOLSKEN_FAILS, answer);
+    IS(0, twolsken_verdict_refusal(answer));
+    IS(TWOLSKEN_REFUSAL_CHECK, (file[9] = 1, judged("A.T", TWOLSKEN_WORK_AREA)));
+    file[9] = 0;
+    IS(TWOLSKEN_REFUSAL_GRAMMAR, judged("A.", TWOLSKEN_WORK_AREA));
+    IS(TWOLSKEN_REFUSAL_RANGE, judged("A.a2", TWOLSKEN_WORK_AREA));
+    IS(TWOLSKEN_REFUSAL_TOO_MANY_NODES,
+       judged("A.!!!!!!!!!!!!!!!!!!!!!!!!!!!!!!!!!!!!!!!!!!!!!!!!!!!!!!!!!!!!!!!!T", TWOLSKEN_WORK_AREA));
+    IS(TWOLSKEN_REFUSAL_NO_SUCH_LABEL, judged("A.b1", TWOLSKEN_WORK_AREA));
+    answer = judged("A.GPU0,32:Ta1#0/1;", TWOLSKEN_WORK_AREA);
+    IS(TWOLSKEN_REFUSAL_SIZE_RULE, answer);
+    IS(TWOLSKEN_REFUSAL_SIZE_RULE, twolsken_verdict_refusal(answer));
+}
+
+/* Refusal 11 needs a model of 11 states. */
+static void tuples(void) {
+    const uint32_t head[3] = {11, 1, 1};
+    const uint16_t masks[TWOLSKEN_STATES] = {0};
+    uint16_t rows[TWOLSKEN_STATES][TWOLSKEN_STATES] = {{0}};
+    for (size_t s = 0; s < 11; s++) {
+        rows[s][s] = 1;
+    }
+    uint8_t out[TWOLSKEN_LONGEST_FILE];
+    IS(1536, twolsken_write_model(head, masks, rows, out, sizeof out));
+    IS(TWOLSKEN_REFUSAL_TOO_MANY_TUPLES,
+       twolsken_verdict(out, 1536, bytes("AAA.T"), 5, work, TWOLSKEN_WORK_AREA));
+}
+
+/* Numerator of both path formulas, at tuples that differ in each member. */
+static void numerators(void) {
+    const char *text = "AA.=PU0,2:Ta1PXa2";
+    const uint8_t tuple[3] = {0, 1, 3};
+    uint64_t value[2] = {9, 9};
+    size_t size = strlen(text);
+    IS(TWOLSKEN_REFUSAL_TUPLE_OR_PATH,
+       twolsken_numerator(file, length, bytes(text), size, tuple, 2, 2, work, TWOLSKEN_WORK_AREA, value));
+    IS(TWOLSKEN_REFUSAL_TUPLE_OR_PATH,
+       twolsken_numerator(file, length, bytes(text), size, tuple, 3, 0, work, TWOLSKEN_WORK_AREA, value));
+    IS(TWOLSKEN_REFUSAL_TUPLE_OR_PATH,
+       twolsken_numerator(file, length, bytes(text), size, tuple + 1, 2, 0, work, TWOLSKEN_WORK_AREA, value));
+    IS(TWOLSKEN_REFUSAL_WORK_AREA,
+       twolsken_numerator(file, length, bytes(text), size, tuple, 2, 0, work, TWOLSKEN_WORK_AREA - 1, value));
+    IS(9, value[0]);
+    IS(9, value[1]);
+    IS(0, twolsken_numerator(file, length, bytes(text), size, tuple, 2, 0, work, TWOLSKEN_WORK_AREA, value));
+    IS(12 * 16, value[0]);
+    IS(16 * 16, value[1]);
+    IS(0, twolsken_numerator(file, length, bytes(text), size, tuple, 2, 1, work, TWOLSKEN_WORK_AREA, value));
+    IS(4 * 4, value[0]);
+    IS(4 * 4, value[1]);
+    const uint8_t other[2] = {1, 0};
+    IS(0, twolsken_numerator(file, length, bytes(text), size, other, 2, 1, work, TWOLSKEN_WORK_AREA, value));
+    IS(2 * 4, value[0]);
+}
+
+int main(void) {
+    models();
+    sentences();
+    merges();
+    verdicts();
+    tuples();
+    numerators();
+    if (!wrong) {
+        puts("every call answers as the header says");
+    }
+    return wrong;
+}

@@ -1,0 +1,104 @@
+//! The numbers that docs/USING.md tells are those of the library.
+
+use std::fs::{read, read_to_string};
+use twolsken::{numerator, verdict, Fraction, Model, Refusal, Verdict, WORK_AREA};
+use twolsken_host::files::at;
+
+/// The page.
+fn page() -> String {
+    read_to_string(at("docs/USING.md")).expect("the page")
+}
+
+/// What is said of a sentence on a sample.
+fn said(sample: &str, text: &str) -> Result<Verdict, Refusal> {
+    let file = read(at("samples").join(sample).join("model.blk")).expect(sample);
+    verdict(&file, text.as_bytes(), &mut vec![0; WORK_AREA])
+}
+
+/// The numerator of a sentence's first path formula on a sample, over 10,000.
+fn of_10_000(sample: &str, text: &str, state: u8) -> u64 {
+    let file = read(at("samples").join(sample).join("model.blk")).expect(sample);
+    let fraction = numerator(&file, text.as_bytes(), &[state], 0, &mut vec![0; WORK_AREA]);
+    let Fraction { numerator, denominator } = fraction.expect("a fraction");
+    assert_eq!(denominator, 10_000);
+    numerator
+}
+
+#[test]
+fn the_worked_example() {
+    let (twelfth, none) = ("AA.!&&!b1!b2>PU0,4:Tb1+PU0,4:Tb2#1/12;", "AA.!&&!b1!b2>PU0,4:Tb1+PU0,4:Tb2#0/1;");
+    let opens = "A.!&!b1<PU0,4:Ta1#99/100;";
+    assert!(page().contains(twelfth) && page().contains(opens));
+    assert_eq!(said("counter-fails", twelfth), Ok(Verdict::Fails));
+    assert_eq!(said("counter-mended", twelfth), Ok(Verdict::Holds));
+    assert_eq!(said("counter-mended", none), Ok(Verdict::Holds));
+    assert_eq!(said("counter-fails", opens), Ok(Verdict::Fails));
+    assert_eq!(said("counter-mended", opens), Ok(Verdict::Holds));
+    assert_eq!(of_10_000("counter-fails", opens, 2), 9_000);
+    assert_eq!((0..5).map(|state| of_10_000("counter-mended", opens, state)).min(), Some(9_984));
+    assert_eq!(of_10_000("counter-mended", opens, 3), 9_984);
+}
+
+/// The rows of a table of the page, by the row that heads it.
+fn rows(head: &str) -> Vec<Vec<String>> {
+    let page = page();
+    let after = page.split(head).nth(1).unwrap_or_else(|| panic!("no table under {head}"));
+    let rows = after.lines().skip(2).take_while(|line| line.starts_with('|'));
+    let cells = |row: &str| row.trim_matches('|').split('|').map(|cell| cell.trim().to_string()).collect();
+    rows.map(cells).collect()
+}
+
+/// What is said of a comparison, with D and so many letters, on a model of one state.
+fn refused(d: u32, letters: usize, body: &str) -> Option<Refusal> {
+    let mut model = Model { n: 1, a: 1, d, ..Model::empty() };
+    model.weights[0][0] = d as u16;
+    let text = format!("{}.{body}", "A".repeat(letters));
+    verdict(&model.to_file().expect("a model"), text.as_bytes(), &mut vec![0; WORK_AREA]).err()
+}
+
+#[test]
+fn the_longest_windows() {
+    let rows = rows("| D | 1 letter | 2 letters | 3 letters | 4 letters |");
+    assert_eq!(rows.len(), 6);
+    for row in rows {
+        let d: u32 = row[0].replace(',', "").parse().expect("a D");
+        for (letters, cell) in row.iter().enumerate().skip(1) {
+            let longest: Vec<u32> =
+                cell.split(", ").map(|number| number.parse().expect("a window")).collect();
+            let bodies: [fn(u32) -> String; 2] =
+                [|k| format!("=PU0,{k}:Ta1#1/1;"), |k| format!("=PU0,{k}:Ta1PU0,{k}:Ta1")];
+            for (body, &k) in bodies.iter().zip(&longest) {
+                let beyond = if k == 60 { Refusal::Range } else { Refusal::SizeRule };
+                assert_eq!(refused(d, letters, &body(k)), None, "D = {d}, {letters} letters, {k}");
+                assert_eq!(
+                    refused(d, letters, &body(k + 1)),
+                    Some(beyond),
+                    "D = {d}, {letters} letters, {k}"
+                );
+            }
+        }
+    }
+}
+
+#[test]
+fn every_refusal_has_its_row() {
+    let rows = rows("| No. | Given because | What to do |");
+    let numbers: Vec<String> = rows.iter().map(|row| row[0].clone()).collect();
+    let all: Vec<String> = Refusal::ALL.iter().map(|refusal| refusal.number().to_string()).collect();
+    assert_eq!(numbers, all);
+    assert!(rows.iter().all(|row| row.len() == 3 && row.iter().all(|cell| !cell.is_empty())));
+}
+
+#[test]
+fn the_bytes_of_m1() {
+    let file = read(at("samples/m1/model.blk")).expect("M1");
+    let mut shown = vec![0; 1_024];
+    for row in rows("| Byte | Holds | Says |") {
+        let first: usize =
+            row[0].split([' ', ';']).next().expect("a place").replace(",", "").parse().expect("a place");
+        let bytes =
+            row[1].trim_matches('`').split(' ').map(|byte| u8::from_str_radix(byte, 16).expect("a byte"));
+        bytes.enumerate().for_each(|(place, byte)| shown[first + place] = byte);
+    }
+    assert_eq!(shown, file);
+}

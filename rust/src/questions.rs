@@ -1,0 +1,136 @@
+//! Verdict and numerator.
+
+use crate::{raw, Refusal};
+use std::fmt::{self, Display, Formatter};
+
+/// What a sentence is judged to be.
+#[derive(Clone, Copy, Debug, PartialEq, Eq, Hash)]
+pub enum Verdict {
+    /// The sentence holds on the model.
+    Holds,
+    /// The sentence fails on the model.
+    Fails,
+}
+
+impl Display for Verdict {
+    fn fmt(&self, f: &mut Formatter<'_>) -> fmt::Result {
+        f.write_str(match self {
+            Verdict::Holds => "holds",
+            Verdict::Fails => "fails",
+        })
+    }
+}
+
+/// A probability as the call gives it, not in lowest terms. Fractions are equal if both numbers are: 1/4 and
+/// 4/16 differ.
+#[derive(Clone, Copy, Debug, PartialEq, Eq, Hash)]
+pub struct Fraction {
+    /// The total weight of the runs that the path formula takes.
+    pub numerator: u64,
+    /// The total weight of all runs.
+    pub denominator: u64,
+}
+
+impl Display for Fraction {
+    fn fmt(&self, f: &mut Formatter<'_>) -> fmt::Result {
+        write!(f, "{}/{}", self.numerator, self.denominator)
+    }
+}
+
+/// Judges a sentence, given by its text, on a model, given by its file. `work` has at least
+/// [`crate::WORK_AREA`] numbers, with any contents: after an answer that many are zero and those past them
+/// unchanged.
+///
+/// # Errors
+/// 1, `work` is too short; 2 to 5 as [`crate::read_model`]; 6 to 8 as [`crate::read_sentence`]; 9, a label that
+/// the model does not have; 10, the size rule; 11, over 1,024 tuples.
+///
+/// ```
+/// use twolsken::{verdict, Refusal, Table, Verdict, WORK_AREA};
+///
+/// let table: Table = "
+///     D 4
+///     labels a
+///     state s0:     s0 3, s1 1
+///     state s1 (a): s1 4
+/// "
+/// .parse()?;
+/// let file = table.model.to_file()?;
+/// let mut work = vec![0; WORK_AREA];
+/// assert_eq!(verdict(&file, b"AE.=PXa1PXa2", &mut work)?, Verdict::Holds);
+/// assert_eq!(verdict(&file, b"AA.=PXa1PXa2", &mut work)?, Verdict::Fails);
+/// assert_eq!(verdict(&file, b"A.b1", &mut work), Err(Refusal::NoSuchLabel));
+/// # Ok::<(), Box<dyn std::error::Error>>(())
+/// ```
+pub fn verdict(file: &[u8], text: &[u8], work: &mut [u64]) -> Result<Verdict, Refusal> {
+    // SAFETY: each slice goes with its own length.
+    let answer = unsafe {
+        raw::twolsken_verdict(
+            file.as_ptr(),
+            file.len(),
+            text.as_ptr(),
+            text.len(),
+            work.as_mut_ptr(),
+            work.len(),
+        )
+    };
+    match answer {
+        raw::HOLDS => Ok(Verdict::Holds),
+        raw::FAILS => Ok(Verdict::Fails),
+        number => Err(Refusal::of(number)),
+    }
+}
+
+/// Returns the numerator and the denominator of a path formula at a tuple of states. `tuple` has one state for
+/// each letter of the prefix; `path` counts the path formulas from 0 in written order; `work` is as in
+/// [`verdict`].
+///
+/// # Errors
+/// 1 to 11 as [`verdict`]; 15, a tuple of another length, a member that is no state, no such path formula.
+///
+/// ```
+/// use twolsken::{numerator, Refusal, Table, WORK_AREA};
+///
+/// let table: Table = "
+///     D 4
+///     labels a
+///     state s0:     s0 3, s1 1
+///     state s1 (a): s1 4
+/// "
+/// .parse()?;
+/// let file = table.model.to_file()?;
+/// let mut work = vec![0; WORK_AREA];
+///
+/// // The chance of meeting `a` within two steps: 7 of the 16 runs from state 0.
+/// let text = b"A.GPU0,2:Ta1#1/2;";
+/// assert_eq!(numerator(&file, text, &[0], 0, &mut work)?.to_string(), "7/16");
+/// assert_eq!(numerator(&file, text, &[1], 0, &mut work)?.to_string(), "16/16");
+/// assert_eq!(numerator(&file, text, &[2], 0, &mut work), Err(Refusal::TupleOrPath));
+/// # Ok::<(), Box<dyn std::error::Error>>(())
+/// ```
+pub fn numerator(
+    file: &[u8],
+    text: &[u8],
+    tuple: &[u8],
+    path: usize,
+    work: &mut [u64],
+) -> Result<Fraction, Refusal> {
+    let mut value = [0; 2];
+    // SAFETY: each slice goes with its own length, and the array has the length that the function writes.
+    Refusal::unless_zero(unsafe {
+        raw::twolsken_numerator(
+            file.as_ptr(),
+            file.len(),
+            text.as_ptr(),
+            text.len(),
+            tuple.as_ptr(),
+            tuple.len(),
+            path,
+            work.as_mut_ptr(),
+            work.len(),
+            &mut value,
+        )
+    })?;
+    let [numerator, denominator] = value;
+    Ok(Fraction { numerator, denominator })
+}
