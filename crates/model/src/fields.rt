@@ -21,7 +21,7 @@ fn two_at(file: &[u8], block: usize, j: usize) -> u16
 }
 
 // A number of two bytes as a wider one.
-pub fn wide16(x: u16) -> u32
+pub(crate) fn wide16(x: u16) -> u32
     ensures { λ r. ⌜ (r ≡ x) × (r < 65536) ⌝ }
 {
     x as u32
@@ -66,7 +66,7 @@ fn weights_at(file: &[u8]) -> [[u16; 32]; 32]
 }
 
 // All the fields of a file.
-pub fn fields_of(file: &[u8]) -> Model
+pub(crate) fn fields_of(file: &[u8]) -> Model
     ensures { λ r. ⌜ r ≡ fieldsOf (now (file .entry)) ⌝ }
 {
     let masks = numbers_at(file, 0, 8);

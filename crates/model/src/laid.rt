@@ -80,7 +80,7 @@ fn blocks_laid(file: &[u8], count: usize) -> bool
 }
 
 // Whether row 4 does not apply to a file with the fields m.
-pub fn laid_out(file: &[u8], m: Model) -> bool
+pub(crate) fn laid_out(file: &[u8], m: Model) -> bool
     requires { ⌜ m ≡ fieldsOf (now file) ⌝ }
     ensures { λ r. ⌜ r ≡ laidOut (now (file .entry)) m ⌝ }
 {

@@ -37,7 +37,7 @@ fn read_all(fd: i32, buf: &mut [u8]) -> Contents
 
 // Reads the named file of the current folder; a missing file is empty. Where it cannot be read, the reason goes to standard
 // error.
-pub fn read_file(name: &[u8], buf: &mut [u8]) -> Contents
+pub(crate) fn read_file(name: &[u8], buf: &mut [u8]) -> Contents
     ensures { λ r. ⌜ AtFront r (now (buf .exit)) ⌝ }
 {
     let fd = os::open_read(name);
