@@ -1,2 +1,3 @@
 -- Laws of blocks that belong to no one function.
 pub mod Laws
+pub mod Backwards

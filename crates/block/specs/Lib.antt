@@ -1,2 +1,3 @@
 -- The blocks of a model file.
 pub mod Block
+pub mod Working

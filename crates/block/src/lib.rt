@@ -1,8 +1,9 @@
 // The blocks of a model file: bytes, numbers of two bytes, and the block's check.
 ghost use mathlib.Core.Path.{_≡_};
-ghost use Prim.Native.Nat.{_+_, _*_, _%_, _<_, _≤_};
-ghost use lib.ListN.{getD, length};
+ghost use Prim.Native.Nat.{_+_, _*_, _^_, _<_};
+ghost use lib.ListN.{getD, drop};
 ghost use Rattle.block.specs.Block.{byteOf, two, checkOf, checkRight, checksRight};
+ghost use Rattle.block.specs.Working.{Grown};
 ghost use Rattle.counting.specs.Below.{sumBelow};
 
 // The bytes of a block.
@@ -31,35 +32,41 @@ pub fn byte_at(file: &[u8], at: usize) -> u8
     if at < file.len() { file[at] } else { 0 }
 }
 
-// Byte j of a block of the file: the byte of the slice at the offset 512 × block + j, and 0 past the file's end. The
-// covered function that the block reader is thin over.
-fn byte_in(file: &[u8], block: usize, j: usize) -> u8
-    ensures { λ r. ⌜ r ≡ byteOf (now (file .entry)) block j ⌝ }
+// The file from the start of a block on, and nothing where the file ends before it.
+fn from_block<'a>(file: &'a [u8], block: usize) -> &'a [u8]
+    ensures { λ r. ⌜ now r ≡ drop (512 * block) (now (file .entry)) ⌝ }
 {
     let length = file.len();
     if length / BLOCK < block {
-        return 0;
+        return &file[length..];
     }
     let at = BLOCK * block;
-    if j < length - at { file[at + j] } else { 0 }
+    &file[at..]
+}
+
+// Byte j of a block of the file, and 0 past the file's end. The covered function that the block reader is thin over.
+fn byte_in(file: &[u8], block: usize, j: usize) -> u8
+    ensures { λ r. ⌜ r ≡ byteOf (now (file .entry)) block j ⌝ }
+{
+    byte_at(from_block(file, block), j)
 }
 
 // A block reader shows one block of the lent file at a time: it holds the file and the number of that block. The borrow
 // checker does not cover a struct that holds a reference, so the three functions over it are proved by a walk of their code.
-pub struct Reader<'a> {
+struct Reader<'a> {
     pub file: &'a [u8],
     pub block: usize,
 }
 
 // A block reader of the lent file that shows this block.
-pub fn reader_at<'a>(file: &'a [u8], block: usize) -> Reader<'a>
+fn reader_at<'a>(file: &'a [u8], block: usize) -> Reader<'a>
     ensures { λ r. ⌜ (r .file ≡ file .entry) × (r .block ≡ block) ⌝ }
 {
     Reader { file, block }
 }
 
 // Byte j of the one block that a block reader shows.
-pub fn shown<'a>(r: Reader<'a>, j: usize) -> u8
+fn shown<'a>(r: Reader<'a>, j: usize) -> u8
     ensures { λ b. ⌜ b ≡ byteOf (now (r .entry .file)) (r .entry .block) j ⌝ }
 {
     byte_in(r.file, r.block, j)
@@ -80,36 +87,48 @@ pub fn two_of(low: u8, high: u8) -> u16
     (wide(low) + 256 * wide(high)) as u16
 }
 
-// One term of the check's sum: (i + 1) × byte i.
-fn term(i: usize, b: u8) -> u32
-    requires { ⌜ i < 510 ⌝ }
-    ensures { λ r. ⌜ (r ≡ (i + 1) * b) × (r ≤ 130050) ⌝ }
-{
-    (i as u32 + 1) * wide(b)
+// The running totals of the check, taken from the back: that of the bytes seen so far, and that of those totals.
+pub struct Totals {
+    pub plain: u32,
+    pub weighed: u32,
 }
 
-// The sum of the check over a block of the file.
-fn weighed(file: &[u8], block: usize) -> u32
-    ensures { λ r. ⌜ r ≡ sumBelow 510 (λ i. (i + 1) * byteOf (now (file .entry)) block i) ⌝ }
+// The totals with one byte more: the first grows by the byte, the second by the first.
+fn grown(t: Totals, b: u8) -> Totals
+    requires { ⌜ (t .plain + 255 < 2 ^ 32) × (t .weighed + (t .plain + 255) < 2 ^ 32) ⌝ }
+    ensures { λ r. ⌜ Grown t b r ⌝ }
 {
-    let mut total: u32 = 0;
-    let mut i: usize = 0;
-    while i < CHECKED {
-        total += term(i, block_byte(file, block, i));
-        i += 1;
+    let plain = t.plain + wide(b);
+    let weighed = t.weighed + plain;
+    Totals { plain, weighed }
+}
+
+// The sum of the check over the bytes of a block, from the last to the first and without a product. At most 510 bytes are added, so
+// neither total comes near 2^32, and the remainder is taken once, of the result.
+fn weighed(bytes: &[u8]) -> u32
+    ensures { λ r. ⌜ r ≡ sumBelow 510 (λ i. (i + 1) * getD (now (bytes .entry)) i 0) ⌝ }
+{
+    let mut totals = Totals {
+        plain: 0,
+        weighed: 0,
+    };
+    let mut i: usize = CHECKED;
+    while 0 < i {
+        i -= 1;
+        totals = grown(totals, byte_at(bytes, i));
     }
-    total
+    totals.weighed
 }
 
-// The check of a block of the file.
+// The check of a block of the file. The block's part of the file is taken once.
 pub fn check_of(file: &[u8], block: usize) -> u32
     ensures { λ r. ⌜ r ≡ checkOf (byteOf (now (file .entry)) block) ⌝ }
 {
-    weighed(file, block) % MODULUS
+    weighed(from_block(file, block)) % MODULUS
 }
 
 // Whether bytes 510 and 511 of a block hold its check.
-pub fn check_right(file: &[u8], block: usize) -> bool
+fn check_right(file: &[u8], block: usize) -> bool
     ensures { λ r. ⌜ r ≡ checkRight (byteOf (now (file .entry)) block) ⌝ }
 {
     let check = check_of(file, block);

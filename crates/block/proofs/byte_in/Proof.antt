@@ -1,21 +1,14 @@
--- `block::byte_in` meets its contract: the byte at 512 times the number plus the offset; past the end `getD` has its default.
+-- `block::byte_in` meets its contract: byte j of the file from the block on is byte j of the block.
 use borrow.Author.Needs.{needs}
-use native.Mathlib.Omega.{arith}
-use lib.ListN.{List·getD-eq-default}
-use mathlib.Core.Path.{refl, sym}
+use mathlib.Core.Path.{_∙_}
+use Rattle.block.proofs.Laws.{part-byte}
 use Rattle.block.proofs.byte_in.Statement.{statement}
 use Rattle.block.proofs.byte_in.Tie as tie
 
 returns : tie.Need-returns
-returns c = sym (List·getD-eq-default (c .before .args .file .now) 0 (omega arith))
-
-returns-2 : tie.Need-returns-2
-returns-2 c = refl
-
-returns-3 : tie.Need-returns-3
-returns-3 c = sym (List·getD-eq-default (c .before .before .args .file .now) 0 (omega arith))
+returns c =
+    let a = c .before .before .before .args in
+    c .byte-at .ensures ∙ part-byte (a .file .now) (a .block) (a .j) (c .before .from-block .ensures)
 
 pub byte-in-spec : {M : Type 1} → statement M
-byte-in-spec =
-    tie.close
-    (tie.spec returns (λ c. search needs) (λ c. search needs) (λ c. search needs) (λ c. search needs) returns-2 returns-3)
+byte-in-spec = tie.close (tie.spec (λ c κs. search needs) (λ c κs. search needs) returns)
