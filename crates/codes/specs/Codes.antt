@@ -20,7 +20,8 @@ use Rattle.sentence.specs.declared.Sentence.{Sentence}
 
 -- ---- a call that returns the code of an answer
 
--- what an exported call ensures that returns the code of an answer: what the library's call ensures of that answer and what it leaves
+-- what an exported call that returns the code of an answer ensures: what the library's call ensures of that answer and of what it
+-- leaves
 pub record Coded {A : Type 0} (code : A → ℕ) (Ensures : A → List ℕ → Type 0) (after : List ℕ) (r : ℕ) : Type 0 where
   pub answer : A
   pub ensures : Ensures answer after

@@ -1,3 +1,4 @@
--- Sums, tests and tables over the numbers below n; texts as bytes.
+-- Sums, tests and tables over the numbers below n; entries of tables and bits; texts as bytes.
 pub mod Below
+pub mod Entries
 pub mod Ascii

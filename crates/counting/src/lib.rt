@@ -1,2 +1,2 @@
-// Sums, tests and tables over the numbers below n: the definitions of specs/Below that the layers above are written
-// in, and the laws about them that their proofs cite.
+// Sums, tests and tables over the numbers below n (specs/Below), entries and bits (specs/Entries), texts as bytes (specs/Ascii): the
+// definitions that the layers above are written in, and the laws about them that their proofs cite.

@@ -48,8 +48,8 @@ pub record Ends {A L : Type 0} (R : ℕ → Type 0) (before : L) (reply : Reply 
   -- A refusal leaves all lent memory unchanged.
   pub unchanged : (n : ℕ) → reply ≡ refuses n → after ≡ before
 
--- Every model file, sentence and grouping of any length ends so, in each of the seven calls. A reader is lent nothing: what it
--- returns beside a refusal is an empty record.
+-- Every model file, sentence and grouping of any length ends so, in each of the seven calls. A reader of the library is lent
+-- nothing: what it returns beside a refusal is an empty record; the exported readers' contracts say the same of what they are lent.
 pub record Demand1 : Type 0 where
   pub read-model : {file : List ℕ} {r : ModelRead} → ReadModelEnsures file r →
       Ends (λ n. Applies n (fileRows file)) emptyModel (replyOf (r .outcome)) (r .model)

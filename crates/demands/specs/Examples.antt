@@ -1,4 +1,4 @@
--- Document 01, 'Examples on both sides': what a starred line claims, of every kind. The table of the lines is specs/Examples of the crate
+-- Document 01, 'Examples on both sides': all that a starred line claims. The table of the lines is specs/Examples of the crate
 -- `meaning`. A line's numbers and verdicts are claims on the definitions of `meaning`, its text is that of the tree, what it says of
 -- merging holds of files (`merge`), and the chain that it speaks of is that of the model's file.
 use Prim.Native.String.{String}
@@ -17,7 +17,7 @@ use Rattle.question.specs.Contract.{SentenceOf}
 use Rattle.chain.specs.Of.{chainOf}
 use Rattle.merge.specs.Examples.{modelOfSketch, MergeMet}
 
--- the text is that of the nodes, and these are one thing of the kind
+-- the nodes are one formula, expression or path of this kind, and the text is theirs
 pub record TextOf (kind : Kind) (nodes : List Node) (text : String) : Type 0 where
   pub nests : Nests (kind ∷ []) nodes
   pub spelled : ascii text ≡ bodyText nodes

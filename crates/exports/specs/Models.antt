@@ -1,5 +1,5 @@
--- Read model, write model and merge as other languages see them: the contracts of the three calls. An exported reader leaves the
--- numbers of a record in the memory that is lent to it where no row applies, and on a refusal what the memory held.
+-- Read model, write model and merge as other languages see them: the contracts of the three calls. An exported reader
+-- that reads fills the memory that it is lent with the numbers of a record; one that refuses leaves it unchanged.
 use Prim.Native.Nat.{ℕ}
 use mathlib.Core.List.{List, [], _∷_}
 use mathlib.Core.Path.{_≡_}

@@ -25,9 +25,8 @@ abbrev pub valuesLeft : Reply (ℕ × ℕ) → List ℕ → List ℕ
 valuesLeft (gives values) before = values .0 ∷ values .1 ∷ []
 valuesLeft (refuses number) before = before
 
--- numerator, exported: what numerator ensures of the file, the text, the tuple, the path formula's number and the work area
--- before and after, of its answer's number, which is 0 where it is no refusal; and the two numbers that are lent for the
--- values, before and after
+-- numerator, exported: it returns 0 or the refusal's number, and ensures what numerator ensures. `value` and `value′` are the two
+-- numbers lent for the numerator and the denominator, before and after
 pub record ExportedNumerator (file text tuple : List ℕ) (path : ℕ) (before value after value′ : List ℕ) (r : ℕ) : Type 0 where
   pub counted : Counted.Answer
   pub answer : NumeratorEnsures file text tuple path before counted after

@@ -2,10 +2,11 @@
 --
 -- What a layer is over: the matrix of a chain, and how many states and tuples there are. And the layer of a label.
 use Prim.Native.Nat.{ℕ, _^_, _≤_, _<_}
-use mathlib.Core.List.{List, []}
+use mathlib.Core.List.{List}
 use mathlib.Core.Path.{_≡_}
 use lib.Dec.{eqb}
-use lib.ListN.{length, getD}
+use lib.ListN.{length}
+use Rattle.counting.specs.Entries.{cell}
 use Rattle.meaning.specs.Chain.{Chain, Sound}
 use Rattle.meaning.specs.Meaning.{hasLabel}
 use Rattle.layers.specs.Layers.{Layer, truth, bitAt}
@@ -22,14 +23,10 @@ mostVariables = 4
 abbrev pub mostTuples : ℕ
 mostTuples = 1024
 
--- the weight from state s to state t: of a model's rows what `weightOf` of the crate `model` says
-abbrev pub weightIn : List (List ℕ) → (s t : ℕ) → ℕ
-weightIn rows s t = getD (getD rows s []) t 0
-
 -- the matrix holds the weights of the chain, whose states are N
 pub record Holds (c : Chain) (rows : List (List ℕ)) (N : ℕ) : Type 0 where
   pub states : c .N ≡ N
-  pub weights : (s t : ℕ) → s < N → t < N → weightIn rows s t ≡ c .weight s t
+  pub weights : (s t : ℕ) → s < N → t < N → cell rows s t ≡ c .weight s t
   pub sound : Sound c
 
 -- N is 1..32, and the T = N^n tuples are at most 1,024

@@ -8,6 +8,7 @@ use mathlib.Core.List.{List}
 use mathlib.Core.Path.{_≡_}
 use lib.Dec.{eqb}
 use lib.ListN.{length, getD, drop}
+use Rattle.counting.specs.Entries.{bitOf}
 use Rattle.meaning.specs.Chain.{Tuple}
 use Rattle.meaning.proofs.Numbers.{tupleOf}
 
@@ -53,4 +54,4 @@ bothAt T w k = cond (eqb (getD w (T + k) 0) 0) 0 (getD w k 0)
 
 -- bit l of the mask of state s, as a number; `bit` of the crate `chain` is the test whether it is 1
 abbrev pub bitAt : List ℕ → (l s : ℕ) → ℕ
-bitAt masks l s = getD masks s 0 / 2 ^ l % 2
+bitAt masks l s = bitOf l (getD masks s 0)

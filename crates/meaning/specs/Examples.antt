@@ -1,13 +1,14 @@
 -- Document 01, 'Examples on both sides': M1, M2 and the lines marked *, in one table. What a line claims of the definitions of this
 -- crate is `met`; what it claims of files and of texts stands in specs/Examples of `merge` and of `demands`, which has the one
 -- statement over the whole table.
-use Prim.Native.Nat.{ℕ, _/_, _%_, _^_}
+use Prim.Native.Nat.{ℕ}
 use Prim.Native.String.{String}
 use mathlib.Core.Bool.{Bool, true, false, _&&_, Bool·beq}
 use mathlib.Core.List.{List, [], _∷_}
 use lib.Dec.{eqb}
 use lib.IntN.{pos, _-ℤ_}
 use lib.ListN.{getD, length}
+use Rattle.counting.specs.Entries.{cell, bitOf}
 use Rattle.meaning.specs.Lists.{below, every}
 use Rattle.meaning.specs.Chain.{Chain, Tuple}
 use Rattle.meaning.specs.Tree.{atMost, equal}
@@ -43,8 +44,8 @@ sketched m =
     record {
       N = length (m .rows);
       D = m .D;
-      weight = λ s t. getD (getD (m .rows) s []) t 0;
-      label = λ l s. eqb (getD (m .masks) s 0 / 2 ^ l % 2) 1;
+      weight = cell (m .rows);
+      label = λ l s. eqb (bitOf l (getD (m .masks) s 0)) 1;
     }
 
 -- two chains are the same: N, D, the weights between states, and which states have label 0, the one that there is

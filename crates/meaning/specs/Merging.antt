@@ -30,7 +30,7 @@ pub record Merged (c : Chain) (group : ℕ → ℕ) (m : Chain) : Type 0 where
   pub labels : (s : ℕ) → s < c .N → (l : ℕ) → m .label l (group s) ≡ c .label l s
   pub weights : (s : ℕ) → s < c .N → (h : ℕ) → h < m .N → m .weight (group s) h ≡ weightInto c group s h
 
--- a member of the group g: the first state, from 0 on, that has it (0 where none has)
+-- a member of the group g: the first state of the list that has it, 0 where none has
 unfoldable pub member : (ℕ → ℕ) → ℕ → List ℕ → ℕ
 member group g [] = 0
 member group g (s ∷ ss) = cond (eqb (group s) g) s (member group g ss)

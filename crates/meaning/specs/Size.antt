@@ -46,7 +46,7 @@ largeCross x y = tooLarge (x .m * y .d) || tooLarge (y .m * x .d)
 
 -- some d, some m, or some comparison's m1 × d2 or m2 × d1 is above 2^62
 unfoldable mutual
-  -- in a state formula; of the body: exactly then refusal 10 is given
+  -- in a state formula; refusal 10 is given exactly if it is so in the body
   pub exceeds : Formula → (D n : ℕ) → Bool
   exceeds always D n = false
   exceeds (labelled l i) D n = false

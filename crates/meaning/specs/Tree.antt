@@ -40,7 +40,7 @@ letterOf false = forAll
 
 -- the path formulas in written order: a path stands before those within it
 unfoldable mutual
-  -- those of a state formula; of the body: all, numbered from 0
+  -- those of a state formula; the body's are all, numbered from 0
   pub pathsOf : Formula → List PathFormula
   pathsOf always = []
   pathsOf (labelled l i) = []

@@ -12,7 +12,7 @@ use Rattle.model.specs.Layout.{fieldsOf, fileOf}
 use Rattle.model.specs.Contract.{fileRows}
 use Rattle.merge.specs.Groups.{groupingRight, groupsAlike, mergedModel}
 
--- the rows of a model that stands in an accepted file: 12, 13, and 14 for an output of `room` bytes
+-- the rows 12, 13 and 14, for the model of an accepted file, a grouping and an output of `room` bytes
 abbrev pub groupRows : Model → List ℕ → ℕ → List Row
 groupRows m grouping room =
     record { number = 12; applies = not (groupingRight (m .n) grouping) } ∷

@@ -4,6 +4,7 @@ use mathlib.Core.List.{[]}
 use mathlib.Core.Path.{_≡_}
 use lib.ListN.{getD, length}
 use Rattle.counting.specs.Below.{table}
+use Rattle.counting.specs.Entries.{cell}
 use Rattle.model.specs.declared.Model.{Model}
 use Rattle.model.specs.Layout.{modelOf, fileOf}
 use Rattle.meaning.specs.Examples.{Sketch, Line, fraction, worth, answer, merges, refuses}
@@ -13,7 +14,7 @@ use Rattle.merge.specs.Contract.{mergeNumber, mergedFile}
 unfoldable pub modelOfSketch : Sketch → Model
 modelOfSketch m =
     modelOf (length (m .rows)) 1 (m .D) (table 32 (λ s. getD (m .masks) s 0))
-    (table 32 (λ s. table 32 (λ t. getD (getD (m .rows) s []) t 0)))
+    (table 32 (λ s. table 32 (cell (m .rows) s)))
 
 -- what a line claims of merging a model's file, for an output of 3,072 bytes; a line on something else claims nothing of it
 unfoldable pub MergeMet : Line → Type 0

@@ -43,7 +43,7 @@ emptyModel = record {
 pub record ReadModelEnsures (file : List ℕ) (r : ModelRead) : Type 0 where
   pub ensured : Ensured (λ n. Applies n (fileRows file)) (λ done m. m ≡ fieldsOf file) emptyModel (replyOf (r .outcome)) (r .model)
 
--- ---- the rows of the record that write model takes, for an output of `room` bytes
+-- ---- the rows of write model, for a record and an output of `room` bytes
 
 -- the rows 4, 5 and 14 of a record
 abbrev pub recordRows : Model → ℕ → List Row

@@ -7,6 +7,7 @@ use mathlib.Core.Path.{_≡_}
 use lib.Dec.{ltb}
 use lib.ListN.{length, getD}
 use Rattle.counting.specs.Below.{table}
+use Rattle.counting.specs.Entries.{cell}
 use Rattle.block.specs.Block.{byteOf, lowByte, highByte, two, four, checkOf}
 use Rattle.model.specs.declared.Model.{Model}
 
@@ -18,7 +19,7 @@ maskOf m s = getD (m .masks) s 0
 
 -- the weight from state s to state t, likewise
 abbrev pub weightOf : Model → ℕ → ℕ → ℕ
-weightOf m s t = getD (getD (m .weights .rows) s []) t 0
+weightOf m = cell (m .weights .rows)
 
 -- a record as its type has it: 32 masks, 32 rows of 32 weights, each a number of two bytes
 pub record Shaped (m : Model) : Type 0 where
@@ -38,13 +39,15 @@ modelOf n a d masks rows = record { n = n; a = a; d = d; masks = masks; weights 
 abbrev pub masksFrom : ℕ
 masksFrom = 8
 
--- the rows of weights stand in the blocks from 1 on, so many states a block, from this byte on, so many bytes a state
+-- a block from 1 on holds the rows of this many states
 abbrev pub statesPerBlock : ℕ
 statesPerBlock = 7
 
+-- the rows start at this byte of their block
 abbrev pub rowsFrom : ℕ
 rowsFrom = 2
 
+-- a row has this many bytes
 abbrev pub rowBytes : ℕ
 rowBytes = 64
 

@@ -1,5 +1,5 @@
 -- Document 01, 'The model file': what the layout asks of the fields of a model, and of a file. A row here is a state's row of
--- weights. proofs/Words says the same of a file byte by byte, in the document's own words.
+-- weights. specs/Words says the same of a file byte by byte, in the document's own words (proofs/Words proves it).
 use Prim.Native.Nat.{ℕ, _^_, _%_}
 use mathlib.Core.Bool.{Bool, _&&_, _||_}
 use mathlib.Core.List.{List}
@@ -20,11 +20,11 @@ numbersRight m = within 1 32 (m .n) && within 1 16 (m .a) && within 1 65535 (m .
 
 -- a state's mask has its bits A and up zero; from N on it is zero
 abbrev pub maskRight : Model → ℕ → Bool
-maskRight m s = ltb s (m .n) && ltb (maskOf m s) (2 ^ m .a) || eqb (maskOf m s) 0
+maskRight m s = (ltb s (m .n) && ltb (maskOf m s) (2 ^ m .a)) || eqb (maskOf m s) 0
 
 -- columns and rows from N on are zero
 abbrev pub weightRight : Model → ℕ → ℕ → Bool
-weightRight m s t = ltb s (m .n) && ltb t (m .n) || eqb (weightOf m s t) 0
+weightRight m s t = (ltb s (m .n) && ltb t (m .n)) || eqb (weightOf m s t) 0
 
 -- N, A and D, every mask and every weight are right
 unfoldable pub fieldsRight : Model → Bool

@@ -1,4 +1,4 @@
--- Document 01, 'The model file', byte by byte in its own words: what row 4 asks of a file. `laidOut` of Rules says the same by
+-- Document 01, 'The model file', byte by byte in its own words: what refusal 4 asks of a file. `laidOut` of Rules says the same by
 -- comparing the file with the one that its fields make; that it does is proved (proofs/Words).
 use Prim.Native.Nat.{ℕ, _+_, _-_, _*_, _/_, _^_, _≤_, _<_}
 use mathlib.Core.List.{List}

@@ -8,6 +8,9 @@ ghost use lib.ListN.{length, getD};
 ghost use Rattle.numerals.specs.Numeral.{numberText};
 ghost use Rattle.numerals.specs.Working.{Closing, NumberResult, NumbersResult, NoDigit, Put, numbersText};
 
+// A number of at most five digits is below this.
+pub const BEYOND: u32 = 100000;
+
 // A number that was read, and the place past the byte after it.
 pub struct NumberRead {
     pub ok: bool,

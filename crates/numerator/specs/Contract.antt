@@ -23,28 +23,28 @@ numeratorReply (Refused number) = refuses number
 
 -- the path formula with a number, counted from 0 in written order (where there is none, row 15 applies)
 unfoldable pub numbered : Formula → ℕ → PathFormula
-numbered f number = getD (pathsOf f) number (next always)
+numbered f path = getD (pathsOf f) path (next always)
 
 -- the rows: those of the question, and row 15, where the tuple's length is not n, a member is not below N, or there is no such
 -- path formula
-pub data NumeratorRow (file text tuple : List ℕ) (number room : ℕ) : ℕ → Type 0 where
-  question : {n : ℕ} → QuestionRow file text room n → NumeratorRow file text tuple number room n
+pub data NumeratorRow (file text tuple : List ℕ) (path room : ℕ) : ℕ → Type 0 where
+  question : {n : ℕ} → QuestionRow file text room n → NumeratorRow file text tuple path room n
   long : {ps : List Bool} (f : Formula) → Spells ps (formulaNodes f) text → (length tuple ≡ length ps → ⊥) →
-      NumeratorRow file text tuple number room 15
-  member : membersBelow (fieldsOf file .n) tuple ≡ false → NumeratorRow file text tuple number room 15
-  missing : {ps : List Bool} (f : Formula) → Spells ps (formulaNodes f) text → length (pathsOf f) ≤ number →
-      NumeratorRow file text tuple number room 15
+      NumeratorRow file text tuple path room 15
+  member : membersBelow (fieldsOf file .n) tuple ≡ false → NumeratorRow file text tuple path room 15
+  missing : {ps : List Bool} (f : Formula) → Spells ps (formulaNodes f) text → length (pathsOf f) ≤ path →
+      NumeratorRow file text tuple path room 15
 
 -- the correct result of numerator: the numerator of the path formula at the tuple, and its denominator; the first `areaSize`
 -- numbers of the area are zero afterwards
-pub record Counts (file text tuple : List ℕ) (number : ℕ) (before : List ℕ) (values : ℕ × ℕ) (after : List ℕ) : Type 0 where
+pub record Counts (file text tuple : List ℕ) (path : ℕ) (before : List ℕ) (values : ℕ × ℕ) (after : List ℕ) : Type 0 where
   pub sentence : SentenceOf text
-  pub top : values .0 ≡ numerator (numbered (sentence .body) number) (chainOf (fieldsOf file)) (length (sentence .prefix)) tuple
-  pub bottom : values .1 ≡ denominator (numbered (sentence .body) number) (fieldsOf file .d) (length (sentence .prefix))
+  pub top : values .0 ≡ numerator (numbered (sentence .body) path) (chainOf (fieldsOf file)) (length (sentence .prefix)) tuple
+  pub bottom : values .1 ≡ denominator (numbered (sentence .body) path) (fieldsOf file .d) (length (sentence .prefix))
   pub left : after ≡ cleared areaSize before
 
 -- what numerator ensures of the model file, the sentence text, the tuple, the path formula's number, the work area before and
 -- after, and what it answers
-pub record NumeratorEnsures (file text tuple : List ℕ) (number : ℕ) (before : List ℕ) (answer : Answer) (after : List ℕ) : Type 0 where
-  pub ensured : Ensured (NumeratorRow file text tuple number (length before)) (Counts file text tuple number before) before
+pub record NumeratorEnsures (file text tuple : List ℕ) (path : ℕ) (before : List ℕ) (answer : Answer) (after : List ℕ) : Type 0 where
+  pub ensured : Ensured (NumeratorRow file text tuple path (length before)) (Counts file text tuple path before) before
       (numeratorReply answer) after

@@ -20,7 +20,8 @@ use Rattle.sentence_reader.specs.Contract.{ReadSentenceEnsures, range}
 use Rattle.sentence.specs.Record.{recordOf}
 use Rattle.meaning.specs.Chain.{Sound}
 use Rattle.meaning.specs.Size.{exceeds}
-use Rattle.layers.specs.Held.{weightIn, LayerSizes}
+use Rattle.counting.specs.Entries.{cell}
+use Rattle.layers.specs.Held.{LayerSizes}
 use Rattle.evaluate.specs.declared.Setting.{Setting}
 use Rattle.evaluate.specs.Evaluation.{Fixed}
 use Rattle.trees.specs.Listed.{formulaNodes}
@@ -121,7 +122,7 @@ module _ {m : Model} {s : Sentence} {g : Setting} (r : Ready m s) (so : SettingO
       record {
         held = record {
           states = sym (so .states);
-          weights = λ i j h k. ap (λ (x : List (List ℕ)). weightIn x i j) same;
+          weights = λ i j h k. ap (λ (x : List (List ℕ)). cell x i j) same;
           sound = subst (λ (x : Model). Sound (chainOf x)) (sym (a .fields)) (accepted.sound (r .read .file) (a .accepted));
         };
         labels = λ l i h. refl;

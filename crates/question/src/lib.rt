@@ -17,6 +17,9 @@ use sentence::Slot;
 use sentence_reader::SentenceRead;
 use sizes::exceeds;
 
+// The most tuples.
+const TUPLES: usize = 1024;
+
 // How many numbers of the work area a call uses, and row 1 asks for: `areaSize` of specs/.
 pub const AREA: usize = 8192;
 
@@ -73,7 +76,7 @@ fn late_number(m: Model, s: Sentence) -> u8
     if exceeds(s, m.d as u64, s.letters) {
         return 10;
     }
-    if 1024 < tuple_count(m.n as usize, s.letters) {
+    if TUPLES < tuple_count(m.n as usize, s.letters) {
         return 11;
     }
     0

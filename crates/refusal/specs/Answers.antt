@@ -57,6 +57,6 @@ pub record TextAtFront (Asked : List ℕ → Type 0) (before : List ℕ) (size :
   pub sized : size ≡ length text
   pub left : after ≡ atFront text before
 
--- what a writer ensures that has these rows and writes this text, of the output before and after and of its answer
+-- what a writer with these rows and this text ensures of the output before and after, and of its answer
 pub record Writes (rows : List Row) (text before after : List ℕ) (answer : Written) : Type 0 where
   pub ensured : Ensured (λ n. Applies n rows) (TextAtFront (λ t. t ≡ text) before) before (replyOfWritten answer) after

@@ -13,7 +13,7 @@ use Rattle.sentence.specs.declared.Sentence.{Sentence}
 abbrev pub slot : Node → Slot
 slot n = record { node = n }
 
--- the record of a prefix and a node list: places past the letters and past the count are empty
+-- the record of a prefix and a node list: places past the letters hold `false`, places past the count hold `True`
 unfoldable pub recordOf : List Bool → List Node → Sentence
 recordOf ps ns =
     record {

@@ -3,6 +3,11 @@
 ghost use mathlib.Core.Path.{_≡_};
 ghost use Rattle.sentence.specs.Grammar.{outOfRange, wantsOf};
 
+// The largest top and bottom of a constant, and the last step of a window.
+const LARGEST: u32 = 65535;
+
+const LAST_STEP: u32 = 60;
+
 // The longest text, in bytes.
 pub const TEXT_BYTES: usize = 400;
 
@@ -70,8 +75,8 @@ pub fn is_fault(letters: usize, node: Node) -> bool
 {
     match node {
         Node::Label { label: _, variable } => letters < variable as usize,
-        Node::Constant { top, bottom } => (65535 < top) | (bottom == 0) | (65535 < bottom),
-        Node::Until { from, to } => (to < from) | (60 < to),
+        Node::Constant { top, bottom } => (LARGEST < top) | (bottom == 0) | (LARGEST < bottom),
+        Node::Until { from, to } => (to < from) | (LAST_STEP < to),
         _ => false,
     }
 }

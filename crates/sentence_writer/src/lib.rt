@@ -10,6 +10,7 @@ ghost use Rattle.sentence.specs.Record.{listed};
 ghost use Rattle.sentence.specs.Working.{sameKind, AllWritable};
 ghost use Rattle.sentence_writer.specs.Working.{Fits, Surveyed, Decision};
 ghost use Rattle.numerals.specs.Working.{Put};
+use numerals::BEYOND;
 use numerals::number_size;
 use numerals::put_byte;
 use numerals::put_numbers;
@@ -90,8 +91,8 @@ fn has_text(node: Node) -> bool
 {
     match node {
         Node::Label { label, variable } => (label < 16) & (1 <= variable) & (variable <= 4),
-        Node::Constant { top, bottom } => (top < 100000) & (bottom < 100000),
-        Node::Until { from, to } => (from < 100000) & (to < 100000),
+        Node::Constant { top, bottom } => (top < BEYOND) & (bottom < BEYOND),
+        Node::Until { from, to } => (from < BEYOND) & (to < BEYOND),
         _ => true,
     }
 }

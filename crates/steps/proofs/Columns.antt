@@ -9,7 +9,7 @@ use lib.Arith.{digits-div, digits-mod, digits-lt}
 use lib.ListN.{length, getD, set, length-set}
 use lib.Seq.{getD-set-same, getD-set-other}
 use Rattle.counting.proofs.Laws.{sum-same}
-use Rattle.layers.specs.Held.{weightIn}
+use Rattle.counting.specs.Entries.{cell}
 use Rattle.steps.specs.Columns.{stepped, ColumnIn, ColumnFits, ColumnStepped, start, LayerFits, LayerStepped}
 use Rattle.steps.proofs.Sums.{sum-bounded}
 use Rattle.layers.proofs.Written.{kept-from}
@@ -250,7 +250,7 @@ module _ {rows : List (List ℕ)} {N stride T : ℕ} {before : List ℕ} where
         apart = fits .apart;
         fits = λ s l.
             le-trans
-            (sum-bounded N (weightIn rows s) (λ t. getD after (startOf N stride j + t * stride) 0) (fits .bound)
+            (sum-bounded N (cell rows s) (λ t. getD after (startOf N stride j + t * stride) 0) (fits .bound)
             (λ t m. omega (arith, fresh t m, fits .small (startOf N stride j + t * stride) (inside t m))))
             (fits .fits s l);
       }
@@ -282,7 +282,7 @@ module _ {rows : List (List ℕ)} {N stride T : ℕ} {before : List ℕ} where
               start-split N stride (fits .some) (fits .apart) k ∙ ap (λ (x : ℕ). x + s * stride) begins in
               ap (λ (x : ℕ). getD now x 0) there ∙
               step .each s state ∙
-              sum-same N (λ t m. ap (λ (x : ℕ). weightIn rows s t * x) (fresh t m)) ∙
+              sum-same N (λ t m. ap (λ (x : ℕ). cell rows s t * x) (fresh t m)) ∙
               ap (λ (x : ℕ). stepped rows N stride before x s) (sym begins)
 
   -- after the last turn every column has been stepped

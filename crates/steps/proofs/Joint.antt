@@ -13,7 +13,7 @@ use Rattle.meaning.specs.Chain.{Chain, Sound, Tuple, Inside}
 use Rattle.meaning.proofs.Single.{stepOne, stepFrom, stepOne-at, stepFrom-joint}
 use Rattle.meaning.proofs.Numbers.{tupleOf, tuple-inside, each-length}
 use Rattle.layers.specs.Layers.{Layer, RestKept}
-use Rattle.layers.specs.Held.{weightIn}
+use Rattle.counting.specs.Entries.{cell}
 use Rattle.steps.specs.Columns.{start, LayerFits, LayerStepped}
 use Rattle.layers.specs.Held.{Holds, LayerSizes}
 use Rattle.steps.specs.Steps.{StepFits, Stepped}
@@ -24,7 +24,7 @@ use Rattle.steps.proofs.Sums.{sum-bounded}
 
 -- the row of a state adds up to D
 pub row-sum : {c : Chain} {rows : List (List ℕ)} {N : ℕ} → Holds c rows N → (s : ℕ) → s < N →
-    sumBelow N (weightIn rows s) ≡ c .D
+    sumBelow N (cell rows s) ≡ c .D
 unfolding Sound
 row-sum {c} {rows} {N} h s l =
     sum-same N (λ t m. h .weights s t l m) ∙
@@ -69,7 +69,7 @@ module _ {rows : List (List ℕ)} {N T : ℕ} {before after : List ℕ} (n i : �
           sym (stepOne-at c i f tuple inside)
 
   -- its numbers are at most D times what they were
-  pub one-small : (D bound : ℕ) → ((s : ℕ) → s < N → sumBelow N (weightIn rows s) ≡ D) →
+  pub one-small : (D bound : ℕ) → ((s : ℕ) → s < N → sumBelow N (cell rows s) ≡ D) →
       ((k : ℕ) → k < T → getD before k 0 ≤ bound) → (k : ℕ) → k < T → getD after k 0 ≤ D * bound
   one-small D bound sums small k l =
       let stride = N ^ (n - suc i) in
@@ -77,7 +77,7 @@ module _ {rows : List (List ℕ)} {N T : ℕ} {before after : List ℕ} (n i : �
       let s = k / stride % N in
       let place = pow-place N n i less in
       let e = h .each k l in
-      let q = sum-bounded N (weightIn rows s) (λ t. getD before (start N stride k + t * stride) 0) bound
+      let q = sum-bounded N (cell rows s) (λ t. getD before (start N stride k + t * stride) 0) bound
       (λ t m.
       small (start N stride k + t * stride)
       (omega (arith, whole, place, place-in N stride (N ^ i) k t some apart (omega (arith, whole, place)) m))) in
@@ -96,7 +96,7 @@ pub record Stepping (rows : List (List ℕ)) (N n T : ℕ) (before : List ℕ) (
   pub strided : stride ≡ N ^ m
   pub each : (c : Chain) → Holds c rows N → (f : Tuple → ℕ) → Layer N n f before →
       Layer N n (λ s. stepFrom c (n - m) m f s) after
-  pub small : (D bound : ℕ) → ((s : ℕ) → s < N → sumBelow N (weightIn rows s) ≡ D) →
+  pub small : (D bound : ℕ) → ((s : ℕ) → s < N → sumBelow N (cell rows s) ≡ D) →
       ((k : ℕ) → k < T → getD before k 0 ≤ bound) → (k : ℕ) → k < T → getD after k 0 ≤ D ^ m * bound
   pub kept : RestKept T before after
 

@@ -9,11 +9,12 @@ use lib.ListN.{length, getD}
 use Rattle.counting.specs.Below.{sumBelow}
 use Rattle.meaning.specs.Size.{sizeLimit}
 use Rattle.layers.specs.Layers.{RestKept}
-use Rattle.layers.specs.Held.{mostStates, mostTuples, weightIn}
+use Rattle.counting.specs.Entries.{cell}
+use Rattle.layers.specs.Held.{mostStates, mostTuples}
 
 -- over all states t, the weight from s to t times the column's number at t; the column starts at `at`
 abbrev pub stepped : List (List ℕ) → (N stride : ℕ) → List ℕ → (at s : ℕ) → ℕ
-stepped rows N stride w at s = sumBelow N (λ t. weightIn rows s t * getD w (at + t * stride) 0)
+stepped rows N stride w at s = sumBelow N (λ t. cell rows s t * getD w (at + t * stride) 0)
 
 -- a column lies in the list
 pub record ColumnIn (N stride at : ℕ) (w : List ℕ) : Type 0 where
@@ -54,7 +55,7 @@ pub record LayerFits (rows : List (List ℕ)) (N stride T : ℕ) (w : List ℕ) 
   pub room : T ≤ length w
   pub bound : ℕ
   pub small : (k : ℕ) → k < T → getD w k 0 ≤ bound
-  pub fits : (s : ℕ) → s < N → sumBelow N (weightIn rows s) * bound ≤ sizeLimit
+  pub fits : (s : ℕ) → s < N → sumBelow N (cell rows s) * bound ≤ sizeLimit
 
 -- every column has been stepped
 pub record LayerStepped (rows : List (List ℕ)) (N stride T : ℕ) (before after : List ℕ) : Type 0 where

@@ -8,7 +8,7 @@ use Rattle.sentence.specs.declared.Node.the-variants.{Until}
 use Rattle.meaning.specs.Tree.{Relation, less, atMost, equal, atLeast, greater, Formula, always, labelled, negation, both, compare}
 use Rattle.meaning.specs.Tree.{Expression, probability, constant, sum, difference, product, PathFormula, next, until}
 
--- the relation of a comparison's node
+-- a tree's relation as a node has it
 abbrev pub relationSpelled : Relation → Spelled.Relation
 relationSpelled less = Less
 relationSpelled atMost = AtMost
@@ -16,7 +16,7 @@ relationSpelled equal = Equal
 relationSpelled atLeast = AtLeast
 relationSpelled greater = Greater
 
--- and the comparison of a node's relation
+-- a node's relation as a tree has it
 abbrev pub relationRead : Spelled.Relation → Relation
 relationRead Less = less
 relationRead AtMost = atMost

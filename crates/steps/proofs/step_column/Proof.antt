@@ -5,7 +5,7 @@ use mathlib.Core.Path.{_≡_, ap, sym, subst, _∙_}
 use native.Mathlib.Omega.{arith}
 use Rattle.meaning.specs.Size.{sizeLimit}
 use Rattle.counting.proofs.Laws.{sum-same}
-use Rattle.layers.specs.Held.{weightIn}
+use Rattle.counting.specs.Entries.{cell}
 use Rattle.steps.proofs.Columns.{ColumnStepping, column-none, column-next, column-all, next-near}
 use Rattle.steps.proofs.step_column.Statement.{statement}
 use Rattle.steps.proofs.step_column.Tie as tie
@@ -57,7 +57,7 @@ row-sum-requires c κs =
     let start = start-of at-loop in
     let s = at-loop .loop .s in
     let copied = sum-same (start .args .states)
-    (λ t l. ap (λ (x : ℕ). weightIn (start .args .rows .now) s t * x) (at-loop .before .read-column .ensures .each t l)) in
+    (λ t l. ap (λ (x : ℕ). cell (start .args .rows .now) s t * x) (at-loop .before .read-column .ensures .each t l)) in
     let named = start .pre .1 in (
       start .pre .0 .lies .states,
       named .few,
@@ -89,7 +89,7 @@ loop-again c =
     let start = start-of at-loop in
     let s = at-loop .loop .s in
     let copied = sum-same (start .args .states)
-    (λ t l. ap (λ (x : ℕ). weightIn (start .args .rows .now) s t * x) (at-loop .before .read-column .ensures .each t l)) in
+    (λ t l. ap (λ (x : ℕ). cell (start .args .rows .now) s t * x) (at-loop .before .read-column .ensures .each t l)) in
     let inv = at-loop .loop .inv in
     (omega arith, column-next (start .pre .0) (inv .1) (omega arith) (inv .0) (c .row-sum .ensures ∙ copied))
 

@@ -1,12 +1,12 @@
 -- `model::reader::length_right` meets its contract as it stands.
-use borrow.Author.Needs.{needs}
+use mathlib.Core.Path.{refl}
 use Rattle.model.specs.Rules.{lengthRight}
 use Rattle.model.proofs.reader.length_right.Statement.{statement}
 use Rattle.model.proofs.reader.length_right.Tie as tie
 
 returns : tie.Need-returns
 unfolding lengthRight
-returns c = search needs
+returns c = refl
 
 pub length-right-spec : {M : Type 1} → statement M
 length-right-spec = tie.close (tie.spec returns)
