@@ -22,7 +22,7 @@ use Rattle.verdict.specs.declared.Answer as Judged
 use Rattle.verdict.specs.Contract.{VerdictEnsures, verdictReply}
 use Rattle.numerator.specs.declared.Answer as Counted
 use Rattle.numerator.specs.Contract.{NumeratorRow, question, NumeratorEnsures, numbered, numeratorReply}
-use Rattle.demands.specs.Demands.{stepsOf, chainIn, takes, Probability, Valued, Demand2}
+use Rattle.demands.specs.Demands.{stepsOf, chainIn, takes, PathProbability, Valued, Demand2}
 use Rattle.demands.proofs.Free.{one-sentence, tuple-inside}
 
 -- a denominator is the total weight of all runs that start at the tuple
@@ -41,7 +41,7 @@ taken-runs (until k1 k2 f g) c n s = refl
 
 -- a path formula's numerator and denominator are its probability
 counted-once : (p : PathFormula) (c : Chain) → Sound c → (n : ℕ) {s : Tuple} → Inside (c .N) n s →
-    Probability c p n s (numerator p c n s) (denominator p (c .D) n)
+    PathProbability c p n s (numerator p c n s) (denominator p (c .D) n)
 counted-once p c adds n {s} inside = record {
   all = runs c n (stepsOf p) s;
   just = λ r. (
@@ -72,7 +72,7 @@ judged file x none =
 counted : (file : List ℕ) {text tuple before after : List ℕ} {path : ℕ} {a : Counted.Answer} →
     NumeratorEnsures file text tuple path before a after → ((n : ℕ) → NumeratorRow file text tuple path (length before) n → ⊥) →
     (s : SentenceOf text) × (v : ℕ × ℕ) × (numeratorReply a ≡ gives v) ×
-    Probability (chainIn file) (numbered (s .body) path) (length (s .prefix)) tuple (v .0) (v .1)
+    PathProbability (chainIn file) (numbered (s .body) path) (length (s .prefix)) tuple (v .0) (v .1)
 counted file {tuple = tuple} {path = path} x none =
     let right = right-of none (x .ensured) in
     let s = right .2 .sentence in

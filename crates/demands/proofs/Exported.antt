@@ -54,7 +54,7 @@ model-parts {head = head} {masks} {rows = rows} x done =
     let told = ap replyOf done in (
       x .head-left ∙ filled-given told (headOf m) head,
       x .masks-left ∙ filled-given told (m .masks) masks,
-      x .rows-left ∙ filled-given told (m .weights .rows) rows,
+      x .weights-left ∙ filled-given told (m .weights .rows) rows,
     )
 
 -- a code of 0 says that read sentence has read

@@ -13,8 +13,8 @@ use Rattle.refusal.specs.Rows.{Applies}
 use Rattle.refusal.specs.Answers.{Reply, gives, refuses, replyOf, replyOfWritten, atFront}
 use Rattle.model.specs.declared.Model.{Model}
 use Rattle.model.specs.declared.ModelRead.{ModelRead}
-use Rattle.model.specs.Layout.{Shaped, fieldsOf}
-use Rattle.model.specs.Contract.{fileRows, fileNumber, emptyModel, ReadModelEnsures, recordRows, WriteModelEnsures}
+use Rattle.model.specs.Layout.{Shaped, fieldsOf, emptyModel}
+use Rattle.model.specs.Contract.{fileRows, fileNumber, ReadModelEnsures, recordRows, WriteModelEnsures}
 use Rattle.sentence.specs.declared.Sentence.{Sentence}
 use Rattle.sentence_reader.specs.declared.SentenceRead.{SentenceRead}
 use Rattle.sentence_reader.specs.Contract.{ReadRow, ReadSentenceEnsures}
@@ -91,7 +91,7 @@ pub record RunFrom (c : Chain) (n k : ℕ) (tuple : Tuple) (r : Run) : Type 0 wh
   pub steps : Each (Inside (c .N) n) k rest
 
 -- A path formula's numerator and denominator at a tuple. There is a list
-pub record Probability (c : Chain) (p : PathFormula) (n : ℕ) (tuple : Tuple) (top bottom : ℕ) : Type 0 where
+pub record PathProbability (c : Chain) (p : PathFormula) (n : ℕ) (tuple : Tuple) (top bottom : ℕ) : Type 0 where
   pub all : List Run
   -- in which just the runs from the tuple stand that have as many steps as the path formula speaks of,
   pub just : (r : Run) → List·Memᴰ r all ↔ RunFrom c n (stepsOf p) tuple r
@@ -107,7 +107,7 @@ pub record Valued (c : Chain) (p : PathFormula) (n : ℕ) (tuple : Tuple) : Type
   pub top : ℕ
   pub bottom : ℕ
   pub valued : value (probability p) c n tuple ≡ record { top = pos top; bottom = bottom }
-  pub counted : Probability c p n tuple top bottom
+  pub counted : PathProbability c p n tuple top bottom
 
 -- Demand 2, of verdict and numerator on a file, where no row applies: the text has a sentence, and one only;
 pub record Demand2 (file : List ℕ) : Type 0 where
@@ -123,7 +123,7 @@ pub record Demand2 (file : List ℕ) : Type 0 where
   pub probabilities : {text tuple before after : List ℕ} {path : ℕ} {a : Counted.Answer} →
       NumeratorEnsures file text tuple path before a after → ((n : ℕ) → NumeratorRow file text tuple path (length before) n → ⊥) →
       (s : SentenceOf text) × (v : ℕ × ℕ) × (numeratorReply a ≡ gives v) ×
-      Probability (chainIn file) (numbered (s .body) path) (length (s .prefix)) tuple (v .0) (v .1)
+      PathProbability (chainIn file) (numbered (s .body) path) (length (s .prefix)) tuple (v .0) (v .1)
 
 -- Demand 2, of the readers and writers.
 pub record RoundTrips : Type 0 where
@@ -150,18 +150,19 @@ pub record RoundTrips : Type 0 where
 -- that a writer has written so many bytes.
 pub record ExportedRoundTrips : Type 0 where
   -- Writing what was read gives the same file
-  pub files : {file head masks head′ masks′ before after : List ℕ} {rows rows′ : List (List ℕ)} {r : ℕ} →
-      ExportedReadModel file head masks rows head′ masks′ rows′ 0 → length file ≤ length before →
-      ExportedWriteModel (modelOfParts head′ masks′ rows′) before after r → (r ≡ length file) × (after ≡ atFront file before)
+  pub files : {file head masks head′ masks′ before after : List ℕ} {weights weights′ : List (List ℕ)} {r : ℕ} →
+      ExportedReadModel file head masks weights head′ masks′ weights′ 0 → length file ≤ length before →
+      ExportedWriteModel (modelOfParts head′ masks′ weights′) before after r → (r ≡ length file) × (after ≡ atFront file before)
   -- or text,
   pub texts : {text head exists head′ exists′ before after : List ℕ} {codes codes′ : List (List ℕ)} {r : ℕ} →
       ExportedReadSentence text head exists codes head′ exists′ codes′ 0 → length text ≤ length before →
       ExportedWriteSentence (sentenceOf (getD head′ 0 0) (getD head′ 1 0) exists′ codes′) before after r →
       (r ≡ length text) × (after ≡ atFront text before)
-  -- and reading what was written leaves the same head, masks and rows, of three parts as their types have them,
-  pub models : {head masks before after h m h′ m′ : List ℕ} {rows w w′ : List (List ℕ)} {size r : ℕ} → length head ≡ 3 →
-      Shaped (modelOfParts head masks rows) → ExportedWriteModel (modelOfParts head masks rows) before after size → size < 4294967296 →
-      ExportedReadModel (take size after) h m w h′ m′ w′ r → (r ≡ 0) × (h′ ≡ head) × (m′ ≡ masks) × (w′ ≡ rows)
+  -- and reading what was written leaves the same head, masks and weights, of three parts as their types have them,
+  pub models : {head masks before after h m h′ m′ : List ℕ} {weights w w′ : List (List ℕ)} {size r : ℕ} → length head ≡ 3 →
+      Shaped (modelOfParts head masks weights) → ExportedWriteModel (modelOfParts head masks weights) before after size
+      → size < 4294967296 →
+      ExportedReadModel (take size after) h m w h′ m′ w′ r → (r ≡ 0) × (h′ ≡ head) × (m′ ≡ masks) × (w′ ≡ weights)
   -- or the same sentence: its prefix and its nodes.
   pub sentences : (letters count : ℕ) (exists : List ℕ) (codes : List (List ℕ)) {before after h e h′ e′ : List ℕ}
       {c c′ : List (List ℕ)} {size r : ℕ} →

@@ -11,7 +11,7 @@ use Rattle.sentence.specs.declared.Kind.the-variants.{Expression}
 use Rattle.sentence.specs.declared.Node.{Node}
 use Rattle.sentence.specs.Grammar.{Nests, bodyText}
 use Rattle.meaning.specs.Tree.{Letter, Formula, probability, letterOf}
-use Rattle.meaning.specs.Examples.{Sketch, sketched, sameChain, Line, fraction, worth, answer, merges, refuses, met}
+use Rattle.meaning.specs.Examples.{Sketch, sketched, sameChain, Line, fraction, worth, answer, merges, refusedWith, met}
 use Rattle.trees.specs.Listed.{expressionNodes}
 use Rattle.question.specs.Contract.{SentenceOf}
 use Rattle.chain.specs.Of.{chainOf}
@@ -34,7 +34,7 @@ Texted (fraction m text p s top bottom) = TextOf Expression (expressionNodes (pr
 Texted (worth m text e s x) = TextOf Expression (expressionNodes e) text
 Texted (answer m text letters body said) = SentenceText text letters body
 Texted (merges m grouping result) = Unit
-Texted (refuses m grouping number) = Unit
+Texted (refusedWith m grouping number) = Unit
 
 -- the model that a line speaks of
 abbrev pub modelOfLine : Line → Sketch
@@ -42,7 +42,7 @@ modelOfLine (fraction m text p s top bottom) = m
 modelOfLine (worth m text e s x) = m
 modelOfLine (answer m text letters body said) = m
 modelOfLine (merges m grouping result) = m
-modelOfLine (refuses m grouping number) = m
+modelOfLine (refusedWith m grouping number) = m
 
 -- the chain that the definitions speak of is that of the model
 unfoldable pub drawn : Sketch → Bool

@@ -68,7 +68,7 @@ module _ {head masks h h′ m m′ : List ℕ} {rows w w′ : List (List ℕ)} {
         a .answered ∙ ap (λ (x : ModelRead). numberIn (replyOf (x .outcome))) same ∙ sym (b .answered),
         a .head-left ∙ ap (λ (x : ModelRead). filled (replyOf (x .outcome)) (headOf (x .model)) head) same ∙ sym (b .head-left),
         a .masks-left ∙ ap (λ (x : ModelRead). filled (replyOf (x .outcome)) (x .model .masks) masks) same ∙ sym (b .masks-left),
-        a .rows-left ∙ ap (λ (x : ModelRead). filled (replyOf (x .outcome)) (x .model .weights .rows) rows) same ∙ sym (b .rows-left),
+        a .weights-left ∙ ap (λ (x : ModelRead). filled (replyOf (x .outcome)) (x .model .weights .rows) rows) same ∙ sym (b .weights-left),
       )
 
 module _ {text head exists h h′ e e′ : List ℕ} {codes c c′ : List (List ℕ)} {r r′ : ℕ} where
@@ -107,7 +107,7 @@ module _ {head masks h m : List ℕ} {rows w : List (List ℕ)} {r : ℕ} where
       let refusal = subst (λ (n : ℕ). 0 < n) (a .answered) some in (
         a .head-left ∙ filled-none (replyOf (a .read .outcome)) _ head refusal,
         a .masks-left ∙ filled-none (replyOf (a .read .outcome)) _ masks refusal,
-        a .rows-left ∙ filled-none (replyOf (a .read .outcome)) _ rows refusal,
+        a .weights-left ∙ filled-none (replyOf (a .read .outcome)) _ rows refusal,
       )
 
 module _ {text head exists h e : List ℕ} {codes c : List (List ℕ)} {r : ℕ} where

@@ -17,14 +17,15 @@ abbrev pub headOf : Model → List ℕ
 headOf m = m .n ∷ m .a ∷ m .d ∷ []
 
 -- read model, exported: the number of what read model answers, and the three parts of the model
-pub record ExportedReadModel (file : List ℕ) (head masks : List ℕ) (rows : List (List ℕ)) (head′ masks′ : List ℕ) (rows′ : List (List ℕ))
+pub record ExportedReadModel (file : List ℕ) (head masks : List ℕ) (weights : List (List ℕ)) (head′ masks′ : List ℕ)
+    (weights′ : List (List ℕ))
     (r : ℕ) : Type 0 where
   pub read : ModelRead
   pub answer : ReadModelEnsures file read
   pub answered : r ≡ numberIn (replyOf (read .outcome))
   pub head-left : head′ ≡ filled (replyOf (read .outcome)) (headOf (read .model)) head
   pub masks-left : masks′ ≡ filled (replyOf (read .outcome)) (read .model .masks) masks
-  pub rows-left : rows′ ≡ filled (replyOf (read .outcome)) (read .model .weights .rows) rows
+  pub weights-left : weights′ ≡ filled (replyOf (read .outcome)) (read .model .weights .rows) weights
 
 -- the model that the three parts stand for: N, A and D in this order, the masks and the weights
 abbrev pub modelOfParts : (head masks : List ℕ) → List (List ℕ) → Model

@@ -56,6 +56,6 @@ pub extern "C" fn twolsken_write_model(
         masks: *masks,
         weights: matrix::holding(*rows),
     };
-    let written = model::writer::write_model(m, out);
+    let written = model_writer::write_model(m, out);
     written_code(written)
 }

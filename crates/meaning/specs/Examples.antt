@@ -64,7 +64,7 @@ pub data Line : Type 0 where
   worth : Sketch → String → Expression → Tuple → Fraction → Line
   answer : Sketch → String → List Letter → Formula → Bool → Line
   merges : Sketch → List ℕ → Sketch → Line
-  refuses : Sketch → List ℕ → ℕ → Line
+  refusedWith : Sketch → List ℕ → ℕ → Line
 
 -- the definitions of this crate agree with the line; a refusal is one of files, on which they are silent
 unfoldable pub met : Line → Bool
@@ -74,7 +74,7 @@ met (worth m text e s x) = compared equal (value e (sketched m) (length s) s) x
 met (answer m text letters body said) = Bool·beq (verdict (sketched m) letters body) said
 met (merges m grouping result) =
     sameChain (merged (sketched m) (λ s. getD grouping s 0) (length (result .rows))) (sketched result)
-met (refuses m grouping number) = true
+met (refusedWith m grouping number) = true
 
 -- `a1`: the state of variable 1 has label 0
 a1 : Formula
@@ -126,7 +126,7 @@ lines =
     fraction M2 "PU0,2:Ta1" (until 0 2 always a1) (0 ∷ []) 12 16 ∷
     fraction M2merged "PU0,2:Ta1" (until 0 2 always a1) (0 ∷ []) 12 16 ∷
     -- 0 0 1: 13; 0 2 2: 12; 0 1 2 gives the same file back
-    refuses M2 (0 ∷ 0 ∷ 1 ∷ []) 13 ∷
-    refuses M2 (0 ∷ 2 ∷ 2 ∷ []) 12 ∷
+    refusedWith M2 (0 ∷ 0 ∷ 1 ∷ []) 13 ∷
+    refusedWith M2 (0 ∷ 2 ∷ 2 ∷ []) 12 ∷
     merges M2 (0 ∷ 1 ∷ 2 ∷ []) M2 ∷
     []

@@ -7,7 +7,7 @@ use Rattle.counting.specs.Below.{table}
 use Rattle.counting.specs.Entries.{cell}
 use Rattle.model.specs.declared.Model.{Model}
 use Rattle.model.specs.Layout.{modelOf, fileOf}
-use Rattle.meaning.specs.Examples.{Sketch, Line, fraction, worth, answer, merges, refuses}
+use Rattle.meaning.specs.Examples.{Sketch, Line, fraction, worth, answer, merges, refusedWith}
 use Rattle.merge.specs.Contract.{mergeNumber, mergedFile}
 
 -- the model that the document sketches: A = 1; masks, columns and rows from N on are zero
@@ -24,4 +24,4 @@ MergeMet (answer m text letters body said) = Unit
 MergeMet (merges m grouping result) =
     (mergeNumber (fileOf (modelOfSketch m)) grouping 3072 ≡ 0) ×
     (mergedFile (fileOf (modelOfSketch m)) grouping ≡ fileOf (modelOfSketch result))
-MergeMet (refuses m grouping number) = mergeNumber (fileOf (modelOfSketch m)) grouping 3072 ≡ number
+MergeMet (refusedWith m grouping number) = mergeNumber (fileOf (modelOfSketch m)) grouping 3072 ≡ number

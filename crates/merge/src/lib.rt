@@ -20,7 +20,7 @@ use merged::model_of_groups;
 use model::Model;
 use model::matrix;
 use model::reader::read_model;
-use model::writer::write_model;
+use model_writer::write_model;
 use refusal::Outcome;
 use refusal::Written;
 use totals::totals_of;

@@ -15,9 +15,9 @@ use Rattle.refusal.specs.declared.Outcome.the-variants.{Done, Refused}
 use borrow.Author.Tests.{lt-ltb, le-ltb}
 use Rattle.model.specs.declared.Model.{Model}
 use Rattle.model.specs.declared.ModelRead.{ModelRead}
-use Rattle.model.specs.Layout.{fieldsOf, blocks}
+use Rattle.model.specs.Layout.{fieldsOf, blocks, emptyModel}
 use Rattle.model.specs.Rules.{lengthRight, fieldsRight, laidOut, allAddUp}
-use Rattle.model.specs.Contract.{fileRows, fileNumber, recordRows, recordNumber, emptyModel, ReadModelEnsures}
+use Rattle.model.specs.Contract.{fileRows, fileNumber, recordRows, recordNumber, ReadModelEnsures}
 
 -- ---- the number, test by test
 

@@ -6,14 +6,13 @@ use mathlib.Core.List.{List, [], _∷_}
 use mathlib.Core.Path.{_≡_}
 use lib.Dec.{ltb}
 use lib.ListN.{length}
-use Rattle.counting.specs.Below.{table}
 use Rattle.refusal.specs.Rows.{Row, first, Applies}
 use Rattle.refusal.specs.declared.Written.{Written}
 use Rattle.refusal.specs.Answers.{replyOf, Ensured, Writes}
 use Rattle.block.specs.Block.{checksRight}
 use Rattle.model.specs.declared.Model.{Model}
 use Rattle.model.specs.declared.ModelRead.{ModelRead}
-use Rattle.model.specs.Layout.{fieldsOf, blocks, fileOf}
+use Rattle.model.specs.Layout.{fieldsOf, emptyModel, blocks, fileOf}
 use Rattle.model.specs.Rules.{fieldsRight, allAddUp, lengthRight, laidOut}
 
 -- the rows 2 to 5 of a model file
@@ -28,16 +27,6 @@ fileRows file =
 -- the number that a model file is refused with, 0 where it is accepted
 unfoldable pub fileNumber : List ℕ → ℕ
 fileNumber file = first (fileRows file)
-
--- what a refused read returns beside its number: every field zero
-unfoldable pub emptyModel : Model
-emptyModel = record {
-  n = 0;
-  a = 0;
-  d = 0;
-  masks = table 32 (λ s. 0);
-  weights = record { rows = table 32 (λ s. table 32 (λ t. 0)) };
-}
 
 -- what read model ensures of the file and what it answers: the fields of an accepted file, and beside a refusal the empty model
 pub record ReadModelEnsures (file : List ℕ) (r : ModelRead) : Type 0 where

@@ -33,6 +33,16 @@ pub record Shaped (m : Model) : Type 0 where
 abbrev pub modelOf : (n a d : ℕ) → List ℕ → List (List ℕ) → Model
 modelOf n a d masks rows = record { n = n; a = a; d = d; masks = masks; weights = record { rows = rows } }
 
+-- the empty model, which stands beside a refusal: every field zero
+unfoldable pub emptyModel : Model
+emptyModel = record {
+  n = 0;
+  a = 0;
+  d = 0;
+  masks = table 32 (λ s. 0);
+  weights = record { rows = table 32 (λ s. table 32 (λ t. 0)) };
+}
+
 -- ---- where the fields stand
 
 -- the masks stand in block 0 from this byte on, two bytes a state

@@ -1,10 +1,10 @@
-// The model file of document 01, read and written. The layout is said once, in specs/Layout; the contracts are in specs/Contract.
+// The model file of document 01: its record, what the layout asks of it, and read model. The layout is said once, in specs/Layout; the
+// contracts are in specs/Contract. Write model is a crate of its own.
 mod fields;
 mod laid;
 pub mod matrix;
 pub mod reader;
-mod rules;
-pub mod writer;
+pub mod rules;
 
 use matrix::Weights;
 use refusal::Outcome;
@@ -13,13 +13,13 @@ use refusal::Outcome;
 const LONGEST: usize = 3072;
 
 // Where rows stand in a block: so many states a block, from this byte on, so many bytes a row, up to this byte.
-const STATES_PER_BLOCK: usize = 7;
+pub const STATES_PER_BLOCK: usize = 7;
 
-const ROWS_FROM: usize = 2;
+pub const ROWS_FROM: usize = 2;
 
-const ROW_BYTES: usize = 64;
+pub const ROW_BYTES: usize = 64;
 
-const ROWS_END: usize = 450;
+pub const ROWS_END: usize = 450;
 
 // The bytes of a block between its rows and its check.
 const AFTER_ROWS: usize = 60;

@@ -1,7 +1,8 @@
 // Read model: the rows of a model file in the order of their numbers, then its fields.
 ghost use mathlib.Core.Path.{_≡_};
 ghost use Rattle.model.specs.Rules.{lengthRight};
-ghost use Rattle.model.specs.Contract.{emptyModel, ReadModelEnsures};
+ghost use Rattle.model.specs.Layout.{emptyModel};
+ghost use Rattle.model.specs.Contract.{ReadModelEnsures};
 use crate::LONGEST;
 use crate::Model;
 use crate::ModelRead;

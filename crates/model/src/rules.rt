@@ -81,7 +81,7 @@ fn states_right(n: usize, a: u32, masks: &[u16; 32], rows: &[[u16; 32]; 32]) -> 
 }
 
 // Whether row 4 does not apply to a record.
-pub(crate) fn fields_right(m: Model) -> bool
+pub fn fields_right(m: Model) -> bool
     ensures { λ r. ⌜ r ≡ fieldsRight m ⌝ }
 {
     let masks = m.masks;
@@ -119,7 +119,7 @@ fn rows_add_up(rows: [[u16; 32]; 32], n: usize, d: u32) -> bool
 }
 
 // Whether row 5 does not apply to a record.
-pub(crate) fn rows_right(m: Model) -> bool
+pub fn rows_right(m: Model) -> bool
     ensures { λ r. ⌜ r ≡ allAddUp m ⌝ }
 {
     let rows = matrix::rows_of(m.weights);

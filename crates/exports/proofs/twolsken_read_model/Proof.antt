@@ -18,7 +18,7 @@ returns c =
       answered = sym (ap numberIn e);
       head-left = sym (filled-refused e (headOf m) _);
       masks-left = sym (filled-refused e (m .masks) _);
-      rows-left = sym (filled-refused e (m .weights .rows) _);
+      weights-left = sym (filled-refused e (m .weights .rows) _);
     }
 
 returns-2 : tie.Need-returns-2
@@ -33,7 +33,7 @@ returns-2 c =
       answered = sym (ap numberIn e);
       head-left = sym (filled-given e (headOf m) _);
       masks-left = sym (filled-given e (m .masks) _);
-      rows-left = c .rows-of .ensures ∙ sym (filled-given e (m .weights .rows) _);
+      weights-left = c .rows-of .ensures ∙ sym (filled-given e (m .weights .rows) _);
     }
 
 pub twolsken-read-model-spec : {M : Type 1} → statement M

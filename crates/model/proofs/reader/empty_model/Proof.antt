@@ -2,7 +2,7 @@
 use borrow.Author.Needs.{needs}
 use lib.ListN.{replicate}
 use Rattle.counting.specs.Below.{table}
-use Rattle.model.specs.Contract.{emptyModel}
+use Rattle.model.specs.Layout.{emptyModel}
 use Rattle.model.proofs.reader.empty_model.Statement.{statement}
 use Rattle.model.proofs.reader.empty_model.Tie as tie
 

@@ -1,15 +1,15 @@
--- `model::writer::write_blocks` meets its contract: the blocks are written one after another.
+-- `model_writer::write_blocks` meets its contract: the blocks are written one after another.
 use borrow.Author.Needs.{needs}
 use Prim.Native.Nat.{_-_, _≤_}
 use mathlib.Core.Path.{_≡_, refl, _∙_}
 use native.Mathlib.Omega.{arith}
 use lib.ListN.{length}
 use Rattle.refusal.specs.Answers.{atFront}
 use Rattle.model.proofs.Written.{blocks-none, blocks-more}
 use Rattle.model.specs.declared.Model.{Model}
 use Rattle.model.specs.Layout.{modelOf, blocksBelow}
-use Rattle.model.proofs.writer.write_blocks.Statement.{statement}
-use Rattle.model.proofs.writer.write_blocks.Tie as tie
+use Rattle.model_writer.proofs.write_blocks.Statement.{statement}
+use Rattle.model_writer.proofs.write_blocks.Tie as tie
 
 abbrev Inv-loop : tie.InvT-loop
 Inv-loop n a d masks rows count out₀ i₀ out i =

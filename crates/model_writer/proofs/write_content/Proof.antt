@@ -1,11 +1,11 @@
--- `model::writer::write_content` meets its contract: the bytes are written from the front.
+-- `model_writer::write_content` meets its contract: the bytes are written from the front.
 use borrow.Author.Needs.{needs}
 use Prim.Native.Nat.{_-_}
 use native.Mathlib.Omega.{arith}
 use Rattle.counting.proofs.Laws.{Fronted, fronted-none, fronted-next, fronted-all}
 use Rattle.model.specs.Layout.{modelOf, contentByte}
-use Rattle.model.proofs.writer.write_content.Statement.{statement}
-use Rattle.model.proofs.writer.write_content.Tie as tie
+use Rattle.model_writer.proofs.write_content.Statement.{statement}
+use Rattle.model_writer.proofs.write_content.Tie as tie
 
 abbrev Inv-loop : tie.InvT-loop
 Inv-loop n a d masks rows i out₀ j₀ out j = Fronted 510 (contentByte (modelOf n a d masks rows) i) out₀ j out

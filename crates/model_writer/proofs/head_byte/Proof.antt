@@ -1,14 +1,14 @@
--- `model::writer::head_byte` meets its contract: the start byte by byte, then the masks.
+-- `model_writer::head_byte` meets its contract: the start byte by byte, then the masks.
 use borrow.Author.Needs.{needs}
 use Prim.Native.Nat.{ℕ, _+_, _≤_}
 use mathlib.Core.List.{[]}
 use mathlib.Core.Path.{_≡_, ap, sym, _∙_}
 use native.Mathlib.Omega.{arith}
 use Rattle.model.specs.declared.Model.{Model}
 use Rattle.model.specs.Layout.{headByte, modelOf}
 use Rattle.model.proofs.Standing.{head-rest}
-use Rattle.model.proofs.writer.head_byte.Statement.{statement}
-use Rattle.model.proofs.writer.head_byte.Tie as tie
+use Rattle.model_writer.proofs.head_byte.Statement.{statement}
+use Rattle.model_writer.proofs.head_byte.Tie as tie
 
 -- the model of the fields at hand
 abbrev fields : tie.Start → Model

@@ -1,4 +1,4 @@
--- `model::writer::write_model` meets its contract: the rows are tested in the order of their numbers, and nothing is written
+-- `model_writer::write_model` meets its contract: the rows are tested in the order of their numbers, and nothing is written
 -- before the last.
 use borrow.Author.Needs.{needs}
 use Prim.Native.Nat.{ℕ}
@@ -11,14 +11,14 @@ use lib.ListN.{length, length-map}
 use Rattle.refusal.specs.Answers.{atFront}
 use Rattle.refusal.specs.declared.Written.the-variants.{Wrote}
 use Rattle.refusal.proofs.Listed.{writes-refused, writes-done}
 use Rattle.model.specs.Layout.{modelOf, blocks, blocksBelow, fileOf}
 use Rattle.model.specs.Rules.{fieldsRight, allAddUp}
 use Rattle.model.specs.Contract.{recordNumber}
 use Rattle.model.proofs.Answer.{record-4, record-5, record-14, record-0, record-rows}
 use Rattle.model.proofs.Rightness.{states-few, labels-few}
 use Rattle.model.proofs.Written.{length-blocks}
-use Rattle.model.proofs.writer.write_model.Statement.{statement}
-use Rattle.model.proofs.writer.write_model.Tie as tie
+use Rattle.model_writer.proofs.write_model.Statement.{statement}
+use Rattle.model_writer.proofs.write_model.Tie as tie
 
 -- what the tests say of the record
 right : (c : tie.Else1) → fieldsRight (c .before .before .before .args .m) ≡ true

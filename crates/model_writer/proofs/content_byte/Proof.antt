@@ -1,13 +1,13 @@
--- `model::writer::content_byte` meets its contract: block 0 is the head.
+-- `model_writer::content_byte` meets its contract: block 0 is the head.
 use borrow.Author.Needs.{needs}
 use Prim.Native.Nat.{ℕ}
 use mathlib.Core.Path.{ap, sym, _∙_}
 use native.Mathlib.Omega.{arith}
 use Rattle.model.specs.declared.Model.{Model}
 use Rattle.model.specs.Layout.{modelOf, headByte, rowByte, contentByte}
 use Rattle.model.proofs.Standing.{content-head, content-row}
-use Rattle.model.proofs.writer.content_byte.Statement.{statement}
-use Rattle.model.proofs.writer.content_byte.Tie as tie
+use Rattle.model_writer.proofs.content_byte.Statement.{statement}
+use Rattle.model_writer.proofs.content_byte.Tie as tie
 
 -- the model of the fields at hand
 abbrev fields : tie.Start → Model

@@ -1,9 +1,9 @@
--- `model::writer::write_block` meets its contract: the content, then its check.
+-- `model_writer::write_block` meets its contract: the content, then its check.
 use borrow.Author.Needs.{needs}
 use Rattle.model.specs.Layout.{modelOf}
 use Rattle.model.proofs.Written.{block-written}
-use Rattle.model.proofs.writer.write_block.Statement.{statement}
-use Rattle.model.proofs.writer.write_block.Tie as tie
+use Rattle.model_writer.proofs.write_block.Statement.{statement}
+use Rattle.model_writer.proofs.write_block.Tie as tie
 
 returns : tie.Need-returns
 returns c =

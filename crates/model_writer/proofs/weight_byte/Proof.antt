@@ -1,13 +1,13 @@
--- `model::writer::weight_byte` meets its contract: a state that there is no room for has no weights.
+-- `model_writer::weight_byte` meets its contract: a state that there is no room for has no weights.
 use borrow.Author.Needs.{needs}
 use Prim.Native.Nat.{ℕ, _+_, _/_, _%_, _≤_}
 use mathlib.Core.List.{List, []}
 use mathlib.Core.Path.{ap, sym, _∙_}
 use native.Mathlib.Omega.{arith}
 use lib.ListN.{length, getD, List·getD-eq-default}
 use Rattle.model.specs.Layout.{byteOfTwo}
-use Rattle.model.proofs.writer.weight_byte.Statement.{statement}
-use Rattle.model.proofs.writer.weight_byte.Tie as tie
+use Rattle.model_writer.proofs.weight_byte.Statement.{statement}
+use Rattle.model_writer.proofs.weight_byte.Tie as tie
 
 returns-2 : tie.Need-returns-2
 returns-2 c =

@@ -1,12 +1,12 @@
--- `model::writer::mask_byte` meets its contract: a state that there is no room for has no mask.
+-- `model_writer::mask_byte` meets its contract: a state that there is no room for has no mask.
 use borrow.Author.Needs.{needs}
 use Prim.Native.Nat.{ℕ, _/_, _%_, _≤_}
 use mathlib.Core.Path.{ap, sym, _∙_}
 use native.Mathlib.Omega.{arith}
 use lib.ListN.{length, List·getD-eq-default}
 use Rattle.model.specs.Layout.{byteOfTwo}
-use Rattle.model.proofs.writer.mask_byte.Statement.{statement}
-use Rattle.model.proofs.writer.mask_byte.Tie as tie
+use Rattle.model_writer.proofs.mask_byte.Statement.{statement}
+use Rattle.model_writer.proofs.mask_byte.Tie as tie
 
 returns-2 : tie.Need-returns-2
 returns-2 c =

@@ -1,14 +1,14 @@
--- `model::writer::row_byte` meets its contract: two marks, then the rows, then zeros.
+-- `model_writer::row_byte` meets its contract: two marks, then the rows, then zeros.
 use borrow.Author.Needs.{needs}
 use Prim.Native.Nat.{_≤_}
 use mathlib.Core.List.{[]}
 use mathlib.Core.Path.{ap, sym, _∙_}
 use native.Mathlib.Omega.{arith}
 use Rattle.model.specs.declared.Model.{Model}
 use Rattle.model.specs.Layout.{rowByte, modelOf}
 use Rattle.model.proofs.Standing.{row-rest, row-end}
-use Rattle.model.proofs.writer.row_byte.Statement.{statement}
-use Rattle.model.proofs.writer.row_byte.Tie as tie
+use Rattle.model_writer.proofs.row_byte.Statement.{statement}
+use Rattle.model_writer.proofs.row_byte.Tie as tie
 
 -- the model of the rows at hand
 abbrev fields : tie.Start → Model
