@@ -22,6 +22,9 @@
  * twolsken_writer_refusal tells. Verdict returns TWOLSKEN_HOLDS or TWOLSKEN_FAILS, or the refusal's number:
  * twolsken_verdict_refusal tells.
  *
+ * Empty rows. A model of version 1 may have empty rows: the weights of a state are all zero. Readers and writers take them as
+ * they stand; verdict, numerator and merge read an empty row as weight D to the state itself.
+ *
  * An example that reads two files, asks and prints is include/ask.c.
  */
 #ifndef TWOLSKEN_H
@@ -62,9 +65,9 @@ enum twolsken_refusal {
     TWOLSKEN_REFUSAL_FILE_LENGTH = 2,
     /* some block's check is wrong */
     TWOLSKEN_REFUSAL_CHECK = 3,
-    /* a byte, a field or the number of blocks breaks the layout of the model file */
+    /* a byte, a field or the number of blocks breaks the layout of the model file; a version above 1 does */
     TWOLSKEN_REFUSAL_LAYOUT = 4,
-    /* the row of some state below N does not add up to D */
+    /* the row of some state below N does not add up to D, and is no empty row of version 1 */
     TWOLSKEN_REFUSAL_ROW_SUM = 5,
     /* a text that is not in the grammar or over TWOLSKEN_LONGEST_TEXT; a prefix and nodes that no such text spells, or a
      * count over TWOLSKEN_NODES */
@@ -129,19 +132,19 @@ enum twolsken_relation {
 };
 
 /*
- * Read model. Returns 0, with N, A and D in head, the label mask of each state in masks and the weight from state s to
- * state t in rows[s][t] (0 from N on); or a refusal of 2, 3, 4, 5.
+ * Read model. Returns 0, with N, A, D and the version (0 or 1) in head, in this order, the label mask of each state in masks
+ * and the weight from state s to state t in rows[s][t] (0 from N on), an empty row as it stands; or a refusal of 2, 3, 4, 5.
  */
-uint32_t twolsken_read_model(const uint8_t *file, size_t file_length, uint32_t head[3],
+uint32_t twolsken_read_model(const uint8_t *file, size_t file_length, uint32_t head[4],
                              uint16_t masks[TWOLSKEN_STATES],
                              uint16_t rows[TWOLSKEN_STATES][TWOLSKEN_STATES]);
 
 /*
- * Write model. Takes N, A and D in head, the masks and the rows as read model leaves them. rows is only read: it has no
- * const because C before C23 warns where an array without const is passed for one with it. Returns the length of the model's
- * file, which it wrote at the front of out; or TWOLSKEN_REFUSED plus 4, 5 or 14.
+ * Write model. Takes N, A, D and the version in head, the masks and the rows as read model leaves them. rows is only read: it
+ * has no const because C before C23 warns where an array without const is passed for one with it. Returns the length of the
+ * model's file, which it wrote at the front of out; or TWOLSKEN_REFUSED plus 4, 5 or 14.
  */
-uint64_t twolsken_write_model(const uint32_t head[3], const uint16_t masks[TWOLSKEN_STATES],
+uint64_t twolsken_write_model(const uint32_t head[4], const uint16_t masks[TWOLSKEN_STATES],
                               uint16_t rows[TWOLSKEN_STATES][TWOLSKEN_STATES], uint8_t *out,
                               size_t out_length);
 
@@ -166,7 +169,8 @@ uint64_t twolsken_write_sentence(uint64_t letters, uint64_t count,
 
 /*
  * Merge. grouping has one byte a state, the number of its group. Returns the length of the merged model's file, which it
- * wrote at the front of out; or TWOLSKEN_REFUSED plus 2, 3, 4, 5, 12, 13 or 14.
+ * wrote at the front of out; or TWOLSKEN_REFUSED plus 2, 3, 4, 5, 12, 13 or 14. The merged model has the version of the full
+ * one and no empty row: the grouping 0, 1, 2 and on gives back the filled file.
  */
 uint64_t twolsken_merge(const uint8_t *file, size_t file_length, const uint8_t *grouping,
                         size_t grouping_length, uint8_t *out, size_t out_length);

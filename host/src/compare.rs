@@ -15,6 +15,9 @@ mod merging;
 mod models;
 mod reach;
 mod sentences;
+#[cfg(test)]
+mod version_faults;
+mod versions;
 mod ways;
 
 use crate::inputs::Rng;
@@ -26,10 +29,11 @@ pub use examples::compare_examples;
 pub use meaning::{
     compare_extreme, compare_full, compare_numerator, compare_rooms, compare_row_15, compare_verdict, ROOMS,
 };
-pub use merging::{compare_kept, compare_merge};
+pub use merging::{compare_filled, compare_kept, compare_merge};
 pub use models::{compare_model_reader, compare_model_writer};
 pub use reach::Reach;
 pub use sentences::{compare_sentence_reader, compare_sentence_writer};
+pub use versions::{compare_empty_rows, compare_version_limits};
 pub use ways::compare_ways;
 
 /// Reading and writing model files. A refusal is its number, here and in every call below.
@@ -190,7 +194,7 @@ impl Display for Tally {
         if self.numerators > 0 {
             write!(f, "; {} numerators", self.numerators)?;
         }
-        Ok(())
+        self.reach.tell_versions(f)
     }
 }
 
@@ -325,5 +329,11 @@ mod tests {
     #[test]
     fn the_examples_hold_of_second() {
         compare_examples(&Second);
+        compare_empty_rows(&Second);
+    }
+
+    #[test]
+    fn the_limits_of_the_versions_hold_of_second() {
+        compare_version_limits(&Second);
     }
 }

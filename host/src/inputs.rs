@@ -1,6 +1,6 @@
 //! Seeded inputs for the comparisons: the same seed gives the same inputs.
 //!
-//! * [`model`]: models, their files, damaged files, records that break the layout.
+//! * [`model`]: models of both versions, their files, damaged files, records that break the layout.
 //! * [`sentence`]: sentences grown from the grammar, damaged texts, texts and
 //!   records at each limit.
 //! * [`question`]: pairs of a model and a sentence that suit one another.

@@ -39,18 +39,18 @@ fn written(answer: u64) -> Result<usize, u8> {
 
 impl Models for Proved {
     fn read_model(&self, file: &[u8]) -> Result<Model, u8> {
-        let before = ([MARK_32; 3], [MARK_16; 32], [[MARK_16; 32]; 32]);
+        let before = ([MARK_32; 4], [MARK_16; 32], [[MARK_16; 32]; 32]);
         let mut after = before;
         let (head, masks, rows) = (&mut after.0, &mut after.1, &mut after.2);
         // SAFETY: the slice goes with its own length, and the arrays have the lengths that the function writes.
         let answer = unsafe { raw::twolsken_read_model(file.as_ptr(), file.len(), head, masks, rows) };
         answered(answer, before, after)?;
-        let ([n, a, d], masks, weights) = after;
-        Ok(Model { n, a, d, masks, weights })
+        let ([n, a, d, version], masks, weights) = after;
+        Ok(Model { n, a, d, version, masks, weights })
     }
 
     fn write_model(&self, model: &Model, out: &mut [u8]) -> Result<usize, u8> {
-        let head = [model.n, model.a, model.d];
+        let head = [model.n, model.a, model.d, model.version];
         // SAFETY: the slice goes with its own length, and the arrays have the lengths that the function reads.
         written(unsafe {
             raw::twolsken_write_model(&head, &model.masks, &model.weights, out.as_mut_ptr(), out.len())

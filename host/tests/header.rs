@@ -108,7 +108,7 @@ fn defined(header: &str, name: &str) -> usize {
     word.parse().unwrap_or_else(|_| panic!("{name} is {word}"))
 }
 
-/// The sizes of the header are those of the Rust package.
+/// The sizes of the header are those of the Rust package, the numbers of a model's head among them.
 #[test]
 fn the_header_has_the_numbers_of_the_package() {
     let header = read_to_string(at("include/twolsken.h")).expect("the header");
@@ -122,6 +122,9 @@ fn the_header_has_the_numbers_of_the_package() {
     ] {
         assert_eq!(defined(&header, name), size, "{name}");
     }
+    let numbers = size_of::<twolsken::raw::ModelHead>() / size_of::<u32>();
+    assert_eq!(header.matches(&format!("uint32_t head[{numbers}]")).count(), 2, "a reader and a writer");
+    assert_eq!(header.matches("uint32_t head[").count(), 2, "no other head");
     let refusals: Vec<u64> = header
         .lines()
         .filter_map(|line| line.trim().strip_prefix("TWOLSKEN_REFUSAL_"))

@@ -8,6 +8,7 @@ fn the_reader_agrees_with_second() {
     let tally = compare_model_reader(&Proved, 130_000, 11);
     println!("{tally}");
     tally.require_each(14_000, &[2, 3, 4, 5]);
+    tally.reach.require_versions(1_500);
 }
 
 #[test]
@@ -15,4 +16,5 @@ fn the_writer_agrees_with_second() {
     let tally = compare_model_writer(&Proved, 80_000, 12);
     println!("{tally}");
     tally.require_each(2_500, &[4, 5, 14]);
+    tally.reach.require_versions(1_000);
 }

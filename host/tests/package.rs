@@ -36,8 +36,13 @@ impl Given {
 
 /// A model of the second program as one of the package.
 fn model_of(model: second::Model) -> twolsken::Model {
-    let second::Model { n, a, d, masks, weights } = model;
-    twolsken::Model { n, a, d, masks, weights }
+    let second::Model { n, a, d, version, masks, weights } = model;
+    twolsken::Model { n, a, d, version, masks, weights }
+}
+
+/// Whether some state of a model has an empty row.
+fn has_empty_row(model: &twolsken::Model) -> bool {
+    model.weights.iter().take(model.n as usize).any(|row| row.iter().all(|&weight| weight == 0))
 }
 
 /// A node of the second program as one of the package.
@@ -76,9 +81,12 @@ fn sentence_of(prefix: &[bool], list: &[Node]) -> twolsken::Sentence {
 #[test]
 fn models() {
     let (mut rng, mut read, mut written) = (Rng::new(81), Given::default(), Given::default());
+    let mut halted = 0;
     for _ in 0..CASES {
         let file = model::file(&mut rng);
-        read.agree(second::read_model(&file).map(model_of), twolsken::read_model(&file));
+        let got = twolsken::read_model(&file);
+        halted += usize::from(got.as_ref().is_ok_and(has_empty_row));
+        read.agree(second::read_model(&file).map(model_of), got);
         let record = model::record(&mut rng);
         let mut out = vec![7; rng.pick(&[1_024, 2_048, 3_072, 3_072])];
         let mut expected = out.clone();
@@ -86,6 +94,7 @@ fn models() {
         written.agree(answer, twolsken::write_model(&model_of(record), &mut out));
         assert_eq!(expected, out);
     }
+    assert!(halted >= CASES / 1_000, "{halted} models with an empty row");
     read.require(&[2, 3, 4, 5]);
     written.require(&[4, 5, 14]);
 }

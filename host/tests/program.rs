@@ -7,10 +7,11 @@ use std::process::{Command, Output};
 use std::thread::{sleep, spawn};
 use std::time::Duration;
 use twolsken_host::files::{at, samples, Folder};
-use twolsken_host::inputs::model::{file_of, model_with};
+use twolsken_host::inputs::model::{file_of, model_with, spelled};
 use twolsken_host::inputs::Rng;
 use twolsken_host::second::meaning::{verdict, WORK};
-use twolsken_host::second::model::examples::m1;
+use twolsken_host::second::model::examples::{halted, m1};
+use twolsken_host::second::Model;
 
 /// Puts a file into a folder, if there is to be one.
 fn put(folder: &Folder, name: &str, bytes: Option<&[u8]>) {
@@ -64,6 +65,24 @@ fn a_missing_file_is_empty() {
     agrees("no-sentence", Some(&file_of(&m1())), None);
     agrees("no-model", None, Some(b"A.T\n"));
     agrees("both-empty", Some(b""), Some(b""));
+}
+
+/// A model whose last row is empty, in each version and one above; a row that is neither empty nor right.
+#[test]
+fn models_of_both_versions() {
+    let mut damaged = halted();
+    damaged.weights[2][2] = 3;
+    for sentence in ["A.=PXTPU0,2:TT", "A.!&a1!=PXa1#1/1;", "A.<PU0,2:Ta1#1/1;"] {
+        for (name, model) in [
+            ("version-0", Model { version: 0, ..halted() }),
+            ("version-1", halted()),
+            ("version-1-filled", halted().filled()),
+            ("version-1-damaged", damaged.clone()),
+            ("version-2", Model { version: 2, ..halted() }),
+        ] {
+            agrees(name, Some(&spelled(&model)), Some(sentence.as_bytes()));
+        }
+    }
 }
 
 #[test]

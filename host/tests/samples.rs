@@ -4,7 +4,9 @@
 use std::fs::{read, read_to_string};
 use std::path::Path;
 use twolsken_host::files::{at, samples};
+use twolsken_host::inputs::model::file_of;
 use twolsken_host::second::meaning::{verdict, WORK};
+use twolsken_host::second::{read_model, Model};
 
 /// The verdict that a sample's README ends with.
 fn told(sample: &Path) -> String {
@@ -28,6 +30,26 @@ fn each_readme_tells_the_verdict() {
         said.push(holds);
     }
     assert!(said.contains(&true) && said.contains(&false), "both verdicts are shown");
+}
+
+/// The sentence on the halted car tells the filling: of the rows that could stand for the empty one, only that with weight
+/// D to the state itself has the verdict of the README.
+#[test]
+fn the_halted_car_stays_where_it_is() {
+    let [file, line] =
+        ["model.blk", "sentence.txt"].map(|name| read(at("samples/halted").join(name)).expect(name));
+    let text = line.strip_suffix(b"\n").expect("a newline at the end");
+    let model = read_model(&file).expect("a model");
+    assert_eq!((model.version, model.weights[2]), (1, [0; 32]));
+    for target in 0..3 {
+        let mut other = Model { version: 0, ..model.clone() };
+        other.weights[2][target] = 10;
+        assert_eq!(
+            verdict(&file_of(&other), text, &mut [0; WORK]),
+            Ok(target == 2),
+            "weight 10 to state {target}"
+        );
+    }
 }
 
 #[test]

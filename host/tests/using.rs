@@ -1,7 +1,9 @@
 //! The numbers that docs/USING.md tells are those of the library.
 
 use std::fs::{read, read_to_string};
-use twolsken::{numerator, verdict, Fraction, Model, Refusal, Verdict, WORK_AREA};
+use twolsken::{
+    merge, numerator, read_model, verdict, Fraction, Model, Refusal, Table, Verdict, LONGEST_FILE, WORK_AREA,
+};
 use twolsken_host::files::at;
 
 /// The page.
@@ -87,6 +89,54 @@ fn every_refusal_has_its_row() {
     let all: Vec<String> = Refusal::ALL.iter().map(|refusal| refusal.number().to_string()).collect();
     assert_eq!(numbers, all);
     assert!(rows.iter().all(|row| row.len() == 3 && row.iter().all(|cell| !cell.is_empty())));
+}
+
+/// The model file of a sample merged by a grouping is printed as the page prints it.
+#[test]
+fn the_merged_models() {
+    for (sample, grouping) in [("m2", [0, 1, 1]), ("halted", [0, 1, 2])] {
+        let file = read(at("samples").join(sample).join("model.blk")).expect(sample);
+        let mut out = [0; LONGEST_FILE];
+        let length = merge(&file, &grouping, &mut out).expect(sample);
+        let table = Table::of(read_model(&out[..length]).expect(sample)).to_string();
+        let printed: String = table.lines().map(|line| format!("    {line}\n")).collect();
+        let words = grouping.map(|group| group.to_string()).join(" ");
+        assert!(
+            page().contains(&format!("--example merge -- samples/{sample} {words}\n{printed}")),
+            "{printed}"
+        );
+    }
+}
+
+/// The lines of a table of version 1 are those of the sample that the page names.
+#[test]
+fn a_halted_state() {
+    let text = read_to_string(at("samples/halted/table.txt")).expect("a table");
+    let says: Vec<String> = rows("| Line | Says |").into_iter().map(|row| row[0].clone()).collect();
+    for line in ["version 1", "state halted (halted):"] {
+        assert!(text.lines().any(|other| other == line) && says.contains(&format!("`{line}`")), "{line}");
+    }
+    assert!(text.replace("version 1", "").parse::<Table>().is_err());
+}
+
+/// M1 with the bytes and the checks that the page tells for version 1.
+#[test]
+fn the_bytes_of_version_1() {
+    assert!(
+        page().contains("the head's check is then 43.") && page().contains("then the second check is 18.")
+    );
+    let mut file = read(at("samples/m1/model.blk")).expect("M1");
+    (file[3], file[510]) = (1, 43);
+    let mut model = read_model(&file).expect("M1 in version 1");
+    assert_eq!((model.version, model.weights[1][1]), (1, 4));
+    file[580] = 0;
+    file[1_022..].copy_from_slice(&[18, 0]);
+    model.weights[1][1] = 0;
+    assert_eq!(read_model(&file), Ok(model));
+    (file[3], file[510]) = (0, 39);
+    assert_eq!(read_model(&file), Err(Refusal::RowSum));
+    (file[3], file[510]) = (2, 47);
+    assert_eq!(read_model(&file), Err(Refusal::Layout));
 }
 
 #[test]

@@ -1,4 +1,5 @@
-//! Prints, as a table, FOLDER/model.blk merged by a grouping: for each state the number of its group.
+//! Prints, as a table, FOLDER/model.blk merged by a grouping: for each state the number of its group. An empty row of
+//! version 1 comes out filled.
 //!
 //!     cargo run --release --example merge -- FOLDER 0 1 1
 

@@ -1,4 +1,5 @@
-//! Prints FOLDER/model.blk as a table. The file has no names: states are s0, s1 and on, labels a, b and on.
+//! Prints FOLDER/model.blk as a table, with its rows as they stand in the file: an empty row of version 1 is empty. The
+//! file has no names: states are s0, s1 and on, labels a, b and on.
 //!
 //!     cargo run --release --example show_model -- FOLDER
 

@@ -13,7 +13,8 @@
 //!
 //! A call that refuses returns a [`Refusal`], and everything that was lent to it is as it was. Of the refusals
 //! that apply, the one with the smallest number is given. A question takes the model as its file and the
-//! sentence as its text. A [`Table`] is a model as a person types it.
+//! sentence as its text. A [`Table`] is a model as a person types it. In a [`Model`] of version 1 a halted state may
+//! have an empty row.
 //!
 //! ```
 //! use twolsken::{numerator, verdict, Fraction, Table, Verdict, WORK_AREA};
@@ -61,7 +62,7 @@ pub use table::{Table, TableError};
 pub const STATES: usize = 32;
 /// The most labels of a model.
 pub const LABELS: usize = 16;
-/// The greatest D, to which the weights of each state add up.
+/// The greatest D, to which each row that is not empty adds up.
 pub const GREATEST_D: u32 = 65_535;
 /// The most letters of a sentence's prefix.
 pub const LETTERS: usize = 4;

@@ -5,6 +5,9 @@ use crate::{raw, Refusal};
 /// Writes the file of the model merged by a grouping to the front of `out` and returns its length. Bytes past it
 /// are unchanged. `grouping` has one byte for each state, the number of its group, counted from 0.
 ///
+/// The merged model has the version of the full one. In version 1 an empty row counts, and is written, as weight D to
+/// the state itself: the grouping 0, 1, 2 and on gives back the filled file.
+///
 /// # Errors
 /// 2 to 5 as [`crate::read_model`]; 12, no grouping of the model's states; 13, two states of a group differ in
 /// labels or in weight into some group; 14, `out` is too short.
@@ -30,6 +33,20 @@ use crate::{raw, Refusal};
 ///
 /// // `start` and `one` differ in labels.
 /// assert_eq!(merge(&file, &[0, 0, 1], &mut out), Err(Refusal::NotAlike));
+///
+/// // `stopped` has an empty row, which comes back filled.
+/// let table: Table = "
+///     version 1
+///     D 4
+///     labels a
+///     state going:        going 3, stopped 1
+///     state stopped (a):
+/// "
+/// .parse()?;
+/// let length = merge(&table.model.to_file()?, &[0, 1], &mut out)?;
+/// let filled = read_model(&out[..length])?;
+/// assert_eq!(table.model.weights[1][..2], [0, 0]);
+/// assert_eq!((filled.version, &filled.weights[1][..2]), (1, &[0, 4][..]));
 /// # Ok::<(), Box<dyn std::error::Error>>(())
 /// ```
 pub fn merge(file: &[u8], grouping: &[u8], out: &mut [u8]) -> Result<usize, Refusal> {

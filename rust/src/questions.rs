@@ -37,9 +37,9 @@ impl Display for Fraction {
     }
 }
 
-/// Judges a sentence, given by its text, on a model, given by its file. `work` has at least
-/// [`crate::WORK_AREA`] numbers, with any contents: after an answer that many are zero and those past them
-/// unchanged.
+/// Judges a sentence, given by its text, on a model, given by its file. In version 1 an empty row counts as weight
+/// D to the state itself. `work` has at least [`crate::WORK_AREA`] numbers, with any contents: after an answer that
+/// many are zero and those past them unchanged.
 ///
 /// # Errors
 /// 1, `work` is too short; 2 to 5 as [`crate::read_model`]; 6 to 8 as [`crate::read_sentence`]; 9, a label that
@@ -82,8 +82,8 @@ pub fn verdict(file: &[u8], text: &[u8], work: &mut [u64]) -> Result<Verdict, Re
 }
 
 /// Returns the numerator and the denominator of a path formula at a tuple of states. `tuple` has one state for
-/// each letter of the prefix; `path` counts the path formulas from 0 in written order; `work` is as in
-/// [`verdict`].
+/// each letter of the prefix; `path` counts the path formulas from 0 in written order; `work` and empty rows are as
+/// in [`verdict`].
 ///
 /// # Errors
 /// 1 to 11 as [`verdict`]; 15, a tuple of another length, a member that is no state, no such path formula.

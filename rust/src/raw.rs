@@ -12,8 +12,8 @@ pub const HOLDS: u32 = 256;
 /// Verdict's answer where the sentence fails.
 pub const FAILS: u32 = 257;
 
-/// N, A and D of a model.
-pub type ModelHead = [u32; 3];
+/// N, A and D of a model, and the version of its file.
+pub type ModelHead = [u32; 4];
 /// The label mask of each state.
 pub type Masks = [u16; STATES];
 /// The weight from state s to state t in row s, column t.

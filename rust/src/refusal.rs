@@ -23,9 +23,9 @@ pub enum Refusal {
     FileLength = 2,
     /// Some block's check is wrong.
     Check = 3,
-    /// A byte, a field or the number of blocks breaks the layout of the model file.
+    /// A byte, a field or the number of blocks breaks the layout of the model file; a version above 1 does.
     Layout = 4,
-    /// The weights of some state do not add up to D.
+    /// The weights of some state do not add up to D, and are no empty row of version 1.
     RowSum = 5,
     /// The text is not in the grammar or too long; no text of the grammar spells the prefix and the nodes.
     Grammar = 6,
@@ -82,7 +82,7 @@ impl Refusal {
     /// What the number means, in words.
     ///
     /// ```
-    /// assert_eq!(twolsken::Refusal::RowSum.words(), "the weights of some state do not add up to D");
+    /// assert_eq!(twolsken::Refusal::TooManyNodes.words(), "the sentence has over 64 nodes");
     /// ```
     pub fn words(self) -> &'static str {
         match self {
@@ -90,7 +90,9 @@ impl Refusal {
             Refusal::FileLength => "the model file's length is not a multiple of 512 from 512 to 3072",
             Refusal::Check => "the check of some block of the model file is wrong",
             Refusal::Layout => "the model has a byte, a field or a number of blocks that breaks the layout",
-            Refusal::RowSum => "the weights of some state do not add up to D",
+            Refusal::RowSum => {
+                "the weights of some state do not add up to D, and are no empty row of version 1"
+            }
             Refusal::Grammar => "the sentence is not in the grammar, or its text is over 400 bytes long",
             Refusal::Range => "a constant, a window or a variable is out of its range",
             Refusal::TooManyNodes => "the sentence has over 64 nodes",

@@ -9,9 +9,10 @@ use std::fmt::{self, Display, Formatter};
 
 /// A model with a name for each state and each label.
 ///
-/// A table is a text of lines. Each begins with `D`, `labels` or `state`; empty lines and what follows a `#` are
-/// skipped. A state's line has its name, its labels in brackets, a colon, and each state that it goes to with
-/// the weight. The first label is letter `a` of a sentence, the next `b`; the first state is number 0.
+/// A table is a text of lines. Each begins with `version`, `D`, `labels` or `state`; empty lines and what follows a
+/// `#` are skipped. A state's line has its name, its labels in brackets, a colon, and each state that it goes to with
+/// the weight. The first label is letter `a` of a sentence, the next `b`; the first state is number 0. Without a
+/// version the table is of version 0; in one of version 1 a halted state goes nowhere, and has an empty row.
 ///
 /// ```
 /// use twolsken::Table;
@@ -30,6 +31,9 @@ use std::fmt::{self, Display, Formatter};
 ///
 /// let error = "D 10\nlabels a\nstate s0: s1 10".parse::<Table>().unwrap_err();
 /// assert_eq!(error.to_string(), "line 3, column 11: no state has the name `s1`");
+///
+/// let halted: Table = "version 1\nD 10\nlabels lost\nstate gone (lost):".parse()?;
+/// assert_eq!((halted.model.version, halted.model.weights[0]), (1, [0; 32]));
 /// # Ok::<(), twolsken::TableError>(())
 /// ```
 #[derive(Clone, Debug, PartialEq, Eq)]

@@ -50,11 +50,13 @@ fn told(folder: &Path, output: Output) -> String {
 #[test]
 fn make_model_writes_the_file_of_a_table() {
     let folder = Folder::new("make");
-    copy(sample("counter").join("table.txt"), folder.0.join("table.txt")).expect("a table");
-    printed(run("make_model", &folder.0, &[]));
-    let [made, shipped] =
-        [&folder.0, &sample("counter")].map(|at| read(at.join("model.blk")).expect("a file"));
-    assert_eq!(made, shipped);
+    for name in ["counter", "halted"] {
+        copy(sample(name).join("table.txt"), folder.0.join("table.txt")).expect("a table");
+        printed(run("make_model", &folder.0, &[]));
+        let [made, shipped] =
+            [&folder.0, &sample(name)].map(|at| read(at.join("model.blk")).expect("a file"));
+        assert_eq!(made, shipped, "{name}");
+    }
 }
 
 #[test]
@@ -65,6 +67,9 @@ fn make_model_says_what_is_wrong() {
     write(folder.0.join("table.txt"), "D 4\nlabels a\nstate s: s 3\n").expect("a table");
     let said = told(&folder.0, run("make_model", &folder.0, &[]));
     assert_eq!(said, "FOLDER/table.txt: line 3, column 7: the weights of `s` add up to 3, and D is 4\n");
+    write(folder.0.join("table.txt"), "version 2\nD 4\nlabels a\nstate s:\n").expect("a table");
+    let said = told(&folder.0, run("make_model", &folder.0, &[]));
+    assert_eq!(said, "FOLDER/table.txt: line 1, column 9: the version is a number from 0 to 1, not `2`\n");
     assert!(!folder.0.join("model.blk").exists());
 }
 
@@ -73,6 +78,9 @@ fn show_model_prints_a_table_of_the_same_model() {
     let shown: Table = printed(run("show_model", &sample("counter"), &[])).parse().expect("a table");
     let file = read(sample("counter").join("model.blk")).expect("a file");
     assert_eq!(shown.model, read_model(&file).expect("a model"));
+    let halted = printed(run("show_model", &sample("halted"), &[]));
+    let states = "state s0:     s0 7, s1 3\nstate s1:     s0 4, s2 6\nstate s2 (a):\n";
+    assert_eq!(halted, format!("version 1\nD 10\nlabels a\n{states}"));
     let folder = Folder::new("show");
     write(folder.0.join("model.blk"), [0; 512]).expect("a file");
     let said = told(&folder.0, run("show_model", &folder.0, &[]));
@@ -85,12 +93,18 @@ fn ask_prints_the_numbers_behind_a_verdict() {
     assert!(lines.starts_with("fails\npath formula 0 at [0, 0]: 1920000/100000000\n"), "{lines}");
     assert!(lines.contains("\npath formula 0 at [2, 0]: 10000000/100000000\n"), "{lines}");
     assert_eq!(lines.lines().count(), 1 + 2 * 25);
+    let lines = printed(run("ask", &sample("halted"), &[]));
+    let numbers = ["0]: 306/1000", "1]: 672/1000", "2]: 1000/1000"];
+    assert_eq!(lines, format!("holds\n{}", numbers.map(|at| format!("path formula 0 at [{at}\n")).concat()));
 }
 
 #[test]
 fn merge_prints_the_merged_model() {
     let merged = printed(run("merge", &sample("m2"), &["0", "1", "1"]));
     assert_eq!(merged, "D 4\nlabels a\nstate s0:     s0 2, s1 2\nstate s1 (a): s1 4\n");
+    let filled = printed(run("merge", &sample("halted"), &["0", "1", "2"]));
+    let states = "state s0:     s0 7, s1 3\nstate s1:     s0 4, s2 6\nstate s2 (a): s2 10\n";
+    assert_eq!(filled, format!("version 1\nD 10\nlabels a\n{states}"));
     let said = told(&sample("m2"), run("merge", &sample("m2"), &["0", "0", "1"]));
     assert!(said.starts_with("FOLDER: refused 13: "), "{said}");
 }

@@ -23,12 +23,13 @@ fn needs_exactly(length: usize, write: impl Fn(&mut [u8]) -> Result<usize, Refus
     }
 }
 
-/// A model of n states that each stay where they are, all alike but for the label of state 0.
-fn still(n: u32) -> Model {
-    let mut model = Model { n, a: 1, d: 3, ..Model::empty() };
+/// A model of n states that each stay where they are, all alike but for the label of state 0. In version 1 their rows are
+/// empty.
+fn still(n: u32, version: u32) -> Model {
+    let mut model = Model { n, a: 1, d: 3, version, ..Model::empty() };
     model.masks[0] = 1;
     for state in 0..n as usize {
-        model.weights[state][state] = 3;
+        model.weights[state][state] = if version == 0 { 3 } else { 0 };
     }
     model
 }
@@ -47,7 +48,9 @@ fn a_model_needs_512_bytes_for_its_head_and_for_each_seven_states() {
         (29, 3_072),
         (32, 3_072),
     ] {
-        needs_exactly(length, |out| write_model(&still(n), out));
+        for version in [0, 1] {
+            needs_exactly(length, |out| write_model(&still(n, version), out));
+        }
     }
 }
 
@@ -86,7 +89,9 @@ fn a_merged_model_needs_the_bytes_of_its_own_file() {
         (32, 29, 3_072),
         (32, 32, 3_072),
     ] {
-        let file = still(n).to_file().expect("a model");
-        needs_exactly(length, |out| merge(&file, &spread(n as u8, groups), out));
+        for version in [0, 1] {
+            let file = still(n, version).to_file().expect("a model");
+            needs_exactly(length, |out| merge(&file, &spread(n as u8, groups), out));
+        }
     }
 }

@@ -17,7 +17,10 @@ fn with(lines: &str) -> String {
 #[test]
 fn an_error_names_line_and_column() {
     for (text, expected) in [
-        ("stat s: s 1", "line 1, column 1: a line begins with `D`, `labels` or `state`, not with `stat`"),
+        (
+            "stat s: s 1",
+            "line 1, column 1: a line begins with `version`, `D`, `labels` or `state`, not with `stat`",
+        ),
         ("  D ten", "line 1, column 5: D is a number from 1 to 65535, not `ten`"),
         ("D", "line 1, column 2: D is a number from 1 to 65535, not the end of the line"),
         ("D 0", "line 1, column 3: D is a number from 1 to 65535, not `0`"),
@@ -68,6 +71,70 @@ fn an_error_names_line_and_column() {
     }
 }
 
+/// The error of a state's line that ends with its colon, in a table of version 0.
+const NOWHERE: &str = "the name of a state that it goes to is expected here, a letter and then letters, \
+                       digits, `-` or `_`; not the end of the line";
+
+#[test]
+fn an_error_of_the_version_names_line_and_column() {
+    for (text, expected) in [
+        ("version", "line 1, column 8: the version is a number from 0 to 1, not the end of the line"),
+        ("version 2", "line 1, column 9: the version is a number from 0 to 1, not `2`"),
+        ("D 4\n version one", "line 2, column 10: the version is a number from 0 to 1, not `one`"),
+        ("version -1", "line 1, column 9: the version is a number from 0 to 1, not `-1`"),
+        ("version: 1", "line 1, column 8: the version is a number from 0 to 1, not `:`"),
+        ("version 1 1", "line 1, column 11: nothing follows the number of the version in its line"),
+        ("version 1\nD 4\nversion 1", "line 3, column 1: the version was given before"),
+        ("version 0\nversion 1", "line 2, column 1: the version was given before"),
+        ("version 1\nD 4\nlabels a", "line 4, column 1: the table ends, and no line has given a state"),
+        // the version is read first: what is wrong with it is told before what is wrong above it
+        ("D 0\nversion 2", "line 2, column 9: the version is a number from 0 to 1, not `2`"),
+    ] {
+        assert_eq!(error(text), expected, "{text}");
+    }
+}
+
+#[test]
+fn a_state_that_goes_nowhere_needs_version_1() {
+    for (lines, line) in [
+        ("state s (lost):", 3),
+        ("version 0\nstate s (lost):", 4),
+        ("state s (lost):\nversion 0", 3),
+        ("state t: t 4\nstate s (lost): # no more", 4),
+    ] {
+        assert_eq!(error(&with(lines)), format!("line {line}, column 16: {NOWHERE}"), "{lines}");
+    }
+    for lines in [
+        "version 1\nstate s (lost):",
+        "state s (lost):\nversion 1",
+        "state s (lost) : # no more\n\n  version 1 # with empty rows",
+        "version 1\nstate s (lost): s 0",
+    ] {
+        let table: Table = with(lines).parse().expect(lines);
+        assert_eq!((table.model.version, table.model.n, table.model.masks[0]), (1, 1, 2), "{lines}");
+        assert_eq!(table.model.weights, [[0; 32]; 32], "{lines}");
+    }
+}
+
+#[test]
+fn version_1_allows_no_more_than_an_empty_row() {
+    for (lines, expected) in [
+        ("state s: s 3", "line 3, column 7: the weights of `s` add up to 3, and D is 4"),
+        ("state s: s 5", "line 3, column 7: the weights of `s` add up to 5, and D is 4"),
+        ("state s: s", "line 3, column 11: a weight is a number from 0 to 65535, not the end of the line"),
+        (
+            "state s",
+            "line 3, column 8: a colon is expected here, and then where the state goes; not the end of the \
+             line",
+        ),
+        ("state s: t 0", "line 3, column 10: no state has the name `t`"),
+    ] {
+        assert_eq!(error(&with(&format!("{lines}\nversion 1"))), expected, "{lines}");
+    }
+    let zero = with("state s: s 0");
+    assert_eq!(error(&zero), "line 3, column 7: the weights of `s` add up to 0, and D is 4");
+}
+
 #[test]
 fn an_error_between_lines_names_the_later_one() {
     for (lines, expected) in [
@@ -110,7 +177,7 @@ fn samples() -> Vec<PathBuf> {
     let root = PathBuf::from(env!("CARGO_MANIFEST_DIR")).join("../samples");
     let list = root.read_dir().expect("the samples").map(|entry| entry.expect("a sample").path());
     let list: Vec<PathBuf> = list.collect();
-    assert!(list.len() >= 5, "{list:?}");
+    assert!(list.len() >= 6, "{list:?}");
     list
 }
 
@@ -133,4 +200,22 @@ fn a_table_that_is_shown_gives_the_model_again() {
         let shown = Table::of(read_model(&file).expect("a model"));
         assert_eq!(shown.to_string().parse::<Table>().expect("a table"), shown, "{}", sample.display());
     }
+}
+
+/// A version 1 table begins with its version, and an empty row ends with the colon; a version 0 table has neither.
+#[test]
+fn a_table_is_shown_with_its_version() {
+    let first = "D 4\nlabels a\nstate s0 (a): s0 3, s1 1\n";
+    for shown in [
+        format!("{first}state s1:     s1 4\n"),
+        format!("version 1\n{first}state s1:     s1 4\n"),
+        format!("version 1\n{first}state s1:\n"),
+    ] {
+        let table: Table = shown.parse().expect("a table");
+        assert_eq!(table.to_string(), shown);
+        assert_eq!(Table::of(table.model.clone()), table);
+    }
+    let named = "version 0\nD 4\nlabels a\nstate s0: s0 4\n";
+    let table: Table = named.parse().expect("a table");
+    assert_eq!(table.to_string(), named.replace("version 0\n", ""));
 }

@@ -1,10 +1,10 @@
--- The chain of an accepted file: it is sound, N is 1..32 and D is at least 1.
+-- The chain of an accepted file: it is sound, N is 1..32 and D is 1..65,535.
 use Prim.Native.Nat.{ℕ, _≤_}
 use mathlib.Core.Bool.{true}
 use mathlib.Core.List.{List}
 use mathlib.Core.Path.{_≡_}
 use Rattle.model.specs.Layout.{fieldsOf}
-use Rattle.model.specs.Rules.{fieldsRight, allAddUp}
+use Rattle.model.specs.Rules.{fieldsRight, rowsRight}
 use Rattle.model.specs.Contract.{fileNumber}
 use Rattle.model.proofs.Rightness as right
 use Rattle.model.proofs.Theorems.{accepted}
@@ -17,8 +17,8 @@ module _ (file : List ℕ) (ok : fileNumber file ≡ 0) where
   pub fields-right : fieldsRight (fieldsOf file) ≡ true
   fields-right = right.laid-fields file (fieldsOf file) (accepted file ok .laid)
 
-  -- every state's row adds up to D
-  pub rows-right : allAddUp (fieldsOf file) ≡ true
+  -- every state's row adds up to D, or the state is halted
+  pub rows-right : rowsRight (fieldsOf file) ≡ true
   rows-right = accepted file ok .sums
 
   -- N is at least 1
@@ -32,6 +32,10 @@ module _ (file : List ℕ) (ok : fileNumber file ≡ 0) where
   -- D is at least 1
   pub total-some : 1 ≤ chainOf (fieldsOf file) .D
   total-some = right.total-some (fieldsOf file) fields-right
+
+  -- and at most 65,535
+  pub total-few : chainOf (fieldsOf file) .D ≤ 65535
+  total-few = right.total-few (fieldsOf file) fields-right
 
   -- so the chain is sound
   pub sound : Sound (chainOf (fieldsOf file))

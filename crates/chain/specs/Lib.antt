@@ -1,2 +1,3 @@
 -- The chain of a model.
 pub mod Of
+pub mod Working

@@ -1,4 +1,4 @@
--- Document 01's starred lines hold: the one statement over the one table. Assumes nothing.
+-- Document 01's starred lines hold: the one statement over the one table; and so does the example of T-05. Assumes nothing.
 use Prim.Native.Nat.{ℕ, _≤_}
 use Prim.Native.String.{String}
 use mathlib.Core.Bool.{Bool, true, false, _&&_, false≢true}
@@ -7,7 +7,8 @@ use mathlib.Core.Path.{_≡_, refl}
 use native.Mathlib.Omega.{arith}
 use lib.ListN.{length}
 use Rattle.counting.specs.Ascii.{ascii}
-use Rattle.counting.specs.Below.{table}
+use Rattle.counting.specs.Below.{sumBelow, everyBelow, table}
+use Rattle.model.specs.Rules.{fieldsRight, rowsRight}
 use Rattle.numerals.specs.Numeral.{digits, numberText}
 use Rattle.sentence.specs.declared.Kind.{Kind}
 use Rattle.sentence.specs.declared.Kind.the-variants.{State, Expression}
@@ -22,9 +23,10 @@ use Rattle.meaning.specs.Examples.{M1, M2, M2merged, sketched, sameChain, Line,
 use Rattle.meaning.proofs.Tests.{and-left, and-right}
 use Rattle.meaning.proofs.Examples.{examples as meant}
 use Rattle.trees.specs.Listed.{formulaNodes, expressionNodes}
+use Rattle.chain.specs.Of.{filledWeight}
 use Rattle.merge.specs.Examples.{modelOfSketch, MergeMet}
 use Rattle.merge.proofs.Examples.{examples as merged}
-use Rattle.demands.specs.Examples.{TextOf, SentenceText, Texted, modelOfLine, drawn, Met}
+use Rattle.demands.specs.Examples.{TextOf, SentenceText, Texted, modelOfLine, drawn, Met, M1halted, Halting}
 
 -- ---- the document's texts are those of the trees
 
@@ -90,15 +92,15 @@ texts =
 -- ---- the chains of the lines are those of the models
 
 drawn-M1 : drawn M1 ≡ true
-unfolding drawn sketched sameChain modelOfSketch M1 every below table
+unfolding drawn sketched sameChain modelOfSketch M1 every below table filledWeight
 drawn-M1 = refl
 
 drawn-M2 : drawn M2 ≡ true
-unfolding drawn sketched sameChain modelOfSketch M2 every below table
+unfolding drawn sketched sameChain modelOfSketch M2 every below table filledWeight
 drawn-M2 = refl
 
 drawn-merged : drawn M2merged ≡ true
-unfolding drawn sketched sameChain modelOfSketch M2merged every below table
+unfolding drawn sketched sameChain modelOfSketch M2merged every below table filledWeight
 drawn-merged = refl
 
 models : Each (λ (l : Line). drawn (modelOfLine l) ≡ true) (length lines) lines
@@ -123,3 +125,9 @@ together (x ∷ xs) e (further t ts) (further m ms) (further d ds) =
 -- every line marked * agrees with the definitions
 pub examples : Each Met (length lines) lines
 examples = together lines meant texts merged models
+
+-- ---- T-05
+
+pub halting : Halting
+unfolding M1halted modelOfSketch fieldsRight rowsRight everyBelow sumBelow table filledWeight sameChain sketched M1 every below
+halting = record { right = refl; chain = refl; row-5 = refl; row-4 = refl }

@@ -111,13 +111,14 @@ unfolding codeOf
 wrote-so (Wrote k) e less = ap Wrote (sym e)
 wrote-so (Refused n) e less = absurd (omega arith)
 
--- a head of three numbers
-three : (l : List ℕ) → length l ≡ 3 → getD l 0 0 ∷ getD l 1 0 ∷ getD l 2 0 ∷ [] ≡ l
-three [] e = absurd (omega arith)
-three (a ∷ []) e = absurd (omega arith)
-three (a ∷ b ∷ []) e = absurd (omega arith)
-three (a ∷ b ∷ c ∷ []) e = refl
-three (a ∷ b ∷ c ∷ d ∷ l) e = absurd (omega arith)
+-- a head of four numbers
+four : (l : List ℕ) → length l ≡ 4 → getD l 0 0 ∷ getD l 1 0 ∷ getD l 2 0 ∷ getD l 3 0 ∷ [] ≡ l
+four [] e = absurd (omega arith)
+four (a ∷ []) e = absurd (omega arith)
+four (a ∷ b ∷ []) e = absurd (omega arith)
+four (a ∷ b ∷ c ∷ []) e = absurd (omega arith)
+four (a ∷ b ∷ c ∷ d ∷ []) e = refl
+four (a ∷ b ∷ c ∷ d ∷ e ∷ l) p = absurd (omega arith)
 
 -- ---- the round trips
 
@@ -144,7 +145,7 @@ text-back {before = before} {after} {r = r} x room writes =
     let told = round-trips .texts (x .answer) done room (w .ensures) in
     (w .coded ∙ ap codeOf (told .0), told .1)
 
-model-back : {head masks before after h m h′ m′ : List ℕ} {rows w w′ : List (List ℕ)} {size r : ℕ} → length head ≡ 3 →
+model-back : {head masks before after h m h′ m′ : List ℕ} {rows w w′ : List (List ℕ)} {size r : ℕ} → length head ≡ 4 →
     Shaped (modelOfParts head masks rows) → ExportedWriteModel (modelOfParts head masks rows) before after size → size < 4294967296 →
     ExportedReadModel (take size after) h m w h′ m′ w′ r → (r ≡ 0) × (h′ ≡ head) × (m′ ≡ masks) × (w′ ≡ rows)
 model-back {head} {masks} {before} {after} {rows = rows} {size = size} long shaped x less y =
@@ -154,7 +155,7 @@ model-back {head} {masks} {before} {after} {rows = rows} {size = size} long shap
     let read = round-trips .models shaped writes (y .answer) in
     let parts = model-parts y (ap (λ (z : ModelRead). z .outcome) read) in (
       y .answered ∙ ap (λ (z : ModelRead). numberIn (replyOf (z .outcome))) read,
-      parts .0 ∙ ap (λ (z : ModelRead). headOf (z .model)) read ∙ three head long,
+      parts .0 ∙ ap (λ (z : ModelRead). headOf (z .model)) read ∙ four head long,
       parts .1 ∙ ap (λ (z : ModelRead). z .model .masks) read,
       parts .2 ∙ ap (λ (z : ModelRead). z .model .weights .rows) read,
     )

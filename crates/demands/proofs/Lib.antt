@@ -6,4 +6,5 @@ pub mod RoundTrips
 pub mod Exported
 pub mod Differing
 pub mod Demand3
+pub mod Filling
 pub mod Examples

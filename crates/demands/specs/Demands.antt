@@ -1,6 +1,6 @@
 -- The three demands of document 00, said of whatever the calls' contracts allow: of every reply, and of all that is left.
 use Prim.Native.Nat.{ℕ, _≤_, _<_}
-use mathlib.Core.Bool.{Bool, cond}
+use mathlib.Core.Bool.{Bool, false, cond}
 use mathlib.Core.List.{List, [], _∷_, map, List·Memᴰ}
 use mathlib.Core.Logic.{_↔_}
 use mathlib.Core.Path.{_≡_}
@@ -14,6 +14,7 @@ use Rattle.refusal.specs.Answers.{Reply, gives, refuses, replyOf, replyOfWritte
 use Rattle.model.specs.declared.Model.{Model}
 use Rattle.model.specs.declared.ModelRead.{ModelRead}
 use Rattle.model.specs.Layout.{Shaped, fieldsOf, emptyModel}
+use Rattle.model.specs.Rules.{halted}
 use Rattle.model.specs.Contract.{fileRows, fileNumber, ReadModelEnsures, recordRows, WriteModelEnsures}
 use Rattle.sentence.specs.declared.Sentence.{Sentence}
 use Rattle.sentence_reader.specs.declared.SentenceRead.{SentenceRead}
@@ -25,13 +26,13 @@ use Rattle.meaning.specs.Chain.{Chain, Tuple, Inside, Run, runWeight}
 use Rattle.meaning.specs.Tree.{probability, PathFormula, next, until, letterOf}
 use Rattle.meaning.specs.Meaning.{nextTakes, untilTakes, holds, value, verdict}
 use Rattle.meaning.specs.Merging.{weightInto, Grouping}
-use Rattle.chain.specs.Of.{chainOf}
+use Rattle.chain.specs.Of.{chainOf, filledFile}
 use Rattle.question.specs.Contract.{QuestionRow, SentenceOf, areaSize}
 use Rattle.verdict.specs.declared.Answer as Judged
 use Rattle.verdict.specs.Contract.{VerdictEnsures, verdictReply}
 use Rattle.numerator.specs.declared.Answer as Counted
 use Rattle.numerator.specs.Contract.{NumeratorRow, NumeratorEnsures, numbered, numeratorReply}
-use Rattle.merge.specs.Groups.{groupOf, mergedModel}
+use Rattle.merge.specs.Groups.{groupOf, eachAlone, mergedModel}
 use Rattle.merge.specs.Contract.{mergeRows, mergedFile, MergeEnsures}
 use Rattle.codes.specs.Codes.{sentenceOf}
 use Rattle.exports.specs.Models.{modelOfParts, ExportedReadModel, ExportedWriteModel}
@@ -159,7 +160,7 @@ pub record ExportedRoundTrips : Type 0 where
       ExportedWriteSentence (sentenceOf (getD head′ 0 0) (getD head′ 1 0) exists′ codes′) before after r →
       (r ≡ length text) × (after ≡ atFront text before)
   -- and reading what was written leaves the same head, masks and weights, of three parts as their types have them,
-  pub models : {head masks before after h m h′ m′ : List ℕ} {weights w w′ : List (List ℕ)} {size r : ℕ} → length head ≡ 3 →
+  pub models : {head masks before after h m h′ m′ : List ℕ} {weights w w′ : List (List ℕ)} {size r : ℕ} → length head ≡ 4 →
       Shaped (modelOfParts head masks weights) → ExportedWriteModel (modelOfParts head masks weights) before after size
       → size < 4294967296 →
       ExportedReadModel (take size after) h m w h′ m′ w′ r → (r ≡ 0) × (h′ ≡ head) × (m′ ≡ masks) × (w′ ≡ weights)
@@ -224,3 +225,21 @@ pub record Demand3 : Type 0 where
   pub written : (file grouping : List ℕ) (M : ℕ) {before after : List ℕ} {w : Written} → MergeAsked file grouping M (length before) →
       MergeEnsures file grouping before after w →
       (Differ (chainIn file) (groupOf grouping) M → ⊥) → MergedWritten file grouping w after
+
+-- ---- T-05
+
+-- Of whatever merge answers and leaves, and of the filled file:
+pub record EmptyRows : Type 0 where
+  -- Merging keeps the version
+  pub version : (file grouping : List ℕ) {before after : List ℕ} {size : ℕ} → MergeEnsures file grouping before after (Wrote size) →
+      fieldsOf (take size after) .version ≡ fieldsOf file .version
+  -- and writes filled rows: no state of the merged file is halted.
+  pub filled : (file grouping : List ℕ) {before after : List ℕ} {size : ℕ} → MergeEnsures file grouping before after (Wrote size) →
+      (s : ℕ) → halted (fieldsOf (take size after)) s ≡ false
+  -- So grouping 0, 1, 2 and on gives back the filled file, where the output has room for it;
+  pub back : (file : List ℕ) {before after : List ℕ} {w : Written} → fileNumber file ≡ 0 → length file ≤ length before →
+      MergeEnsures file (eachAlone (fieldsOf file .n)) before after w →
+      (w ≡ Wrote (length file)) × (after ≡ atFront (filledFile file) before)
+  -- in version 0, and wherever no state is halted, that is the same file.
+  pub version-0 : (file : List ℕ) → fileNumber file ≡ 0 → fieldsOf file .version ≡ 0 → filledFile file ≡ file
+  pub none-halted : (file : List ℕ) → fileNumber file ≡ 0 → ((s : ℕ) → halted (fieldsOf file) s ≡ false) → filledFile file ≡ file

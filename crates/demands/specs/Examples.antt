@@ -1,17 +1,21 @@
--- Document 01, 'Examples on both sides': all that a starred line claims. The table of the lines is specs/Examples of the crate
--- `meaning`. A line's numbers and verdicts are claims on the definitions of `meaning`, its text is that of the tree, what it says of
--- merging holds of files (`merge`), and the chain that it speaks of is that of the model's file.
+-- Document 01, 'Examples on both sides': all that a starred line claims; and an example of T-05. The table of the lines is specs/Examples
+-- of the crate `meaning`. A line's numbers and verdicts are claims on the definitions of `meaning`, its text is that of the tree, what it
+-- says of merging holds of files (`merge`), and the chain that it speaks of is that of the model's file.
 use Prim.Native.String.{String}
-use mathlib.Core.Bool.{Bool, true}
+use Prim.Native.Nat.{ℕ}
+use mathlib.Core.Bool.{Bool, true, false, _&&_}
 use mathlib.Core.List.{List, [], _∷_, map}
 use mathlib.Core.Path.{_≡_}
 use Rattle.counting.specs.Ascii.{ascii}
+use Rattle.model.specs.declared.Model.{Model}
+use Rattle.model.specs.Layout.{modelOf}
+use Rattle.model.specs.Rules.{fieldsRight, rowsRight}
 use Rattle.sentence.specs.declared.Kind.{Kind}
 use Rattle.sentence.specs.declared.Kind.the-variants.{Expression}
 use Rattle.sentence.specs.declared.Node.{Node}
 use Rattle.sentence.specs.Grammar.{Nests, bodyText}
 use Rattle.meaning.specs.Tree.{Letter, Formula, probability, letterOf}
-use Rattle.meaning.specs.Examples.{Sketch, sketched, sameChain, Line, fraction, worth, answer, merges, refusedWith, met}
+use Rattle.meaning.specs.Examples.{Sketch, M1, sketched, sameChain, Line, fraction, worth, answer, merges, refusedWith, met}
 use Rattle.trees.specs.Listed.{expressionNodes}
 use Rattle.question.specs.Contract.{SentenceOf}
 use Rattle.chain.specs.Of.{chainOf}
@@ -54,3 +58,18 @@ pub record Met (line : Line) : Type 0 where
   pub texted : Texted line
   pub merging : MergeMet line
   pub model : drawn (modelOfLine line) ≡ true
+
+-- ---- T-05, by M1 with the row of state 1 left empty
+
+-- M1 so, in a version
+unfoldable pub M1halted : ℕ → Model
+M1halted version =
+    let m = modelOfSketch (record { D = 4; masks = 0 ∷ 1 ∷ []; rows = (3 ∷ 1 ∷ []) ∷ (0 ∷ 0 ∷ []) ∷ [] }) in
+    modelOf (m .n) (m .a) (m .d) version (m .masks) (m .weights .rows)
+
+-- in version 1 neither row 4 nor row 5 applies, and the chain is that of M1; in version 0 row 5 applies, in version 2 row 4
+pub record Halting : Type 0 where
+  pub right : (fieldsRight (M1halted 1) && rowsRight (M1halted 1)) ≡ true
+  pub chain : sameChain (chainOf (M1halted 1)) (sketched M1) ≡ true
+  pub row-5 : (fieldsRight (M1halted 0) && rowsRight (M1halted 0)) ≡ false
+  pub row-4 : fieldsRight (M1halted 2) ≡ false

@@ -12,9 +12,9 @@ use Rattle.model.specs.Contract.{ReadModelEnsures, WriteModelEnsures}
 use Rattle.codes.specs.Codes.{Coded, codeOf}
 use Rattle.merge.specs.Contract.{MergeEnsures}
 
--- N, A and D, in this order
+-- N, A, D and the version, in this order
 abbrev pub headOf : Model → List ℕ
-headOf m = m .n ∷ m .a ∷ m .d ∷ []
+headOf m = m .n ∷ m .a ∷ m .d ∷ m .version ∷ []
 
 -- read model, exported: the number of what read model answers, and the three parts of the model
 pub record ExportedReadModel (file : List ℕ) (head masks : List ℕ) (weights : List (List ℕ)) (head′ masks′ : List ℕ)
@@ -27,9 +27,9 @@ pub record ExportedReadModel (file : List ℕ) (head masks : List ℕ) (weights 
   pub masks-left : masks′ ≡ filled (replyOf (read .outcome)) (read .model .masks) masks
   pub weights-left : weights′ ≡ filled (replyOf (read .outcome)) (read .model .weights .rows) weights
 
--- the model that the three parts stand for: N, A and D in this order, the masks and the weights
+-- the model that the three parts stand for: N, A, D and the version in this order, the masks and the weights
 abbrev pub modelOfParts : (head masks : List ℕ) → List (List ℕ) → Model
-modelOfParts head = modelOf (getD head 0 0) (getD head 1 0) (getD head 2 0)
+modelOfParts head = modelOf (getD head 0 0) (getD head 1 0) (getD head 2 0) (getD head 3 0)
 
 -- write model, exported
 abbrev pub ExportedWriteModel : Model → (before after : List ℕ) → ℕ → Type 0

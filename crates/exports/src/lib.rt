@@ -10,12 +10,12 @@ use model::Model;
 use model::matrix;
 use refusal::Outcome;
 
-// Read model: returns 0 and leaves the model in the three lent parts (N, A and D; the masks; the weights), or returns the
-// refusal's number and leaves the lent memory unchanged.
+// Read model: returns 0 and leaves the model in the three lent parts (N, A, D and the version; the masks; the weights), or returns
+// the refusal's number and leaves the lent memory unchanged.
 #[no_mangle]
 pub extern "C" fn twolsken_read_model(
     file: &[u8],
-    head: &mut [u32; 3],
+    head: &mut [u32; 4],
     masks: &mut [u16; 32],
     rows: &mut [[u16; 32]; 32],
 ) -> u32
@@ -29,7 +29,7 @@ pub extern "C" fn twolsken_read_model(
         Outcome::Done => {
             let m = read.model;
             let lent = m.masks;
-            *head = [m.n, m.a, m.d];
+            *head = [m.n, m.a, m.d, m.version];
             *masks = lent;
             *rows = matrix::rows_of(m.weights);
             0
@@ -37,11 +37,11 @@ pub extern "C" fn twolsken_read_model(
     }
 }
 
-// Write model, of the three parts that read model leaves (N, A and D; the masks; the weights): returns the number of bytes
+// Write model, of the three parts that read model leaves (N, A, D and the version; the masks; the weights): returns the number of bytes
 // written at the front of the output, or 2^32 plus the refusal's number, with the output unchanged.
 #[no_mangle]
 pub extern "C" fn twolsken_write_model(
-    head: &[u32; 3],
+    head: &[u32; 4],
     masks: &[u16; 32],
     rows: &[[u16; 32]; 32],
     out: &mut [u8],
@@ -53,6 +53,7 @@ pub extern "C" fn twolsken_write_model(
         n: head[0],
         a: head[1],
         d: head[2],
+        version: head[3],
         masks: *masks,
         weights: matrix::holding(*rows),
     };

@@ -10,10 +10,11 @@ use Rattle.counting.proofs.Laws.{length-table, table-at}
 use Rattle.refusal.specs.Rows.{first}
 use Rattle.model.specs.declared.Model.{Model}
 use Rattle.model.specs.Layout.{Shaped, fileOf}
-use Rattle.model.specs.Rules.{fieldsRight, allAddUp}
+use Rattle.model.specs.Rules.{fieldsRight, rowsRight}
 use Rattle.model.proofs.Roundtrip.{fields-written, file-written}
 use Rattle.meaning.specs.Lists.{below, thereIs, total, Each, nothing, further}
 use Rattle.meaning.specs.Merging.{weightInto, member}
+use Rattle.chain.specs.Of.{filledWeight}
 use Rattle.merge.specs.Groups.{overAll, groupingRight, groupsAlike, mergedModel}
 use Rattle.merge.specs.Contract.{groupRows, mergeNumber, mergedFile}
 use Rattle.meaning.specs.Examples.{Sketch, M2, M2merged, merges, lines}
@@ -23,7 +24,7 @@ use Rattle.merge.proofs.Shape.{shaped}
 
 -- ---- merging the file of a record is merging the record
 
-module _ (m : Model) (fields : fieldsRight m ≡ true) (adds : allAddUp m ≡ true) (long : Shaped m) (grouping : List ℕ) where
+module _ (m : Model) (fields : fieldsRight m ≡ true) (adds : rowsRight m ≡ true) (long : Shaped m) (grouping : List ℕ) where
   number-of : (room : ℕ) → mergeNumber (fileOf m) grouping room ≡ first (groupRows m grouping room)
   number-of room =
       file-accepted (fileOf m) grouping room (file-written m fields adds long) ∙
@@ -45,8 +46,8 @@ fields-modelM2 : fieldsRight modelM2 ≡ true
 unfolding modelOfSketch M2 fieldsRight everyBelow table
 fields-modelM2 = refl
 
-adds-modelM2 : allAddUp modelM2 ≡ true
-unfolding modelOfSketch M2 allAddUp everyBelow table sumBelow
+adds-modelM2 : rowsRight modelM2 ≡ true
+unfolding modelOfSketch M2 rowsRight everyBelow table sumBelow
 adds-modelM2 = refl
 
 long-modelM2 : Shaped modelM2
@@ -61,7 +62,7 @@ unfolding modelOfSketch M2 groupingRight everyBelow overAll thereIs below
 grouped-0-1-1 = refl
 
 alike-0-1-1 : groupsAlike modelM2 (0 ∷ 1 ∷ 1 ∷ []) ≡ true
-unfolding modelOfSketch M2 groupsAlike everyBelow overAll table weightInto total below
+unfolding modelOfSketch M2 groupsAlike everyBelow overAll table weightInto total below filledWeight
 alike-0-1-1 = refl
 
 grouped-0-0-1 : groupingRight (modelM2 .n) (0 ∷ 0 ∷ 1 ∷ []) ≡ true
@@ -69,7 +70,7 @@ unfolding modelOfSketch M2 groupingRight everyBelow overAll thereIs below
 grouped-0-0-1 = refl
 
 unlike-0-0-1 : groupsAlike modelM2 (0 ∷ 0 ∷ 1 ∷ []) ≡ false
-unfolding modelOfSketch M2 groupsAlike everyBelow overAll table weightInto total below
+unfolding modelOfSketch M2 groupsAlike everyBelow overAll table weightInto total below filledWeight
 unlike-0-0-1 = refl
 
 unused-0-2-2 : groupingRight (modelM2 .n) (0 ∷ 2 ∷ 2 ∷ []) ≡ false
@@ -81,16 +82,16 @@ unfolding modelOfSketch M2 groupingRight everyBelow overAll thereIs below
 grouped-0-1-2 = refl
 
 alike-0-1-2 : groupsAlike modelM2 (0 ∷ 1 ∷ 2 ∷ []) ≡ true
-unfolding modelOfSketch M2 groupsAlike everyBelow overAll table weightInto total below
+unfolding modelOfSketch M2 groupsAlike everyBelow overAll table weightInto total below filledWeight
 alike-0-1-2 = refl
 
 -- what the two merge to
 merged-0-1-1 : mergedModel modelM2 (0 ∷ 1 ∷ 1 ∷ []) ≡ modelM2merged
-unfolding mergedModel modelOfSketch M2 M2merged table weightInto member below total overAll
+unfolding mergedModel modelOfSketch M2 M2merged everyBelow table weightInto member below total overAll filledWeight
 merged-0-1-1 = refl
 
 merged-0-1-2 : mergedModel modelM2 (0 ∷ 1 ∷ 2 ∷ []) ≡ modelM2
-unfolding mergedModel modelOfSketch M2 table weightInto member below total overAll
+unfolding mergedModel modelOfSketch M2 everyBelow table weightInto member below total overAll filledWeight
 merged-0-1-2 = refl
 
 -- a claim from the facts of the record

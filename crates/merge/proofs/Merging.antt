@@ -13,13 +13,14 @@ use Rattle.counting.specs.Below.{sumBelow, everyBelow, table}
 use Rattle.counting.proofs.Laws.{table-at, every-all, and-true}
 use Rattle.model.specs.declared.Model.{Model}
 use Rattle.model.specs.Layout.{maskOf, weightOf}
-use Rattle.model.specs.Rules.{numbersRight, maskRight, weightRight, fieldsRight, addsUp, allAddUp}
-use Rattle.meaning.specs.Chain.{Sound}
+use Rattle.model.specs.Rules.{numbersRight, maskRight, weightRight, fieldsRight, addsUp, halted, rowsRight}
+use Rattle.meaning.specs.Chain.{Chain, Sound}
 use Rattle.meaning.specs.Merging.{weightInto, Merged}
 use Rattle.meaning.proofs.Merging.{sound-merged}
-use Rattle.chain.specs.Of.{bit, chainOf}
+use Rattle.chain.specs.Of.{bit, filledWeight, chainOf}
 use Rattle.meaning.proofs.Sums.{total-sum}
 use Rattle.chain.proofs.Totals.{sum-first}
+use Rattle.chain.proofs.Filling.{filled-other, weighed-goes, past-goes}
 use Rattle.model.proofs.Rightness as right
 use Rattle.chain.proofs.Right as chain
 use Rattle.merge.specs.Groups.{groupOf, groupCount, memberOf, groupingRight, groupsAlike, mergedModel}
@@ -93,10 +94,19 @@ module _ (m : Model) (grouping : List ℕ) (fields : fieldsRight m ≡ true) (gr
   -- ---- it is a merged chain
 
   module _ (alike : groupsAlike m grouping ≡ true) where
-    -- the model of the groups describes a merged chain of the model's chain
-    pub merged-chain : Merged (chainOf m) (groupOf grouping) (chainOf (mergedModel m grouping))
-    unfolding mergedModel
-    merged-chain =
+    -- the chain of the merged model's rows as they stand
+    abbrev standing : Chain
+    standing =
+        record {
+          N = groupCount grouping;
+          D = m .d;
+          weight = weightOf (mergedModel m grouping);
+          label = λ l g. bit l (maskOf (mergedModel m grouping) g);
+        }
+
+    -- it is a merged chain of the model's chain
+    merged-standing : Merged (chainOf m) (groupOf grouping) standing
+    merged-standing =
         let group = groupOf grouping in
         let is = grouping-is (chainOf m) grouping grouped in
         let a = alike-is m grouping alike in
@@ -117,43 +127,76 @@ module _ (m : Model) (grouping : List ℕ) (fields : fieldsRight m ≡ true) (gr
               a .weights (memberOf (m .n) grouping (group s)) s (first .0) l (first .1) h k;
         }
 
-    -- its rows add up to D, over all 32 columns
-    pub rows-merged : allAddUp m ≡ true → allAddUp (mergedModel m grouping) ≡ true
-    unfolding allAddUp Sound mergedModel
-    rows-merged adds =
-        every-all 32 (λ s. leb (mergedModel m grouping .n) s || addsUp (mergedModel m grouping) s)
-        (λ s l. row s l (decLt s (mergedModel m grouping .n)))
-      where
-        columns : (s : ℕ) → s < 32 → s < mergedModel m grouping .n →
-            sumBelow 32 (weightOf (mergedModel m grouping) s) ≡ mergedModel m grouping .d
-        columns s l k =
-            sum-first (groupCount grouping) 32 (weightOf (mergedModel m grouping) s) few
-            (λ t past small.
-            weight-out m grouping s t l small
-            (not-either (ltb s (groupCount grouping)) (ltb t (groupCount grouping)) (le-ltb t (groupCount grouping) past))) ∙
-            sym (total-sum (groupCount grouping) (weightOf (mergedModel m grouping) s)) ∙
-            sound-merged (chainOf m) (groupOf grouping) (chainOf (mergedModel m grouping)) merged-chain
-            (chain.sound-right m fields adds) s k
+    module _ (adds : rowsRight m ≡ true) where
+      -- its rows add up to D, over all 32 columns,
+      columns : (g : ℕ) → g < groupCount grouping → sumBelow 32 (weightOf (mergedModel m grouping) g) ≡ m .d
+      unfolding Sound
+      columns g k =
+          let small = few in
+          sum-first (groupCount grouping) 32 (weightOf (mergedModel m grouping) g) few
+          (λ h past low.
+          weight-out m grouping g h (omega arith) low
+          (not-either (ltb g (groupCount grouping)) (ltb h (groupCount grouping)) (le-ltb h (groupCount grouping) past))) ∙
+          sym (total-sum (groupCount grouping) (weightOf (mergedModel m grouping) g)) ∙
+          sound-merged (chainOf m) (groupOf grouping) standing merged-standing (chain.sound-right m fields adds) g k
 
-        row : (s : ℕ) → s < 32 → Dec (s < mergedModel m grouping .n) →
-            (leb (mergedModel m grouping .n) s || addsUp (mergedModel m grouping) s) ≡ true
-        row s l (no past) =
-            ap (λ (b : Bool). b || addsUp (mergedModel m grouping) s)
-            (le-leb (mergedModel m grouping .n) s (omega arith))
-        row s l (yes k) =
-            ap₂ _||_ (lt-leb (mergedModel m grouping .n) s k)
-            (eq-eqb (sumBelow 32 (weightOf (mergedModel m grouping) s)) (mergedModel m grouping .d) (columns s l k))
+      -- so that none of its states is halted,
+      pub goes : (g : ℕ) → halted (mergedModel m grouping) g ≡ false
+      unfolding mergedModel
+      goes g = by (decLt g (groupCount grouping))
+        where
+          by : Dec (g < groupCount grouping) → halted (mergedModel m grouping) g ≡ false
+          by (yes k) =
+              let whole = columns g k in
+              let low = right.total-some m fields in
+              weighed-goes (mergedModel m grouping) g (omega (arith, whole, low))
+          by (no past) = past-goes (mergedModel m grouping) g (omega arith)
+
+      -- and filling changes nothing:
+      stays : (g h : ℕ) → filledWeight (mergedModel m grouping) g h ≡ weightOf (mergedModel m grouping) g h
+      stays g h = filled-other (mergedModel m grouping) g h (goes g)
+
+      -- the model of the groups describes a merged chain of the model's chain
+      pub merged-chain : Merged (chainOf m) (groupOf grouping) (chainOf (mergedModel m grouping))
+      unfolding mergedModel
+      merged-chain =
+          let is = merged-standing in
+          record {
+            grouping = is .grouping;
+            sameD = refl;
+            labels = is .labels;
+            weights = λ s l h k. stays (groupOf grouping s) h ∙ is .weights s l h k;
+          }
+
+      -- and its rows are right
+      pub rows-merged : rowsRight (mergedModel m grouping) ≡ true
+      unfolding rowsRight mergedModel
+      rows-merged =
+          every-all 32
+          (λ s. leb (groupCount grouping) s || addsUp (mergedModel m grouping) s || halted (mergedModel m grouping) s)
+          (λ s l. row s (decLt s (groupCount grouping)))
+        where
+          row : (s : ℕ) → Dec (s < groupCount grouping) →
+              (leb (groupCount grouping) s || addsUp (mergedModel m grouping) s || halted (mergedModel m grouping) s) ≡ true
+          row s (no past) =
+              ap (λ (b : Bool). b || addsUp (mergedModel m grouping) s || halted (mergedModel m grouping) s)
+              (le-leb (groupCount grouping) s (omega arith))
+          row s (yes k) =
+              ap₂ (λ (a b : Bool). a || b || halted (mergedModel m grouping) s) (lt-leb (groupCount grouping) s k)
+              (eq-eqb (sumBelow 32 (weightOf (mergedModel m grouping) s)) (m .d) (columns s k))
 
   -- ---- its fields are as the layout asks
 
-  -- M is 1..32, and A and D are the model's
+  -- M is 1..32, and A, D and the version are the model's
   numbers-merged : numbersRight (mergedModel m grouping) ≡ true
   unfolding mergedModel
   numbers-merged =
       and-true
+      (and-true
       (and-true (and-true (le-leb 1 (groupCount grouping) some) (le-leb (groupCount grouping) 32 few))
       (and-true (le-leb 1 (m .a) (right.labels-some m fields)) (le-leb (m .a) 16 (right.labels-few m fields))))
-      (and-true (le-leb 1 (m .d) (right.total-some m fields)) (le-leb (m .d) 65535 (right.total-few m fields)))
+      (and-true (le-leb 1 (m .d) (right.total-some m fields)) (le-leb (m .d) 65535 (right.total-few m fields))))
+      (le-leb (m .version) 1 (right.version-few m fields))
 
   -- a group's mask is a state's
   masks-merged : (g : ℕ) → g < 32 → maskRight (mergedModel m grouping) g ≡ true

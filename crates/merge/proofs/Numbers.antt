@@ -10,7 +10,7 @@ use Rattle.refusal.proofs.Laws.{in-order, first-here, first-later}
 use Rattle.refusal.proofs.Joined.{joined-refused, joined-accepted}
 use Rattle.model.specs.declared.Model.{Model}
 use Rattle.model.specs.Layout.{blocks, fieldsOf}
-use Rattle.model.specs.Rules.{fieldsRight, allAddUp}
+use Rattle.model.specs.Rules.{fieldsRight, rowsRight}
 use Rattle.model.specs.Contract.{fileRows, fileNumber, recordNumber}
 use Rattle.model.proofs.Answer.{file-rows, record-0}
 use Rattle.model.proofs.Rightness.{states-few}
@@ -38,7 +38,7 @@ module _ (m : Model) (grouping : List ℕ) (room : ℕ) where
   groups-13 a e = first-later 12 _ (ap not a) ∙ first-here 13 _ (ap not e)
 
   -- what is left is the output's row, as the writer has it
-  pub groups-14 : fieldsRight m ≡ true → allAddUp m ≡ true → groupingRight (m .n) grouping ≡ true →
+  pub groups-14 : fieldsRight m ≡ true → rowsRight m ≡ true → groupingRight (m .n) grouping ≡ true →
       groupsAlike m grouping ≡ true → recordNumber (mergedModel m grouping) room ≡ first (groupRows m grouping room)
   unfolding recordNumber
   groups-14 fields adds a e =
@@ -50,7 +50,7 @@ module _ (m : Model) (grouping : List ℕ) (room : ℕ) where
       sym (first-later 12 _ (ap not a) ∙ first-later 13 _ (ap not e))
 
   -- an output of 3,072 bytes has room for every merged file
-  pub enough-room : fieldsRight m ≡ true → allAddUp m ≡ true → groupingRight (m .n) grouping ≡ true →
+  pub enough-room : fieldsRight m ≡ true → rowsRight m ≡ true → groupingRight (m .n) grouping ≡ true →
       groupsAlike m grouping ≡ true → 3072 ≤ room → first (groupRows m grouping room) ≡ 0
   enough-room fields adds a e big =
       let right = fields-merged m grouping fields a in

@@ -7,16 +7,15 @@ use mathlib.Core.Path.{_≡_, refl, ap}
 use native.Mathlib.Decide.{decLt}
 use native.Mathlib.Nat.{le-trans}
 use native.Mathlib.Omega.{arith}
-use borrow.Author.Tests.{ltb-true, eqb-true}
+use borrow.Author.Tests.{ltb-true, le-ltb, eqb-true}
 use lib.Dec.{ltb, eqb}
 use lib.ListN.{length, getD, List·getD-eq-default}
 use lib.Pow.{pow-mono}
-use Rattle.counting.proofs.Laws.{term-le-sum}
 use Rattle.model.specs.declared.Model.{Model}
 use Rattle.model.specs.Layout.{Shaped, maskOf, weightOf}
-use Rattle.model.specs.Rules.{fieldsRight, allAddUp}
-use Rattle.model.proofs.Rightness.{labels-few, total-few, mask-at}
-use Rattle.chain.proofs.Right.{row-at, row-zero}
+use Rattle.model.specs.Rules.{fieldsRight, rowsRight}
+use Rattle.model.proofs.Rightness.{labels-few, total-few, mask-at, weight-past}
+use Rattle.chain.proofs.Right.{weight-few}
 
 -- a mask has its bits A and up zero, and A is at most 16
 pub mask-two : (m : Model) → fieldsRight m ≡ true → (s : ℕ) → s < 32 → maskOf m s < 2 ^ 16
@@ -31,7 +30,7 @@ mask-two m fields s l = look (ltb s (m .n)) (ltb (maskOf m s) (2 ^ m .a)) refl (
         let z = eqb-true (maskOf m s) 0 e in
         omega arith
 
-module _ (m : Model) (fields : fieldsRight m ≡ true) (adds : allAddUp m ≡ true)
+module _ (m : Model) (fields : fieldsRight m ≡ true) (adds : rowsRight m ≡ true)
     (masks : length (m .masks) ≡ 32) (rows : length (m .weights .rows) ≡ 32)
     (row : (s : ℕ) → s < 32 → length (getD (m .weights .rows) s []) ≡ 32) where
   mask-small : (s : ℕ) → Dec (s < 32) → maskOf m s < 65536
@@ -58,11 +57,10 @@ module _ (m : Model) (fields : fieldsRight m ≡ true) (adds : allAddUp m ≡ tr
       past-end : (t < 32 → ⊥) → length (getD (m .weights .rows) s []) ≡ 32 → length (getD (m .weights .rows) s []) ≤ t
       past-end h e = omega arith
   weight-small s t (yes l) (yes k) (no past) =
-      let e = row-zero m fields s t l k (omega arith) in
+      let e = weight-past m fields s t l k (ap (λ (b : Bool). b && ltb t (m .n)) (le-ltb s (m .n) (omega arith))) in
       omega arith
   weight-small s t (yes l) (yes k) (yes n) =
-      let part = term-le-sum 32 (weightOf m s) t k in
-      let whole = row-at m fields adds s n in
+      let part = weight-few m fields adds s t n k in
       let few = total-few m fields in
       omega arith
 

@@ -18,7 +18,7 @@ use Rattle.refusal.proofs.Listed.{list-number}
 use Rattle.refusal.proofs.Laws.{smallest, none-here}
 use Rattle.model.specs.declared.Model.{Model}
 use Rattle.model.specs.Layout.{Shaped, fieldsOf}
-use Rattle.model.specs.Rules.{fieldsRight, allAddUp}
+use Rattle.model.specs.Rules.{fieldsRight, rowsRight}
 use Rattle.model.specs.Contract.{fileNumber}
 use Rattle.model.proofs.Roundtrip.{fields-written, file-written}
 use Rattle.meaning.specs.Chain.{tupleCount}
@@ -72,7 +72,7 @@ mergeable file grouping room e = look (fileNumber file) refl
 
 -- the merged model of a right model can stand in a file
 shaped-merged : (m : Model) (grouping : List ℕ) → fieldsRight (mergedModel m grouping) ≡ true →
-    allAddUp (mergedModel m grouping) ≡ true → Shaped (mergedModel m grouping)
+    rowsRight (mergedModel m grouping) ≡ true → Shaped (mergedModel m grouping)
 unfolding mergedModel
 shaped-merged m grouping fields adds =
     shaped (mergedModel m grouping) fields adds (length-table 32 _) (length-table 32 _)
@@ -80,7 +80,7 @@ shaped-merged m grouping fields adds =
 
 module _ (file grouping : List ℕ) (accepted : fileNumber file ≡ 0) (grouped : groupingRight (fieldsOf file .n) grouping ≡ true)
     (alike : groupsAlike (fieldsOf file) grouping ≡ true) where
-  right : (fieldsRight (mergedModel (fieldsOf file) grouping) ≡ true) × (allAddUp (mergedModel (fieldsOf file) grouping) ≡ true)
+  right : (fieldsRight (mergedModel (fieldsOf file) grouping) ≡ true) × (rowsRight (mergedModel (fieldsOf file) grouping) ≡ true)
   right =
       let fields = fields-right file accepted in (
         fields-merged (fieldsOf file) grouping fields grouped,
@@ -104,14 +104,14 @@ module _ (file grouping : List ℕ) (accepted : fileNumber file ≡ 0) (grouped 
 -- ---- demand 3
 
 -- a model with right fields and rows and its merged model
-pub kept : (m : Model) (grouping : List ℕ) → fieldsRight m ≡ true → allAddUp m ≡ true →
+pub kept : (m : Model) (grouping : List ℕ) → fieldsRight m ≡ true → rowsRight m ≡ true →
     groupingRight (m .n) grouping ≡ true → groupsAlike m grouping ≡ true → MergingKeeps m (groupOf grouping) (mergedModel m grouping)
 unfolding mergedModel tupleCount
 kept m grouping fields adds grouped alike =
     let full = chainOf m in
     let group = groupOf grouping in
     let merged = chainOf (mergedModel m grouping) in
-    let is = merged-chain m grouping fields grouped alike in
+    let is = merged-chain m grouping fields grouped alike adds in
     let sound = sound-right m fields adds in
     record {
       labels = refl;

@@ -1,4 +1,5 @@
--- The grouping 0, 1, 2, .., each state by itself: it is never refused, and gives the same file back.
+-- The grouping 0, 1, 2, .., each state by itself: it is never refused, and gives the filled file back, which is the same file where no
+-- state is halted.
 use Prim.Native.Nat.{ℕ, _≤_, _<_, _^_}
 use mathlib.Core.Bool.{Bool, true, false, cond, not, _&&_, _||_}
 use mathlib.Core.List.{List, []}
@@ -10,31 +11,30 @@ use borrow.Author.Tests.{ltb-true, lt-ltb, le-ltb, eqb-true, eq-eqb, ne-eqb}
 use lib.Dec.{ltb, eqb}
 use lib.ListN.{length, getD}
 use Rattle.counting.specs.Below.{table}
-use Rattle.counting.proofs.Laws.{table-at, table-is, length-table, left-of, right-of}
+use Rattle.counting.proofs.Laws.{table-at, table-is, table-same, length-table, left-of, right-of}
 use Rattle.refusal.proofs.Laws.{first-later, first-none}
 use Rattle.model.specs.declared.Model.{Model}
-use Rattle.model.specs.Layout.{maskOf, weightOf, fieldsOf, fileOf}
-use Rattle.model.specs.Rules.{fieldsRight}
+use Rattle.model.specs.Layout.{maskOf, fieldsOf, blocks, fileOf}
+use Rattle.model.specs.Rules.{fieldsRight, halted}
 use Rattle.model.specs.Contract.{fileNumber}
-use Rattle.model.proofs.Rightness.{mask-at, weight-past}
+use Rattle.model.proofs.Rightness.{mask-at}
 use Rattle.model.proofs.Theorems.{write-of-read}
+use Rattle.model.proofs.Written.{length-blocks}
 use Rattle.meaning.specs.Lists.{below}
 use Rattle.meaning.specs.Merging.{weightInto, Grouping}
 use Rattle.meaning.proofs.Merging.{pick}
 use Rattle.meaning.proofs.Sums.{total-same}
 use Rattle.meaning.proofs.Tests.{below-member}
-use Rattle.chain.specs.Of.{chainOf}
+use Rattle.chain.specs.Of.{filledWeight, chainOf, filledModel, filledFile}
 use Rattle.chain.proofs.Accepted.{fields-right}
-use Rattle.merge.specs.Groups.{groupOf, groupCount, groupingRight, groupsAlike, memberOf, mergedModel}
+use Rattle.chain.proofs.Filling.{filled-other}
+use Rattle.chain.proofs.Right.{filled-past}
+use Rattle.merge.specs.Groups.{groupOf, eachAlone, groupCount, groupingRight, groupsAlike, memberOf, mergedModel}
 use Rattle.merge.specs.Contract.{mergeNumber, mergedFile}
 use Rattle.merge.proofs.Grouped.{count-is, grouping-right}
 use Rattle.merge.proofs.Members.{member-first}
 use Rattle.merge.proofs.Numbers.{file-accepted}
 use Rattle.merge.proofs.Stability.{is-alike}
-
--- the grouping 0, 1, 2, .. of n states
-abbrev pub eachAlone : ℕ → List ℕ
-eachAlone n = table n (λ s. s)
 
 -- the order of a comparison
 eqb-turn : (a b : ℕ) → eqb a b ≡ eqb b a
@@ -91,14 +91,14 @@ module _ (m : Model) where
       l
 
   -- the weight into its group is the weight to it
-  into-own : (s h : ℕ) → h < m .n → weightInto (chainOf m) (groupOf (eachAlone (m .n))) s h ≡ weightOf m s h
+  into-own : (s h : ℕ) → h < m .n → weightInto (chainOf m) (groupOf (eachAlone (m .n))) s h ≡ filledWeight m s h
   unfolding weightInto
   into-own s h l =
-      total-same _ (λ t. cond (eqb h t) (weightOf m s t) 0) (below (m .n))
+      total-same _ (λ t. cond (eqb h t) (filledWeight m s t) 0) (below (m .n))
       (λ t w.
-      ap (λ (b : Bool). cond b (weightOf m s t) 0)
+      ap (λ (b : Bool). cond b (filledWeight m s t) 0)
       (ap (λ (x : ℕ). eqb x h) (group-own t (below-member (m .n) w)) ∙ eqb-turn t h)) ∙
-      pick (weightOf m s) h (m .n) l
+      pick (filledWeight m s) h (m .n) l
 
   module _ (fields : fieldsRight m ≡ true) where
     -- its mask, and 0 from N on
@@ -116,7 +116,7 @@ module _ (m : Model) where
 
     -- its weights, and 0 from N on
     weight-own : (g h : ℕ) → g < 32 → h < 32 → (b : Bool) → (ltb g (m .n) && ltb h (m .n)) ≡ b →
-        weightOf m g h ≡
+        filledWeight m g h ≡
         cond (ltb g (groupCount (eachAlone (m .n))) && ltb h (groupCount (eachAlone (m .n))))
         (weightInto (chainOf m) (groupOf (eachAlone (m .n))) (memberOf (m .n) (eachAlone (m .n)) g) h) 0
     weight-own g h l k b e =
@@ -124,46 +124,64 @@ module _ (m : Model) where
         go b e ∙ sym (ap (λ (b : Bool). cond b into 0) (ap (λ (n : ℕ). ltb g n && ltb h n) count-own ∙ e))
       where
         go : (b : Bool) → (ltb g (m .n) && ltb h (m .n)) ≡ b →
-            weightOf m g h ≡ cond b (weightInto (chainOf m) (groupOf (eachAlone (m .n))) (memberOf (m .n) (eachAlone (m .n)) g) h) 0
-        go false e = weight-past m fields g h l k e
+            filledWeight m g h ≡ cond b (weightInto (chainOf m) (groupOf (eachAlone (m .n))) (memberOf (m .n) (eachAlone (m .n)) g) h) 0
+        go false e = filled-past m fields g h l k e
         go true e =
             let p = ltb-true g (m .n) (left-of (ltb g (m .n)) (ltb h (m .n)) e) in
             let q = ltb-true h (m .n) (right-of (ltb g (m .n)) (ltb h (m .n)) e) in
             sym
             (ap (λ (s : ℕ). weightInto (chainOf m) (groupOf (eachAlone (m .n))) s h) (member-own g p) ∙ into-own g h q)
 
-    -- the merged model is the model
-    pub model-own : length (m .masks) ≡ 32 → length (m .weights .rows) ≡ 32 →
-        ((s : ℕ) → s < 32 → length (getD (m .weights .rows) s []) ≡ 32) → mergedModel m (eachAlone (m .n)) ≡ m
+    -- the merged model is the filled model
+    pub model-own : length (m .masks) ≡ 32 → mergedModel m (eachAlone (m .n)) ≡ filledModel m
     unfolding mergedModel
-    model-own masks-long rows-long row-long =
+    model-own masks-long =
         let n = count-own in
         let masks = sym (table-is 32 _ 0 (m .masks) masks-long (λ g l. mask-own g l (decLt g (m .n)))) in
         let rows =
         sym
-        (table-is 32 _ [] (m .weights .rows) rows-long
-        (λ g l.
-        table-is 32 _ 0 (getD (m .weights .rows) g []) (row-long g l)
-        (λ h k. weight-own g h l k (ltb g (m .n) && ltb h (m .n)) refl))) in
-        λ i. record { n = n i; a = m .a; d = m .d; masks = masks i; weights = record { rows = rows i } }
+        (table-same 32 _ _ []
+        (λ g l. table-same 32 _ _ 0 (λ h k. weight-own g h l k (ltb g (m .n) && ltb h (m .n)) refl))) in
+        λ i. record { n = n i; a = m .a; d = m .d; version = m .version; masks = masks i; weights = record { rows = rows i } }
+
+-- where no state is halted, filling changes nothing
+filled-none : (m : Model) → length (m .weights .rows) ≡ 32 → ((s : ℕ) → s < 32 → length (getD (m .weights .rows) s []) ≡ 32) →
+    ((s : ℕ) → halted m s ≡ false) → filledModel m ≡ m
+filled-none m rows-long row-long none =
+    let rows =
+    table-is 32 _ [] (m .weights .rows) rows-long
+    (λ s l. table-is 32 _ 0 (getD (m .weights .rows) s []) (row-long s l) (λ t k. sym (filled-other m s t (none s)))) in
+    λ i. record { n = m .n; a = m .a; d = m .d; version = m .version; masks = m .masks; weights = record { rows = sym rows i } }
+
+-- the file of a model with its rows filled is as long as the model's file
+filled-long : (m : Model) → length (fileOf (filledModel m)) ≡ length (fileOf m)
+filled-long m = length-blocks (filledModel m) (blocks (m .n)) ∙ sym (length-blocks m (blocks (m .n)))
+
+-- where no state is halted, the filled file of an accepted file is the file itself
+pub unfilled : (file : List ℕ) → fileNumber file ≡ 0 → ((s : ℕ) → halted (fieldsOf file) s ≡ false) → filledFile file ≡ file
+unfolding fieldsOf
+unfilled file accepted none =
+    ap fileOf
+    (filled-none (fieldsOf file) (length-table 32 _) (λ s l. ap length (table-at 32 _ [] s l) ∙ length-table 32 _) none) ∙
+    write-of-read file accepted
 
 module _ (file : List ℕ) (accepted : fileNumber file ≡ 0) where
-  -- 0, 1, 2, .. gives the same file back
-  pub same-file : mergedFile file (eachAlone (fieldsOf file .n)) ≡ file
+  -- 0, 1, 2, .. gives the filled file back,
+  pub own-file : mergedFile file (eachAlone (fieldsOf file .n)) ≡ filledFile file
   unfolding fieldsOf
-  same-file =
-      ap fileOf
-      (model-own (fieldsOf file) (fields-right file accepted) (length-table 32 _) (length-table 32 _)
-      (λ s l. ap length (table-at 32 _ [] s l) ∙ length-table 32 _)) ∙
-      write-of-read file accepted
+  own-file = ap fileOf (model-own (fieldsOf file) (fields-right file accepted) (length-table 32 _))
+
+  -- which is as long as the file,
+  pub own-long : length (mergedFile file (eachAlone (fieldsOf file .n))) ≡ length file
+  own-long = ap length own-file ∙ filled-long (fieldsOf file) ∙ ap length (write-of-read file accepted)
 
   -- and an output with room for it is not refused
-  pub same-file-fits : (room : ℕ) → length file ≤ room → mergeNumber file (eachAlone (fieldsOf file .n)) room ≡ 0
-  same-file-fits room fits =
+  pub own-fits : (room : ℕ) → length file ≤ room → mergeNumber file (eachAlone (fieldsOf file .n)) room ≡ 0
+  own-fits room fits =
       let m = fieldsOf file in
       let grouping = eachAlone (m .n) in
       file-accepted file grouping room accepted ∙
       first-later 12 _ (ap not (grouped-own m)) ∙
       first-later 13 _ (ap not (alike-own m)) ∙
-      first-later 14 _ (le-ltb room (length (mergedFile file grouping)) (le-trans (le-of-eq (ap length same-file)) fits)) ∙
+      first-later 14 _ (le-ltb room (length (mergedFile file grouping)) (le-trans (le-of-eq own-long) fits)) ∙
       first-none

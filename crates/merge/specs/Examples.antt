@@ -10,10 +10,10 @@ use Rattle.model.specs.Layout.{modelOf, fileOf}
 use Rattle.meaning.specs.Examples.{Sketch, Line, fraction, worth, answer, merges, refusedWith}
 use Rattle.merge.specs.Contract.{mergeNumber, mergedFile}
 
--- the model that the document sketches: A = 1; masks, columns and rows from N on are zero
+-- the model that the document sketches: A = 1, version 0; masks, columns and rows from N on are zero
 unfoldable pub modelOfSketch : Sketch → Model
 modelOfSketch m =
-    modelOf (length (m .rows)) 1 (m .D) (table 32 (λ s. getD (m .masks) s 0))
+    modelOf (length (m .rows)) 1 (m .D) 0 (table 32 (λ s. getD (m .masks) s 0))
     (table 32 (λ s. table 32 (cell (m .rows) s)))
 
 -- what a line claims of merging a model's file, for an output of 3,072 bytes; a line on something else claims nothing of it

@@ -16,6 +16,10 @@ use Rattle.chain.specs.Of.{chainOf}
 abbrev pub groupOf : List ℕ → ℕ → ℕ
 groupOf grouping s = getD grouping s 0
 
+-- the grouping 0, 1, 2 and on of n states: each state by itself
+abbrev pub eachAlone : ℕ → List ℕ
+eachAlone n = table n (λ s. s)
+
 -- one more than the largest of f 0, f 1, .., f (n − 1), and 0 where n is 0
 unfoldable pub overAll : ℕ → (ℕ → ℕ) → ℕ
 overAll zero f = 0
@@ -49,7 +53,7 @@ groupsAlike m grouping =
 abbrev pub memberOf : ℕ → List ℕ → ℕ → ℕ
 memberOf n grouping g = member (groupOf grouping) g (below n)
 
--- the merged model has M states, A and D as before; group g has its members' mask and, into h, a member's total weight
+-- the merged model has M states, A, D and the version as before; group g has its members' mask and, into h, a member's total weight
 -- into h. From M on masks, columns and rows are zero.
 unfoldable pub mergedModel : Model → List ℕ → Model
 mergedModel m grouping =
@@ -57,6 +61,7 @@ mergedModel m grouping =
       n = groupCount grouping;
       a = m .a;
       d = m .d;
+      version = m .version;
       masks = table 32 (λ g. cond (ltb g (groupCount grouping)) (maskOf m (memberOf (m .n) grouping g)) 0);
       weights =
           record {

@@ -10,15 +10,15 @@ ghost use mathlib.Core.Bool.{true};
 ghost use lib.ListN.{length};
 ghost use Rattle.refusal.specs.Answers.{Writes};
 ghost use Rattle.model.specs.Layout.{fileOf};
-ghost use Rattle.model.specs.Rules.{fieldsRight, allAddUp};
+ghost use Rattle.model.specs.Rules.{fieldsRight, rowsRight};
 ghost use Rattle.merge.specs.Groups.{mergedModel};
 ghost use Rattle.merge.specs.Contract.{groupRows, MergeEnsures};
 use alike::states_alike;
+use chain::filled_rows;
 use grouping::group_count;
 use grouping::grouping_right;
 use merged::model_of_groups;
 use model::Model;
-use model::matrix;
 use model::reader::read_model;
 use model_writer::write_model;
 use refusal::Outcome;
@@ -27,7 +27,7 @@ use totals::totals_of;
 
 // Merge, of the model of an accepted file: rows 12, 13 and 14, then the merged model's file.
 fn merge_model(m: Model, grouping: &[u8], out: &mut [u8]) -> Written
-    requires { ⌜ (fieldsRight m ≡ true) × (allAddUp m ≡ true) ⌝ }
+    requires { ⌜ (fieldsRight m ≡ true) × (rowsRight m ≡ true) ⌝ }
     ensures { λ r. ⌜ Writes (groupRows m (now (grouping .entry)) (length (now (out .entry))))
         (fileOf (mergedModel m (now (grouping .entry)))) (now (out .entry)) (now (out .exit)) r ⌝ }
 {
@@ -37,12 +37,12 @@ fn merge_model(m: Model, grouping: &[u8], out: &mut [u8]) -> Written
     }
     let count = group_count(grouping);
     let masks = m.masks;
-    let rows = matrix::rows_of(m.weights);
+    let rows = filled_rows(m);
     let totals = totals_of(rows, grouping, n);
     if !states_alike(&masks, totals, grouping, count, n) {
         return Written::Refused(13);
     }
-    let merged = model_of_groups(m.a, m.d, &masks, totals, grouping, count);
+    let merged = model_of_groups(m.a, m.d, m.version, &masks, totals, grouping, count);
     write_model(merged, out)
 }
 

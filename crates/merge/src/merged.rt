@@ -15,13 +15,14 @@ use model::matrix;
 pub(crate) fn model_of_groups(
     a: u32,
     d: u32,
+    version: u32,
     masks: &[u16; 32],
     totals: [[u16; 32]; 32],
     grouping: &[u8],
     count: usize,
 ) -> Model
     requires { ⌜ (length (now grouping) ≤ 32) × (count ≤ 32) × (everyBelow count (isUsed (now grouping)) ≡ true) ⌝ }
-    ensures { λ r. ⌜ r ≡ modelOf count a d (masksOfGroups (now (masks .entry)) (now (grouping .entry)) count)
+    ensures { λ r. ⌜ r ≡ modelOf count a d version (masksOfGroups (now (masks .entry)) (now (grouping .entry)) count)
         (rowsOfGroups totals (now (grouping .entry)) count) ⌝ }
 {
     let mut merged = [0u16; 32];
@@ -38,6 +39,7 @@ pub(crate) fn model_of_groups(
         n: count as u32,
         a: a,
         d: d,
+        version: version,
         masks: merged,
         weights: weights,
     }

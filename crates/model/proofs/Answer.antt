@@ -16,7 +16,7 @@ use borrow.Author.Tests.{lt-ltb, le-ltb}
 use Rattle.model.specs.declared.Model.{Model}
 use Rattle.model.specs.declared.ModelRead.{ModelRead}
 use Rattle.model.specs.Layout.{fieldsOf, blocks, emptyModel}
-use Rattle.model.specs.Rules.{lengthRight, fieldsRight, laidOut, allAddUp}
+use Rattle.model.specs.Rules.{lengthRight, fieldsRight, laidOut, rowsRight}
 use Rattle.model.specs.Contract.{fileRows, fileNumber, recordRows, recordNumber, ReadModelEnsures}
 
 -- ---- the number, test by test
@@ -35,12 +35,12 @@ module _ (file : List ℕ) where
   number-4 a b e = first-later 2 _ (ap not a) ∙ first-later 3 _ (ap not b) ∙ first-here 4 _ (ap not e)
 
   pub number-5 : lengthRight file ≡ true → checksRight file ≡ true → laidOut file (fieldsOf file) ≡ true →
-      allAddUp (fieldsOf file) ≡ false → fileNumber file ≡ 5
+      rowsRight (fieldsOf file) ≡ false → fileNumber file ≡ 5
   unfolding fileNumber
   number-5 a b d e = first-later 2 _ (ap not a) ∙ first-later 3 _ (ap not b) ∙ first-later 4 _ (ap not d) ∙ first-here 5 _ (ap not e)
 
   pub number-0 : lengthRight file ≡ true → checksRight file ≡ true → laidOut file (fieldsOf file) ≡ true →
-      allAddUp (fieldsOf file) ≡ true → fileNumber file ≡ 0
+      rowsRight (fieldsOf file) ≡ true → fileNumber file ≡ 0
   unfolding fileNumber
   number-0 a b d e =
       first-later 2 _ (ap not a) ∙ first-later 3 _ (ap not b) ∙ first-later 4 _ (ap not d) ∙ first-later 5 _ (ap not e) ∙ first-none
@@ -50,15 +50,15 @@ module _ (m : Model) (room : ℕ) where
   unfolding recordNumber
   record-4 e = first-here 4 _ (ap not e)
 
-  pub record-5 : fieldsRight m ≡ true → allAddUp m ≡ false → recordNumber m room ≡ 5
+  pub record-5 : fieldsRight m ≡ true → rowsRight m ≡ false → recordNumber m room ≡ 5
   unfolding recordNumber
   record-5 a e = first-later 4 _ (ap not a) ∙ first-here 5 _ (ap not e)
 
-  pub record-14 : fieldsRight m ≡ true → allAddUp m ≡ true → room < 512 * blocks (m .n) → recordNumber m room ≡ 14
+  pub record-14 : fieldsRight m ≡ true → rowsRight m ≡ true → room < 512 * blocks (m .n) → recordNumber m room ≡ 14
   unfolding recordNumber
   record-14 a b e = first-later 4 _ (ap not a) ∙ first-later 5 _ (ap not b) ∙ first-here 14 _ (lt-ltb room (512 * blocks (m .n)) e)
 
-  pub record-0 : fieldsRight m ≡ true → allAddUp m ≡ true → 512 * blocks (m .n) ≤ room → recordNumber m room ≡ 0
+  pub record-0 : fieldsRight m ≡ true → rowsRight m ≡ true → 512 * blocks (m .n) ≤ room → recordNumber m room ≡ 0
   unfolding recordNumber
   record-0 a b e =
       first-later 4 _ (ap not a) ∙ first-later 5 _ (ap not b) ∙ first-later 14 _ (le-ltb room (512 * blocks (m .n)) e) ∙ first-none

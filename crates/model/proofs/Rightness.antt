@@ -33,9 +33,13 @@ module _ (m : Model) (right : fieldsRight m ≡ true) where
   numbers = left-of (numbersRight m) (everyBelow 32 (maskRight m))
       (left-of (numbersRight m && everyBelow 32 (maskRight m)) (everyBelow 32 (λ s. everyBelow 32 (weightRight m s))) right)
 
+  -- N, A and D are right
+  three : (within 1 32 (m .n) && within 1 16 (m .a) && within 1 65535 (m .d)) ≡ true
+  three = left-of (within 1 32 (m .n) && within 1 16 (m .a) && within 1 65535 (m .d)) (leb (m .version) 1) numbers
+
   states : within 1 32 (m .n) ≡ true
   states = left-of (within 1 32 (m .n)) (within 1 16 (m .a))
-      (left-of (within 1 32 (m .n) && within 1 16 (m .a)) (within 1 65535 (m .d)) numbers)
+      (left-of (within 1 32 (m .n) && within 1 16 (m .a)) (within 1 65535 (m .d)) three)
 
   -- N is 1..32
   pub states-some : 1 ≤ m .n
@@ -47,7 +51,7 @@ module _ (m : Model) (right : fieldsRight m ≡ true) where
   -- A is 1..16
   labels : within 1 16 (m .a) ≡ true
   labels = right-of (within 1 32 (m .n)) (within 1 16 (m .a))
-      (left-of (within 1 32 (m .n) && within 1 16 (m .a)) (within 1 65535 (m .d)) numbers)
+      (left-of (within 1 32 (m .n) && within 1 16 (m .a)) (within 1 65535 (m .d)) three)
 
   pub labels-some : 1 ≤ m .a
   labels-some = within-low 1 16 (m .a) labels
@@ -57,10 +61,15 @@ module _ (m : Model) (right : fieldsRight m ≡ true) where
 
   -- D is 1..65,535
   pub total-some : 1 ≤ m .d
-  total-some = within-low 1 65535 (m .d) (right-of (within 1 32 (m .n) && within 1 16 (m .a)) (within 1 65535 (m .d)) numbers)
+  total-some = within-low 1 65535 (m .d) (right-of (within 1 32 (m .n) && within 1 16 (m .a)) (within 1 65535 (m .d)) three)
 
   pub total-few : m .d ≤ 65535
-  total-few = within-high 1 65535 (m .d) (right-of (within 1 32 (m .n) && within 1 16 (m .a)) (within 1 65535 (m .d)) numbers)
+  total-few = within-high 1 65535 (m .d) (right-of (within 1 32 (m .n) && within 1 16 (m .a)) (within 1 65535 (m .d)) three)
+
+  -- the version is 0 or 1
+  pub version-few : m .version ≤ 1
+  version-few = leb-true (m .version) 1
+      (right-of (within 1 32 (m .n) && within 1 16 (m .a) && within 1 65535 (m .d)) (leb (m .version) 1) numbers)
 
   -- every state's mask is right
   pub mask-at : (s : ℕ) → s < 32 → maskRight m s ≡ true

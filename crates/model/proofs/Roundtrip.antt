@@ -17,7 +17,7 @@ use Rattle.block.proofs.Laws.{check-same}
 use Rattle.model.specs.declared.Model.{Model}
 use Rattle.model.specs.Layout.{maskOf, weightOf, Shaped, twoAt, fourAt, maskAt, weightAt, byteOfTwo, headByte, contentByte, byteAt}
 use Rattle.model.specs.Layout.{blockBytes, blocksBelow, blocks, fileOf, fieldsOf}
-use Rattle.model.specs.Rules.{lengthRight, fieldsRight, laidOut, allAddUp}
+use Rattle.model.specs.Rules.{lengthRight, fieldsRight, laidOut, rowsRight}
 use Rattle.model.specs.Contract.{fileNumber}
 use Rattle.model.proofs.Places.{byte-there}
 use Rattle.model.proofs.Rightness.{states-some, states-few, total-few, weight-past}
@@ -117,7 +117,7 @@ module _ (file : List ℕ) (long : lengthRight file ≡ true) (checks : checksRi
 
 -- ---- reading what was written
 
-module _ (m : Model) (right : fieldsRight m ≡ true) (sums : allAddUp m ≡ true) where
+module _ (m : Model) (right : fieldsRight m ≡ true) (sums : rowsRight m ≡ true) where
   -- byte j of block i of the file, and 0 past its end
   byte-written : (i j : ℕ) → i < blocks (m .n) → j < 512 → byteOf (fileOf m) i j ≡ byteAt m i j
   byte-written i j l k = byte-of-blocks m (blocks (m .n)) i j l k
@@ -233,6 +233,10 @@ module _ (m : Model) (right : fieldsRight m ≡ true) (sums : allAddUp m ≡ tru
   unfolding headByte
   labels-written = head-written 2 (omega arith)
 
+  version-written : byteOf (fileOf m) 0 3 ≡ m .version
+  unfolding headByte
+  version-written = head-written 3 (omega arith)
+
   masks-written : Shaped m → table 32 (maskAt (fileOf m)) ≡ m .masks
   masks-written shaped = sym (table-is 32 (maskAt (fileOf m)) 0 (m .masks) (shaped .masks) (λ s l. sym (mask-written s l (shaped .mask s))))
 
@@ -248,6 +252,7 @@ module _ (m : Model) (right : fieldsRight m ≡ true) (sums : allAddUp m ≡ tru
     n = states-written i;
     a = labels-written i;
     d = total-written i;
+    version = version-written i;
     masks = masks-written shaped i;
     weights = record { rows = rows-written shaped i };
   }
@@ -258,4 +263,4 @@ module _ (m : Model) (right : fieldsRight m ≡ true) (sums : allAddUp m ≡ tru
       let back = sym (fields-written shaped) in
       number-0 (fileOf m) length-written checks-written
       (subst (λ (x : Model). laidOut (fileOf m) x ≡ true) back laid-written)
-      (subst (λ (x : Model). allAddUp x ≡ true) back sums)
+      (subst (λ (x : Model). rowsRight x ≡ true) back sums)

@@ -58,18 +58,16 @@ pub content-head : (m : Model) (j : ℕ) → contentByte m 0 j ≡ headByte m j
 unfolding contentByte
 content-head m j = refl
 
--- two marks and some zeros are a test of every byte of a block
-marks-and-zeros : (p q : Bool) (n : ℕ) (zeros : ℕ → Bool) (all : ℕ → Bool) →
-    (p ≡ true → q ≡ true → ((k : ℕ) → k < n → zeros k ≡ true) → (j : ℕ) → j < 510 → all j ≡ true) →
-    (((j : ℕ) → j < 510 → all j ≡ true) → p ≡ true) → (((j : ℕ) → j < 510 → all j ≡ true) → q ≡ true) →
-    (((j : ℕ) → j < 510 → all j ≡ true) → (k : ℕ) → k < n → zeros k ≡ true) → (p && q && everyBelow n zeros) ≡ everyBelow 510 all
-marks-and-zeros p q n zeros all to first second rest = same-truth (p && q && everyBelow n zeros) (everyBelow 510 all)
-    (λ h.
-    let marks = left-of (p && q) (everyBelow n zeros) h in
-    every-all 510 all (to (left-of p q marks) (right-of p q marks) (every-at n zeros (right-of (p && q) (everyBelow n zeros) h))))
+-- marks and some zeros are a test of every byte of a block
+marks-and-zeros : (marks : Bool) (n : ℕ) (zeros : ℕ → Bool) (all : ℕ → Bool) →
+    (marks ≡ true → ((k : ℕ) → k < n → zeros k ≡ true) → (j : ℕ) → j < 510 → all j ≡ true) →
+    (((j : ℕ) → j < 510 → all j ≡ true) → marks ≡ true) →
+    (((j : ℕ) → j < 510 → all j ≡ true) → (k : ℕ) → k < n → zeros k ≡ true) → (marks && everyBelow n zeros) ≡ everyBelow 510 all
+marks-and-zeros marks n zeros all to first rest = same-truth (marks && everyBelow n zeros) (everyBelow 510 all)
+    (λ h. every-all 510 all (to (left-of marks (everyBelow n zeros) h) (every-at n zeros (right-of marks (everyBelow n zeros) h))))
     (λ h.
     let each = every-at 510 all h in
-    and-true (and-true (first each) (second each)) (every-all n zeros (rest each)))
+    and-true (first each) (every-all n zeros (rest each)))
 
 -- ---- of a file's own fields
 
@@ -124,26 +122,26 @@ module _ (file : List ℕ) (bytes : Bytes file) where
       head-rest (fieldsOf file) j (omega arith) ∙
       ap (λ (x : ℕ). byteOfTwo x ((j - 8) % 2)) (no-mask ((j - 8) / 2) gone) ∙ byte-of-zero ((j - 8) % 2)
 
-  -- the start: N, A and D stand by themselves, and bytes 0 and 3 are fixed
-  start-byte : byteOf file 0 0 ≡ 1 → byteOf file 0 3 ≡ 0 → (j : ℕ) → j < 8 → byteOf file 0 j ≡ headByte (fieldsOf file) j
+  -- the start: N, A, the version and D stand by themselves, and byte 0 is fixed
+  start-byte : byteOf file 0 0 ≡ 1 → (j : ℕ) → j < 8 → byteOf file 0 j ≡ headByte (fieldsOf file) j
   unfolding headByte fieldsOf
-  start-byte first third zero l = first
-  start-byte first third (suc zero) l = refl
-  start-byte first third (suc (suc zero)) l = refl
-  start-byte first third (suc (suc (suc zero))) l = third
-  start-byte first third (suc (suc (suc (suc zero)))) l = omega (arith, bytes 4, bytes 5, bytes 6, bytes 7)
-  start-byte first third (suc (suc (suc (suc (suc zero))))) l = omega (arith, bytes 4, bytes 5, bytes 6, bytes 7)
-  start-byte first third (suc (suc (suc (suc (suc (suc zero)))))) l = omega (arith, bytes 4, bytes 5, bytes 6, bytes 7)
-  start-byte first third (suc (suc (suc (suc (suc (suc (suc zero))))))) l = omega (arith, bytes 4, bytes 5, bytes 6, bytes 7)
-  start-byte first third (suc (suc (suc (suc (suc (suc (suc (suc j)))))))) l = absurd (omega arith)
+  start-byte first zero l = first
+  start-byte first (suc zero) l = refl
+  start-byte first (suc (suc zero)) l = refl
+  start-byte first (suc (suc (suc zero))) l = refl
+  start-byte first (suc (suc (suc (suc zero)))) l = omega (arith, bytes 4, bytes 5, bytes 6, bytes 7)
+  start-byte first (suc (suc (suc (suc (suc zero))))) l = omega (arith, bytes 4, bytes 5, bytes 6, bytes 7)
+  start-byte first (suc (suc (suc (suc (suc (suc zero)))))) l = omega (arith, bytes 4, bytes 5, bytes 6, bytes 7)
+  start-byte first (suc (suc (suc (suc (suc (suc (suc zero))))))) l = omega (arith, bytes 4, bytes 5, bytes 6, bytes 7)
+  start-byte first (suc (suc (suc (suc (suc (suc (suc (suc j)))))))) l = absurd (omega arith)
 
-  -- block 0 stands as the layout has it if its fixed bytes and its zeros do
-  pub head-stands : byteOf file 0 0 ≡ 1 → byteOf file 0 3 ≡ 0 → ((k : ℕ) → k < 438 → byteOf file 0 (72 + k) ≡ 0) →
+  -- block 0 stands as the layout has it if its fixed byte and its zeros do
+  pub head-stands : byteOf file 0 0 ≡ 1 → ((k : ℕ) → k < 438 → byteOf file 0 (72 + k) ≡ 0) →
       (j : ℕ) → j < 510 → byteOf file 0 j ≡ contentByte (fieldsOf file) 0 j
-  head-stands first third zeros j l = go (decLt j 8) (decLt j 72) ∙ sym (content-head (fieldsOf file) j)
+  head-stands first zeros j l = go (decLt j 8) (decLt j 72) ∙ sym (content-head (fieldsOf file) j)
     where
       go : Dec (j < 8) → Dec (j < 72) → byteOf file 0 j ≡ headByte (fieldsOf file) j
-      go (yes start) d = start-byte first third j start
+      go (yes start) d = start-byte first j start
       go (no past) (yes mask) = sym (mask-byte j (omega arith) mask)
       go (no past) (no rest) =
           byte-there file (omega arith) ∙ zeros (j - 72) (omega arith) ∙ sym (past-masks j (omega arith))
@@ -152,10 +150,6 @@ module _ (file : List ℕ) (bytes : Bytes file) where
   pub head-first : contentByte (fieldsOf file) 0 0 ≡ 1
   unfolding headByte fieldsOf contentByte
   head-first = refl
-
-  pub head-third : contentByte (fieldsOf file) 0 3 ≡ 0
-  unfolding headByte fieldsOf contentByte
-  head-third = refl
 
   head-zero : (k : ℕ) → contentByte (fieldsOf file) 0 (72 + k) ≡ 0
   head-zero k = content-head (fieldsOf file) (72 + k) ∙ past-masks (72 + k) (omega arith)
@@ -180,13 +174,10 @@ module _ (file : List ℕ) (bytes : Bytes file) where
       byte-of-zero ((j - 2) % 2)
 
   -- the test of block 0
-  pub head-test : (eqb (byteOf file 0 0) 1 && eqb (byteOf file 0 3) 0 && everyBelow 438
-      (λ k. eqb (byteOf file 0 (72 + k)) 0)) ≡ everyBelow 510
-      (stands 0)
-  head-test = marks-and-zeros (eqb (byteOf file 0 0) 1) (eqb (byteOf file 0 3) 0) 438 (λ k. eqb (byteOf file 0 (72 + k)) 0) (stands 0)
-      (λ first third zeros j l. eq-eqb _ _ (head-stands (eqb-true _ _ first) (eqb-true _ _ third) (λ k m. eqb-true _ _ (zeros k m)) j l))
+  pub head-test : (eqb (byteOf file 0 0) 1 && everyBelow 438 (λ k. eqb (byteOf file 0 (72 + k)) 0)) ≡ everyBelow 510 (stands 0)
+  head-test = marks-and-zeros (eqb (byteOf file 0 0) 1) 438 (λ k. eqb (byteOf file 0 (72 + k)) 0) (stands 0)
+      (λ first zeros j l. eq-eqb _ _ (head-stands (eqb-true _ _ first) (λ k m. eqb-true _ _ (zeros k m)) j l))
       (λ all. eq-eqb _ _ (eqb-true _ _ (all 0 (omega arith)) ∙ head-first))
-      (λ all. eq-eqb _ _ (eqb-true _ _ (all 3 (omega arith)) ∙ head-third))
       (λ all k m. eq-eqb _ _ (eqb-true _ _ (all (72 + k) (omega arith)) ∙ head-zero k))
 
   pub row-first : (i : ℕ) → rowByte (fieldsOf file) i 0 ≡ 2
@@ -238,8 +229,15 @@ module _ (file : List ℕ) (bytes : Bytes file) where
     pub row-test : (eqb (byteOf file i 0) 2 && eqb (byteOf file i 1) i && everyBelow (510 - z)
         (λ k. eqb (byteOf file i (z + k)) 0)) ≡ everyBelow
         510 (stands i)
-    row-test = marks-and-zeros (eqb (byteOf file i 0) 2) (eqb (byteOf file i 1) i) (510 - z) (λ k. eqb (byteOf file i (z + k)) 0) (stands i)
-        (λ first second zeros j l. eq-eqb _ _ (row-stands (eqb-true _ _ first) (eqb-true _ _ second) (λ k m. eqb-true _ _ (zeros k m)) j l))
-        (λ all. eq-eqb _ _ (eqb-true _ _ (all 0 (omega arith)) ∙ block-first))
-        (λ all. eq-eqb _ _ (eqb-true _ _ (all 1 (omega arith)) ∙ block-second))
+    row-test =
+        let first = eqb (byteOf file i 0) 2 in
+        let second = eqb (byteOf file i 1) i in
+        marks-and-zeros (first && second) (510 - z) (λ k. eqb (byteOf file i (z + k)) 0) (stands i)
+        (λ marks zeros j l.
+        eq-eqb _ _
+        (row-stands (eqb-true _ _ (left-of first second marks)) (eqb-true _ _ (right-of first second marks))
+        (λ k m. eqb-true _ _ (zeros k m)) j l))
+        (λ all.
+        and-true (eq-eqb _ _ (eqb-true _ _ (all 0 (omega arith)) ∙ block-first))
+        (eq-eqb _ _ (eqb-true _ _ (all 1 (omega arith)) ∙ block-second)))
         (λ all k m. eq-eqb _ _ (eqb-true _ _ (all (z + k) (omega arith)) ∙ block-zero k))

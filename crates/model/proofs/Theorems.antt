@@ -16,7 +16,7 @@ use Rattle.block.specs.Block.{checksRight}
 use Rattle.model.specs.declared.Model.{Model}
 use Rattle.model.specs.declared.ModelRead.{ModelRead}
 use Rattle.model.specs.Layout.{Shaped, blocks, fieldsOf, fileOf}
-use Rattle.model.specs.Rules.{lengthRight, fieldsRight, laidOut, allAddUp}
+use Rattle.model.specs.Rules.{lengthRight, fieldsRight, laidOut, rowsRight}
 use Rattle.model.specs.Contract.{fileRows, fileNumber, recordRows, recordNumber, ReadModelEnsures}
 use Rattle.model.proofs.Answer.{record-0, file-rows, record-rows}
 use Rattle.model.proofs.Rightness.{laid-fields}
@@ -46,7 +46,7 @@ pub record Accepted (file : List ℕ) : Type 0 where
   pub long : lengthRight file ≡ true
   pub checks : checksRight file ≡ true
   pub laid : laidOut file (fieldsOf file) ≡ true
-  pub sums : allAddUp (fieldsOf file) ≡ true
+  pub sums : rowsRight (fieldsOf file) ≡ true
 
 pub accepted : (file : List ℕ) → fileNumber file ≡ 0 → Accepted file
 unfolding fileNumber
@@ -54,19 +54,19 @@ accepted file e =
     let two = none-here 1 (not (lengthRight file)) _ e in
     let three = none-here 2 (not (checksRight file)) _ (two .1) in
     let four = none-here 3 (not (laidOut file (fieldsOf file))) _ (three .1) in
-    let five = none-here 4 (not (allAddUp (fieldsOf file))) [] (four .1) in
+    let five = none-here 4 (not (rowsRight (fieldsOf file))) [] (four .1) in
     record { long = not-false _ (two .0); checks = not-false _ (three .0); laid = not-false _ (four .0); sums = not-false _ (five .0) }
 
 pub record RecordAccepted (m : Model) (room : ℕ) : Type 0 where
   pub fields : fieldsRight m ≡ true
-  pub sums : allAddUp m ≡ true
+  pub sums : rowsRight m ≡ true
   pub fits : 512 * blocks (m .n) ≤ room
 
 pub record-accepted : (m : Model) (room : ℕ) → recordNumber m room ≡ 0 → RecordAccepted m room
 unfolding recordNumber
 record-accepted m room e =
     let four = none-here 3 (not (fieldsRight m)) _ e in
-    let five = none-here 4 (not (allAddUp m)) _ (four .1) in
+    let five = none-here 4 (not (rowsRight m)) _ (four .1) in
     let last = none-here 13 (ltb room (512 * blocks (m .n))) [] (five .1) in
     record { fields = not-false _ (four .0); sums = not-false _ (five .0); fits = ltb-false room (512 * blocks (m .n)) (last .0) }
 

@@ -1,6 +1,7 @@
--- Row 4 says what document 01 says of the layout, byte by byte: `laidOut`, by which the row is stated, holds of a file of right
--- length exactly if the file is laid out in the document's own words. The fields' own bytes stand by themselves (Standing); what is
--- left are the fixed bytes, the bounds and the zeros. Assumes nothing.
+-- Rows 4 and 5 say what documents 01 and 02 say of a file, byte by byte. `laidOut`, by which row 4 is stated, holds of a file of right
+-- length exactly if the file is laid out in the document's own words: the fields' own bytes stand by themselves (Standing); what is
+-- left are the fixed bytes, the bounds and the zeros. `rowsRight`, by which row 5 is stated, is likewise said of the bytes. Assumes
+-- nothing.
 use Prim.Native.Nat.{ℕ, zero, suc, _+_, _-_, _*_, _/_, _%_, _^_, _≤_, _<_}
 use mathlib.Core.Bool.{Bool, true, false, _&&_, _||_}
 use mathlib.Core.List.{List}
@@ -9,20 +10,20 @@ use mathlib.Core.Path.{_≡_, refl, sym, ap, _∙_}
 use native.Mathlib.Decide.{decLt}
 use native.Mathlib.Nat.{one-le-pow}
 use native.Mathlib.Omega.{arith}
-use borrow.Author.Tests.{lt-ltb, le-ltb, le-leb, ltb-true, eq-eqb, eqb-true}
+use borrow.Author.Tests.{lt-ltb, le-ltb, le-leb, lt-leb, ltb-true, eq-eqb, eqb-true}
 use lib.Dec.{ltb, leb, eqb}
 use lib.ListN.{length, getD, List·getD-eq-default}
-use Rattle.counting.specs.Below.{everyBelow}
-use Rattle.counting.proofs.Laws.{every-at, every-all, and-true, left-of, right-of}
+use Rattle.counting.specs.Below.{sumBelow, everyBelow}
+use Rattle.counting.proofs.Laws.{every-at, every-all, and-true, left-of, right-of, sum-same}
 use Rattle.block.specs.Block.{byteOf, two, blocksIn}
-use Rattle.model.specs.Layout.{maskOf, maskAt, weightAt, fieldsOf, headByte, rowByte, contentByte, blocks, byteOfTwo}
-use Rattle.model.specs.Rules.{within, maskRight, weightRight, fieldsRight, lengthRight, laidOut}
-use Rattle.model.specs.Words.{N, A, D, LaidOut}
+use Rattle.model.specs.Layout.{maskOf, weightOf, maskAt, weightAt, fieldsOf, headByte, rowByte, contentByte, blocks, byteOfTwo}
+use Rattle.model.specs.Rules.{within, maskRight, weightRight, fieldsRight, addsUp, emptyRow, halted, rowsRight, lengthRight, laidOut}
+use Rattle.model.specs.Words.{N, A, versionOf, D, LaidOut, AddUp}
 use Rattle.model.proofs.Places.{byte-there}
-use Rattle.model.proofs.Rightness.{laid-fields, states-some, states-few, labels-some, labels-few, total-some, total-few, mask-at}
-use Rattle.model.proofs.Rightness.{weight-past}
+use Rattle.model.proofs.Rightness.{laid-fields, states-some, states-few, labels-some, labels-few, total-some, total-few, version-few}
+use Rattle.model.proofs.Rightness.{mask-at, weight-past}
 use Rattle.model.proofs.Standing.{Bytes, byte-of-zero, head-rest, row-end, content-row, content-head}
-use Rattle.model.proofs.Standing.{mask-of-file, weight-of-file, past-masks, past-rows, head-stands, head-first, head-third}
+use Rattle.model.proofs.Standing.{mask-of-file, weight-of-file, past-masks, past-rows, head-stands, head-first}
 use Rattle.model.proofs.Standing.{row-first, row-second, row-stands}
 
 -- a test with the equation that it is answered by
@@ -48,6 +49,11 @@ bounded low high x h = and-true (le-leb low x (h .0)) (le-leb x high (h .1))
 -- the right half of a test by cases, where the left half fails
 right-half : (a b : Bool) → a ≡ false → (a || b) ≡ true → b ≡ true
 right-half a b e h = sym (ap (λ (x : Bool). x || b) e) ∙ h
+
+-- an 'or' whose right half holds
+either : (a b : Bool) → b ≡ true → (a || b) ≡ true
+either true b e = refl
+either false b e = e
 
 -- a mask is below a power, or is 0, which is below it too
 below-or-zero : (x a : ℕ) (in-front : Bool) → (in-front && ltb x (2 ^ a) || eqb x 0) ≡ true → x < 2 ^ a
@@ -142,7 +148,7 @@ module _ (file : List ℕ) (bytes : Bytes file) where
           first = each 0 0 some (omega arith) ∙ head-first file bytes;
           states = (states-some (fieldsOf file) right, states-few (fieldsOf file) right);
           labels = (labels-some (fieldsOf file) right, labels-few (fieldsOf file) right);
-          third = each 0 3 some (omega arith) ∙ head-third file bytes;
+          version = version-few (fieldsOf file) right;
           sums = (total-some (fieldsOf file) right, total-few (fieldsOf file) right);
           masks = masks-right;
           rest = rest-zero;
@@ -202,14 +208,16 @@ module _ (file : List ℕ) (bytes : Bytes file) where
     fits =
         and-true
         (and-true
+        (and-true
         (and-true (and-true (bounded 1 32 (N file) (w .states)) (bounded 1 16 (A file) (w .labels))) (bounded 1 65535 (D file) (w .sums)))
+        (le-leb (versionOf file) 1 (w .version)))
         (every-all 32 (maskRight (fieldsOf file)) mask-fits))
         (every-all 32 (λ s. everyBelow 32 (weightRight (fieldsOf file) s))
         (λ s l. every-all 32 (weightRight (fieldsOf file) s) (λ t k. weight-fits s t l k)))
 
     -- block 0
     head-there : (j : ℕ) → j < 510 → byteOf file 0 j ≡ contentByte (fieldsOf file) 0 j
-    head-there = head-stands file bytes (w .first) (w .third) (λ k l. w .rest (72 + k) (omega (arith, w .states .1)) (omega arith))
+    head-there = head-stands file bytes (w .first) (λ k l. w .rest (72 + k) (omega (arith, w .states .1)) (omega arith))
 
     -- a byte of a row from 32 on
     row-there : (i j : ℕ) → 1 ≤ i → i < blocksIn file → 2 ≤ j → j < 450 → 32 ≤ 7 * (i - 1) + (j - 2) / 64 → byteOf file i j ≡ 0
@@ -273,3 +281,72 @@ whole-blocks file e =
 -- does not apply
 pub row-4-in-words : (file : List ℕ) → Bytes file → lengthRight file ≡ true → (laidOut file (fieldsOf file) ≡ true) ↔ LaidOut file
 row-4-in-words file bytes long = (laid-words file bytes, words-laid file bytes (whole-blocks file long))
+
+-- ---- row 5
+
+module _ (file : List ℕ) (bytes : Bytes file) (e : laidOut file (fieldsOf file) ≡ true) where
+  few : N file ≤ 32
+  unfolding fieldsOf
+  few = states-few (fieldsOf file) (laid-fields file (fieldsOf file) e)
+
+  -- a row of the record is the row of the file
+  same-sum : (s : ℕ) → s < 32 → sumBelow 32 (weightOf (fieldsOf file) s) ≡ sumBelow 32 (weightAt file s)
+  same-sum s l = sum-same 32 (λ t k. weight-of-file file bytes s t l k)
+
+  -- the tests of one state's row, without that of its number
+  adds-or-halted : (s : ℕ) → s < N file → (leb (N file) s || addsUp (fieldsOf file) s || halted (fieldsOf file) s) ≡ true →
+      (sumBelow 32 (weightAt file s) ≡ D file) ⊎ ((versionOf file ≡ 1) × ((t : ℕ) → t < 32 → weightAt file s t ≡ 0))
+  unfolding fieldsOf
+  adds-or-halted s l h = by (tested (addsUp (fieldsOf file) s))
+    where
+      low : s < 32
+      low = omega (arith, few)
+
+      by : Tested (addsUp (fieldsOf file) s) →
+          (sumBelow 32 (weightAt file s) ≡ D file) ⊎ ((versionOf file ≡ 1) × ((t : ℕ) → t < 32 → weightAt file s t ≡ 0))
+      by (holds up) = inl (sym (same-sum s low) ∙ eqb-true (sumBelow 32 (weightOf (fieldsOf file) s)) (D file) up)
+      by (fails off) =
+          let rest = right-half (leb (N file) s || addsUp (fieldsOf file) s) (halted (fieldsOf file) s)
+          (rw (lt-leb (N file) s l) off) h in
+          let front = left-of (ltb s (N file) && eqb (versionOf file) 1) (emptyRow (fieldsOf file) s) rest in
+          let empty = right-of (ltb s (N file) && eqb (versionOf file) 1) (emptyRow (fieldsOf file) s) rest in
+          inr (
+            eqb-true (versionOf file) 1 (right-of (ltb s (N file)) (eqb (versionOf file) 1) front),
+            λ t k.
+                sym (weight-of-file file bytes s t low k) ∙
+                eqb-true (weightOf (fieldsOf file) s t) 0 (every-at 32 (λ t. eqb (weightOf (fieldsOf file) s t) 0) empty t k),
+          )
+
+  rows-words : rowsRight (fieldsOf file) ≡ true → AddUp file
+  unfolding rowsRight fieldsOf
+  rows-words right s l =
+      adds-or-halted s l
+      (every-at 32 (λ s. leb (N file) s || addsUp (fieldsOf file) s || halted (fieldsOf file) s) right s (omega (arith, few)))
+
+  words-rows : AddUp file → rowsRight (fieldsOf file) ≡ true
+  unfolding rowsRight fieldsOf
+  words-rows w =
+      every-all 32 (λ s. leb (N file) s || addsUp (fieldsOf file) s || halted (fieldsOf file) s) (λ s low. by s low (decLt s (N file)))
+    where
+      of : (s : ℕ) → s < 32 → s < N file →
+          (sumBelow 32 (weightAt file s) ≡ D file) ⊎ ((versionOf file ≡ 1) × ((t : ℕ) → t < 32 → weightAt file s t ≡ 0)) →
+          (addsUp (fieldsOf file) s || halted (fieldsOf file) s) ≡ true
+      of s low l (inl up) =
+          ap (λ (b : Bool). b || halted (fieldsOf file) s)
+          (eq-eqb (sumBelow 32 (weightOf (fieldsOf file) s)) (D file) (same-sum s low ∙ up))
+      of s low l (inr (one, none)) =
+          either (addsUp (fieldsOf file) s) (halted (fieldsOf file) s)
+          (and-true (and-true (lt-ltb s (N file) l) (eq-eqb (versionOf file) 1 one))
+          (every-all 32 (λ t. eqb (weightOf (fieldsOf file) s t) 0)
+          (λ t k. eq-eqb (weightOf (fieldsOf file) s t) 0 (weight-of-file file bytes s t low k ∙ none t k))))
+
+      by : (s : ℕ) → s < 32 → Dec (s < N file) → (leb (N file) s || addsUp (fieldsOf file) s || halted (fieldsOf file) s) ≡ true
+      by s low (yes l) =
+          ap (λ (b : Bool). b || addsUp (fieldsOf file) s || halted (fieldsOf file) s) (lt-leb (N file) s l) ∙ of s low l (w s l)
+      by s low (no past) =
+          ap (λ (b : Bool). b || addsUp (fieldsOf file) s || halted (fieldsOf file) s) (le-leb (N file) s (omega arith))
+
+-- row 5, which is stated by `rowsRight`, asks what the documents' sentences on rows ask, of every file of bytes to which row 4 does not
+-- apply
+pub row-5-in-words : (file : List ℕ) → Bytes file → laidOut file (fieldsOf file) ≡ true → (rowsRight (fieldsOf file) ≡ true) ↔ AddUp file
+row-5-in-words file bytes laid = (rows-words file bytes laid, words-rows file bytes laid)

@@ -13,7 +13,7 @@ use Rattle.block.specs.Block.{checksRight}
 use Rattle.model.specs.declared.Model.{Model}
 use Rattle.model.specs.declared.ModelRead.{ModelRead}
 use Rattle.model.specs.Layout.{fieldsOf, emptyModel, blocks, fileOf}
-use Rattle.model.specs.Rules.{fieldsRight, allAddUp, lengthRight, laidOut}
+use Rattle.model.specs.Rules.{fieldsRight, rowsRight, lengthRight, laidOut}
 
 -- the rows 2 to 5 of a model file
 abbrev pub fileRows : List ℕ → List Row
@@ -21,7 +21,7 @@ fileRows file =
     record { number = 2; applies = not (lengthRight file) } ∷
     record { number = 3; applies = not (checksRight file) } ∷
     record { number = 4; applies = not (laidOut file (fieldsOf file)) } ∷
-    record { number = 5; applies = not (allAddUp (fieldsOf file)) } ∷
+    record { number = 5; applies = not (rowsRight (fieldsOf file)) } ∷
     []
 
 -- the number that a model file is refused with, 0 where it is accepted
@@ -38,7 +38,7 @@ pub record ReadModelEnsures (file : List ℕ) (r : ModelRead) : Type 0 where
 abbrev pub recordRows : Model → ℕ → List Row
 recordRows m room =
     record { number = 4; applies = not (fieldsRight m) } ∷
-    record { number = 5; applies = not (allAddUp m) } ∷
+    record { number = 5; applies = not (rowsRight m) } ∷
     record { number = 14; applies = ltb room (512 * blocks (m .n)) } ∷
     []
 

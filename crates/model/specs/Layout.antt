@@ -30,8 +30,9 @@ pub record Shaped (m : Model) : Type 0 where
   pub weight : (s t : ℕ) → weightOf m s t < 65536
 
 -- the model of these fields
-abbrev pub modelOf : (n a d : ℕ) → List ℕ → List (List ℕ) → Model
-modelOf n a d masks rows = record { n = n; a = a; d = d; masks = masks; weights = record { rows = rows } }
+abbrev pub modelOf : (n a d version : ℕ) → List ℕ → List (List ℕ) → Model
+modelOf n a d version masks rows =
+    record { n = n; a = a; d = d; version = version; masks = masks; weights = record { rows = rows } }
 
 -- the empty model, which stands beside a refusal: every field zero
 unfoldable pub emptyModel : Model
@@ -39,6 +40,7 @@ emptyModel = record {
   n = 0;
   a = 0;
   d = 0;
+  version = 0;
   masks = table 32 (λ s. 0);
   weights = record { rows = table 32 (λ s. table 32 (λ t. 0)) };
 }
@@ -83,12 +85,13 @@ maskAt file s = twoAt file 0 (masksFrom + 2 * s)
 abbrev pub weightAt : List ℕ → ℕ → ℕ → ℕ
 weightAt file s t = twoAt file (1 + s / statesPerBlock) (rowsFrom + rowBytes * (s % statesPerBlock) + 2 * t)
 
--- byte 1 is N, byte 2 is A, bytes 4..7 are D
+-- byte 1 is N, byte 2 is A, byte 3 is the version, bytes 4..7 are D; rows as they stand
 unfoldable pub fieldsOf : List ℕ → Model
 fieldsOf file = record {
   n = byteOf file 0 1;
   a = byteOf file 0 2;
   d = fourAt file 0 4;
+  version = byteOf file 0 3;
   masks = table 32 (maskAt file);
   weights = record { rows = table 32 (λ s. table 32 (weightAt file s)) };
 }
@@ -99,10 +102,10 @@ fieldsOf file = record {
 abbrev pub byteOfTwo : ℕ → ℕ → ℕ
 byteOfTwo x k = cond (ltb k 1) (lowByte x) (highByte x)
 
--- block 0 starts: byte 0 is 1, byte 1 is N, byte 2 is A, byte 3 is 0, bytes 4..7 are D
+-- block 0 starts: byte 0 is 1, byte 1 is N, byte 2 is A, byte 3 is the version, bytes 4..7 are D
 abbrev pub headStart : Model → List ℕ
 headStart m =
-    1 ∷ m .n ∷ m .a ∷ 0 ∷ lowByte (m .d) ∷ highByte (m .d) ∷ lowByte (m .d / 65536) ∷ highByte (m .d / 65536) ∷ []
+    1 ∷ m .n ∷ m .a ∷ m .version ∷ lowByte (m .d) ∷ highByte (m .d) ∷ lowByte (m .d / 65536) ∷ highByte (m .d / 65536) ∷ []
 
 -- byte k of the masks: two bytes a state
 abbrev pub maskByte : Model → ℕ → ℕ

@@ -14,9 +14,9 @@ use Rattle.model.specs.Layout.{maskOf, weightOf, contentByte, blocks}
 abbrev pub within : ℕ → ℕ → ℕ → Bool
 within low high x = leb low x && leb x high
 
--- N is 1..32 states, A is 1..16 labels, D is 1..65,535
+-- N is 1..32 states, A is 1..16 labels, D is 1..65,535, the version is 0 or 1
 abbrev pub numbersRight : Model → Bool
-numbersRight m = within 1 32 (m .n) && within 1 16 (m .a) && within 1 65535 (m .d)
+numbersRight m = within 1 32 (m .n) && within 1 16 (m .a) && within 1 65535 (m .d) && leb (m .version) 1
 
 -- a state's mask has its bits A and up zero; from N on it is zero
 abbrev pub maskRight : Model → ℕ → Bool
@@ -26,7 +26,7 @@ maskRight m s = (ltb s (m .n) && ltb (maskOf m s) (2 ^ m .a)) || eqb (maskOf m s
 abbrev pub weightRight : Model → ℕ → ℕ → Bool
 weightRight m s t = (ltb s (m .n) && ltb t (m .n)) || eqb (weightOf m s t) 0
 
--- N, A and D, every mask and every weight are right
+-- N, A, D and the version, every mask and every weight are right
 unfoldable pub fieldsRight : Model → Bool
 fieldsRight m = numbersRight m && everyBelow 32 (maskRight m) && everyBelow 32 (λ s. everyBelow 32 (weightRight m s))
 
@@ -34,9 +34,17 @@ fieldsRight m = numbersRight m && everyBelow 32 (maskRight m) && everyBelow 32 (
 abbrev pub addsUp : Model → ℕ → Bool
 addsUp m s = eqb (sumBelow 32 (weightOf m s)) (m .d)
 
--- the row of every state below N adds up to D
-unfoldable pub allAddUp : Model → Bool
-allAddUp m = everyBelow 32 (λ s. leb (m .n) s || addsUp m s)
+-- the row of state s is zero in all its weights
+abbrev pub emptyRow : Model → ℕ → Bool
+emptyRow m s = everyBelow 32 (λ t. eqb (weightOf m s t) 0)
+
+-- a halted state: one of the N states, in version 1, with an empty row
+abbrev pub halted : Model → ℕ → Bool
+halted m s = ltb s (m .n) && eqb (m .version) 1 && emptyRow m s
+
+-- the row of every state below N adds up to D; a halted state's row need not
+unfoldable pub rowsRight : Model → Bool
+rowsRight m = everyBelow 32 (λ s. leb (m .n) s || addsUp m s || halted m s)
 
 -- the length is a multiple of 512 in 512..3,072
 unfoldable pub lengthRight : List ℕ → Bool

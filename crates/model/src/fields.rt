@@ -75,6 +75,7 @@ pub(crate) fn fields_of(file: &[u8]) -> Model
         n: wide(block_byte(file, 0, 1)),
         a: wide(block_byte(file, 0, 2)),
         d: four_of(two_at(file, 0, 4), two_at(file, 0, 6)),
+        version: wide(block_byte(file, 0, 3)),
         masks: masks,
         weights: weights,
     }

@@ -30,11 +30,11 @@ fn zeros(file: &[u8], block: usize, from: usize, count: usize) -> bool
     true
 }
 
-// Whether block 0 stands as the layout has it: byte 0 is 1, byte 3 is 0, and from byte 72 on all are zero.
+// Whether block 0 stands as the layout has it: byte 0 is 1, and from byte 72 on all are zero.
 fn head_laid(file: &[u8]) -> bool
     ensures { λ r. ⌜ r ≡ everyBelow 510 (λ j. eqb (byteOf (now (file .entry)) 0 j) (contentByte (fieldsOf (now (file .entry))) 0 j)) ⌝ }
 {
-    (block_byte(file, 0, 0) == 1) & (block_byte(file, 0, 3) == 0) & zeros(file, 0, 72, 438)
+    (block_byte(file, 0, 0) == 1) & zeros(file, 0, 72, 438)
 }
 
 // Whether block i stands as the layout has it: byte 0 is 2, byte 1 is i, and all are zero from byte 450 on, in block 5

@@ -24,12 +24,13 @@ pub const ROWS_END: usize = 450;
 // The bytes of a block between its rows and its check.
 const AFTER_ROWS: usize = 60;
 
-// A model as its file says it: N states, A labels, D, a label mask for each state, and the weight from each state to
-// each. The record can hold what no file can: such a record is refused by write_model.
+// A model as its file says it: N states, A labels, D, the version, a label mask for each state, and the weight from each
+// state to each. The record can hold what no file can: such a record is refused by write_model.
 pub struct Model {
     pub n: u32,
     pub a: u32,
     pub d: u32,
+    pub version: u32,
     pub masks: [u16; 32],
     pub weights: Weights,
 }

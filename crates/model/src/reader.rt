@@ -32,6 +32,7 @@ fn empty_model() -> Model
         n: 0,
         a: 0,
         d: 0,
+        version: 0,
         masks: [0u16; 32],
         weights: matrix::holding([[0u16; 32]; 32]),
     }

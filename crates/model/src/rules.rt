@@ -6,19 +6,19 @@ ghost use lib.ListN.{getD};
 ghost use mathlib.Core.List.{[]};
 ghost use lib.Dec.{leb, ltb, eqb};
 ghost use Rattle.counting.specs.Below.{sumBelow, everyBelow};
-ghost use Rattle.model.specs.Rules.{within, fieldsRight, allAddUp};
+ghost use Rattle.model.specs.Rules.{within, fieldsRight, rowsRight};
 use crate::Model;
 use crate::fields::wide16;
 use crate::matrix;
 
-// Whether N is 1..32 states, A is 1..16 labels and D is 1..65,535.
-fn numbers_right(n: u32, a: u32, d: u32) -> bool
-    ensures { λ r. ⌜ r ≡ (within 1 32 n && within 1 16 a && within 1 65535 d) ⌝ }
+// Whether N is 1..32 states, A is 1..16 labels, D is 1..65,535 and the version is 0 or 1.
+fn numbers_right(n: u32, a: u32, d: u32, version: u32) -> bool
+    ensures { λ r. ⌜ r ≡ (within 1 32 n && within 1 16 a && within 1 65535 d && leb version 1) ⌝ }
 {
     let states = (1 <= n) & (n <= 32);
     let labels = (1 <= a) & (a <= 16);
     let total = (1 <= d) & (d <= 65535);
-    states & labels & total
+    states & labels & total & (version <= 1)
 }
 
 // Whether a mask has its bits A and up zero.
@@ -87,7 +87,7 @@ pub fn fields_right(m: Model) -> bool
     let masks = m.masks;
     let rows = matrix::rows_of(m.weights);
     let n = m.n as usize;
-    numbers_right(m.n, m.a, m.d) & states_right(n, m.a, &masks, &rows)
+    numbers_right(m.n, m.a, m.d, m.version) & states_right(n, m.a, &masks, &rows)
 }
 
 // The sum of a row.
@@ -103,14 +103,22 @@ pub(crate) fn row_sum(row: &[u16; 32]) -> u32
     total
 }
 
-// Whether the row of every state below N adds up to D.
-fn rows_add_up(rows: [[u16; 32]; 32], n: usize, d: u32) -> bool
-    ensures { λ r. ⌜ r ≡ everyBelow 32 (λ s. leb n s || eqb (sumBelow 32 (λ t. getD (getD rows s []) t 0)) d) ⌝ }
+// Whether state s, with this row, is halted: one of the N states, in version 1, with an empty row.
+pub fn is_halted(row: &[u16; 32], s: usize, n: usize, version: u32) -> bool
+    ensures { λ r. ⌜ r ≡ (ltb s n && eqb version 1 && everyBelow 32 (λ t. eqb (getD (now (row .entry)) t 0) 0)) ⌝ }
+{
+    (s < n) & (version == 1) & zero_from(row, 0)
+}
+
+// Whether the row of every state below N adds up to D, or the state is halted.
+fn all_rows_right(rows: [[u16; 32]; 32], n: usize, d: u32, version: u32) -> bool
+    ensures { λ r. ⌜ r ≡ everyBelow 32 (λ s. leb n s || eqb (sumBelow 32 (λ t. getD (getD rows s []) t 0)) d ||
+        ltb s n && eqb version 1 && everyBelow 32 (λ t. eqb (getD (getD rows s []) t 0) 0)) ⌝ }
 {
     let mut s: usize = 0;
     while s < 32 {
         let row = rows[s];
-        if !((n <= s) | (row_sum(&row) == d)) {
+        if !((n <= s) | (row_sum(&row) == d) | is_halted(&row, s, n, version)) {
             return false;
         }
         s += 1;
@@ -120,8 +128,8 @@ fn rows_add_up(rows: [[u16; 32]; 32], n: usize, d: u32) -> bool
 
 // Whether row 5 does not apply to a record.
 pub fn rows_right(m: Model) -> bool
-    ensures { λ r. ⌜ r ≡ allAddUp m ⌝ }
+    ensures { λ r. ⌜ r ≡ rowsRight m ⌝ }
 {
     let rows = matrix::rows_of(m.weights);
-    rows_add_up(rows, m.n as usize, m.d)
+    all_rows_right(rows, m.n as usize, m.d, m.version)
 }

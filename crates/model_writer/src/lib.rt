@@ -46,15 +46,15 @@ fn mask_byte(masks: &[u16; 32], k: usize) -> u8
 }
 
 // Byte j of block 0.
-fn head_byte(n: u8, a: u8, d: u32, masks: &[u16; 32], j: usize) -> u8
+fn head_byte(n: u8, a: u8, d: u32, version: u8, masks: &[u16; 32], j: usize) -> u8
     requires { ⌜ length (now masks) ≡ 32 ⌝ }
-    ensures { λ r. ⌜ r ≡ headByte (modelOf n a d (now (masks .entry)) []) j ⌝ }
+    ensures { λ r. ⌜ r ≡ headByte (modelOf n a d version (now (masks .entry)) []) j ⌝ }
 {
     match j {
         0 => 1,
         1 => n,
         2 => a,
-        3 => 0,
+        3 => version,
         4 => (d % 256) as u8,
         5 => (d / 256 % 256) as u8,
         6 => (d / 65536 % 256) as u8,
@@ -80,7 +80,7 @@ fn weight_byte(rows: &[[u16; 32]; 32], s: usize, k: usize) -> u8
 // Byte j of block i, from 1 on.
 fn row_byte(rows: &[[u16; 32]; 32], i: usize, j: usize) -> u8
     requires { ⌜ (length (now rows) ≡ 32) × (1 ≤ i) × (i ≤ 6) ⌝ }
-    ensures { λ r. ⌜ r ≡ rowByte (modelOf 0 0 0 [] (now (rows .entry))) i j ⌝ }
+    ensures { λ r. ⌜ r ≡ rowByte (modelOf 0 0 0 0 [] (now (rows .entry))) i j ⌝ }
 {
     match j {
         0 => 2,
@@ -100,16 +100,17 @@ fn content_byte(
     n: u8,
     a: u8,
     d: u32,
+    version: u8,
     masks: &[u16; 32],
     rows: &[[u16; 32]; 32],
     i: usize,
     j: usize,
 ) -> u8
     requires { ⌜ (length (now masks) ≡ 32) × (length (now rows) ≡ 32) × (i ≤ 6) ⌝ }
-    ensures { λ r. ⌜ r ≡ contentByte (modelOf n a d (now (masks .entry)) (now (rows .entry))) i j ⌝ }
+    ensures { λ r. ⌜ r ≡ contentByte (modelOf n a d version (now (masks .entry)) (now (rows .entry))) i j ⌝ }
 {
     if i == 0 {
-        head_byte(n, a, d, masks, j)
+        head_byte(n, a, d, version, masks, j)
     } else {
         row_byte(rows, i, j)
     }
@@ -120,18 +121,19 @@ fn write_content(
     n: u8,
     a: u8,
     d: u32,
+    version: u8,
     masks: &[u16; 32],
     rows: &[[u16; 32]; 32],
     i: usize,
     out: &mut [u8],
 )
     requires { ⌜ (length (now masks) ≡ 32) × (length (now rows) ≡ 32) × (i ≤ 6) × (512 ≤ length (now out)) ⌝ }
-    ensures { λ r. ⌜ now (out .exit) ≡ table 510 (contentByte (modelOf n a d (now (masks .entry)) (now (rows .entry))) i) ++ drop 510
-        (now (out .entry)) ⌝ }
+    ensures { λ r. ⌜ now (out .exit) ≡ table 510 (contentByte (modelOf n a d version (now (masks .entry)) (now (rows .entry))) i)
+        ++ drop 510 (now (out .entry)) ⌝ }
 {
     let mut j: usize = 0;
     while j < CHECKED {
-        out[j] = content_byte(n, a, d, masks, rows, i, j);
+        out[j] = content_byte(n, a, d, version, masks, rows, i, j);
         j += 1;
     }
 }
@@ -141,16 +143,17 @@ fn write_block(
     n: u8,
     a: u8,
     d: u32,
+    version: u8,
     masks: &[u16; 32],
     rows: &[[u16; 32]; 32],
     i: usize,
     out: &mut [u8],
 )
     requires { ⌜ (length (now masks) ≡ 32) × (length (now rows) ≡ 32) × (i ≤ 6) × (512 ≤ length (now out)) ⌝ }
-    ensures { λ r. ⌜ now (out .exit) ≡ atFront (blockBytes (modelOf n a d (now (masks .entry)) (now (rows .entry))) i)
+    ensures { λ r. ⌜ now (out .exit) ≡ atFront (blockBytes (modelOf n a d version (now (masks .entry)) (now (rows .entry))) i)
         (now (out .entry)) ⌝ }
 {
-    write_content(n, a, d, masks, rows, i, out);
+    write_content(n, a, d, version, masks, rows, i, out);
     let check = check_of(out, 0);
     out[CHECKED] = (check % 256) as u8;
     out[CHECK_HIGH] = (check / 256 % 256) as u8;
@@ -161,19 +164,20 @@ fn write_blocks(
     n: u8,
     a: u8,
     d: u32,
+    version: u8,
     masks: &[u16; 32],
     rows: &[[u16; 32]; 32],
     count: usize,
     out: &mut [u8],
 )
     requires { ⌜ (length (now masks) ≡ 32) × (length (now rows) ≡ 32) × (count ≤ 6) × (512 * count ≤ length (now out)) ⌝ }
-    ensures { λ r. ⌜ now (out .exit) ≡ atFront (blocksBelow (modelOf n a d (now (masks .entry)) (now (rows .entry))) count)
+    ensures { λ r. ⌜ now (out .exit) ≡ atFront (blocksBelow (modelOf n a d version (now (masks .entry)) (now (rows .entry))) count)
         (now (out .entry)) ⌝ }
 {
     let mut i: usize = 0;
     while i < count {
         let at = BLOCK * i;
-        write_block(n, a, d, masks, rows, i, &mut out[at..]);
+        write_block(n, a, d, version, masks, rows, i, &mut out[at..]);
         i += 1;
     }
 }
@@ -195,6 +199,15 @@ pub fn write_model(m: Model, out: &mut [u8]) -> Written
     }
     let masks = m.masks;
     let rows = matrix::rows_of(m.weights);
-    write_blocks(m.n as u8, m.a as u8, m.d, &masks, &rows, count, out);
+    write_blocks(
+        m.n as u8,
+        m.a as u8,
+        m.d,
+        m.version as u8,
+        &masks,
+        &rows,
+        count,
+        out,
+    );
     Written::Wrote(size)
 }

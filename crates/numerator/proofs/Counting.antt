@@ -14,7 +14,7 @@ use Rattle.evaluate.specs.declared.Setting.{Setting}
 use Rattle.evaluate.specs.declared.Valued.{Valued}
 use Rattle.evaluate.specs.Evaluation.{PathReady, PathDone}
 use Rattle.trees.specs.Ranged.{Ranged}
-use Rattle.chain.specs.Of.{chainOf}
+use Rattle.chain.specs.Of.{chainOf, filledRows}
 use Rattle.paths.specs.Places.{PathPlace, TupleReady, TuplePlace}
 use Rattle.paths.proofs.Joining.{Found, path-found}
 use Rattle.paths.proofs.Members.{right-ready, layer-there}
@@ -61,7 +61,7 @@ module _ {m : Model} {s : Sentence} {g : Setting} {tuple : List ℕ} {number : �
       (subst (λ (k : ℕ). Ranged k (b .body)) (sym (so .variables)) (body-ranged b))
       (ap (exceeds (b .body) (m .d)) (so .variables) ∙ a .ready .small) (next always)
 
-  module _ {rows : List (List ℕ)} (e : rows ≡ m .weights .rows) {at : ℕ} (place : PathPlace (s .nodes) (s .count) number at) where
+  module _ {rows : List (List ℕ)} (e : rows ≡ filledRows m) {at : ℕ} (place : PathPlace (s .nodes) (s .count) number at) where
     pub path-ready : {w : List ℕ} → length w ≡ areaSize → PathReady (s .nodes) g (m .masks) rows at w
     path-ready long =
         let f = found place in

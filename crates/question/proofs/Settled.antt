@@ -27,7 +27,8 @@ use Rattle.evaluate.specs.Evaluation.{Fixed}
 use Rattle.trees.specs.Listed.{formulaNodes}
 use Rattle.trees.specs.Ranged.{Ranged}
 use Rattle.trees.proofs.Ranges.{nests-in-range, formula-ranged}
-use Rattle.chain.specs.Of.{chainOf}
+use Rattle.chain.specs.Of.{chainOf, filledRows}
+use Rattle.chain.proofs.Filling.{filled-cell}
 use Rattle.chain.proofs.Accepted as accepted
 use Rattle.question.specs.Contract.{QuestionRow, area, model, sentence, size, tuples, areaSize}
 use Rattle.question.specs.Working.{FileOfModel, TextOfSentence, Ready, SettingOf}
@@ -97,7 +98,14 @@ body-ranged {s = s} b =
     by true e = absurd (b .clean 7 (range (b .spelled) e))
     by false e = refl
 
--- the model's masks and rows hold its chain, in the setting of the pair
+-- D is no larger than a weight can be
+pub d-few : {m : Model} {s : Sentence} → Ready m s → m .d < 65536
+d-few r =
+    let a = r .read .model in
+    let low = subst (λ (x : Model). x .d ≤ 65535) (sym (a .fields)) (accepted.total-few (r .read .file) (a .accepted)) in
+    omega (arith, low)
+
+-- the model's masks and filled rows hold its chain, in the setting of the pair
 module _ {m : Model} {s : Sentence} {g : Setting} (r : Ready m s) (so : SettingOf m s g) where
   pub sizes : LayerSizes (g .states) (g .variables) (g .tuples)
   sizes =
@@ -114,15 +122,17 @@ module _ {m : Model} {s : Sentence} {g : Setting} (r : Ready m s) (so : SettingO
         few = omega (arith, t, few);
       }
 
-  pub fixed : {rows : List (List ℕ)} → rows ≡ m .weights .rows → Fixed (chainOf m) (m .masks) rows g
+  pub fixed : {rows : List (List ℕ)} → rows ≡ filledRows m → Fixed (chainOf m) (m .masks) rows g
   fixed {rows} same =
       let a = r .read .model in
       let some = subst (λ (x : Model). 1 ≤ x .d) (sym (a .fields)) (accepted.total-some (r .read .file) (a .accepted)) in
       let e = so .d in
+      let low = states-few a in
       record {
         held = record {
           states = sym (so .states);
-          weights = λ i j h k. ap (λ (x : List (List ℕ)). cell x i j) same;
+          weights = λ i j h k.
+              ap (λ (x : List (List ℕ)). cell x i j) same ∙ filled-cell m i j (omega (arith, low, h)) (omega (arith, low, k));
           sound = subst (λ (x : Model). Sound (chainOf x)) (sym (a .fields)) (accepted.sound (r .read .file) (a .accepted));
         };
         labels = λ l i h. refl;

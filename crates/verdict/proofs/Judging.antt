@@ -20,14 +20,14 @@ use Rattle.descent.proofs.Laws.{descent-is}
 use Rattle.trees.specs.Listed.{formulaNodes}
 use Rattle.trees.specs.Ranged.{Ranged}
 use Rattle.trees.proofs.Needs.{need-seven}
-use Rattle.chain.specs.Of.{chainOf}
+use Rattle.chain.specs.Of.{chainOf, filledRows}
 use Rattle.question.specs.Working.{TextOfSentence, Ready, SettingOf}
 use Rattle.question.proofs.Pair.{nodes-few, stands, one-sentence, letters-length}
 use Rattle.question.proofs.Settled.{body-ranged, sizes, fixed, variables-few, layers-fit}
 use Rattle.question.specs.Contract.{areaSize}
 
 module _ {m : Model} {s : Sentence} {g : Setting} {rows : List (List ℕ)} (r : Ready m s) (so : SettingOf m s g)
-    (e : rows ≡ m .weights .rows) where
+    (e : rows ≡ filledRows m) where
   -- the body can be evaluated
   pub formula-ready : {w : List ℕ} → length w ≡ areaSize → FormulaReady (s .nodes) g (m .masks) rows 0 w
   formula-ready long =

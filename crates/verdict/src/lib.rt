@@ -6,11 +6,11 @@ ghost use Rattle.question.specs.Contract.{areaSize};
 ghost use Rattle.question.specs.Working.{Ready};
 ghost use Rattle.verdict.specs.Contract.{verdictReply, VerdictEnsures};
 ghost use Rattle.verdict.specs.Working.{Judged};
+use chain::filled_rows;
 use descent::holds_from;
 use evaluate::nodes::state_formula;
 use layers::plain::zero;
 use model::Model;
-use model::matrix;
 use model::reader::read_model;
 use question::AREA;
 use question::first_number;
@@ -34,7 +34,7 @@ fn judged(m: Model, s: Sentence, area: &mut [u64]) -> bool
     let nodes = s.nodes;
     let exists = s.exists;
     let masks = m.masks;
-    let rows = matrix::rows_of(m.weights);
+    let rows = filled_rows(m);
     state_formula(nodes, g, &masks, &rows, 0, area);
     holds_from(exists, g.variables, g.states, 0, 0, area)
 }

@@ -335,10 +335,15 @@ impl Merges for Faulty {
 /// Stops unless a comparison finds a fault.
 fn found(fault: Fault, comparison: impl FnOnce(&Faulty) -> Tally) {
     let lib = Faulty(fault);
-    let outcome = catch_unwind(AssertUnwindSafe(|| comparison(&lib)));
-    let report = outcome.expect_err(&format!("{fault:?} was not found"));
+    noticed(&format!("{fault:?}"), || comparison(&lib));
+}
+
+/// Stops unless a comparison with a faulty library ends with a report of a difference.
+pub(super) fn noticed(fault: &str, comparison: impl FnOnce() -> Tally) {
+    let outcome = catch_unwind(AssertUnwindSafe(comparison));
+    let report = outcome.expect_err(&format!("{fault} was not found"));
     let text = report.downcast_ref::<String>().expect("a report");
-    assert!(text.contains("differs") || text.contains("work area"), "{fault:?}: {text}");
+    assert!(text.contains("differs") || text.contains("work area"), "{fault}: {text}");
 }
 
 #[test]
@@ -386,7 +391,7 @@ fn faults_at_the_ends_are_found_by_extremes() {
         (Fault::ManyNodesTurned, Kind::Nexts),
         (Fault::NoSizeRule, Kind::EndBeyond),
     ] {
-        found(fault, |lib| compare_extreme(lib, kind, 100, 15));
+        found(fault, |lib| compare_extreme(lib, kind, 1_000, 15));
     }
 }
 

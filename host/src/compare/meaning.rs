@@ -29,6 +29,7 @@ pub fn compare_verdict<L: Questions>(lib: &L, cases: usize, seed: u64) -> Tally 
     }
     tally.require(&ROWS);
     assert!(tally.holds > 0 && tally.fails > 0, "{tally}: one verdict was never given");
+    tally.reach.require_versions(1);
     tally
 }
 
@@ -51,7 +52,13 @@ fn inputs_after(what: &str, pair: &Pair, lent: &Pair) {
 }
 
 /// One verdict, with everything that is lent.
-fn verdict_case<L: Questions>(lib: &L, rng: &mut Rng, tally: &mut Tally, pair: &Pair, length: usize) {
+pub(super) fn verdict_case<L: Questions>(
+    lib: &L,
+    rng: &mut Rng,
+    tally: &mut Tally,
+    pair: &Pair,
+    length: usize,
+) {
     let before = work_area(rng, length);
     let mut after = before.clone();
     let expected = second::verdict(&pair.file, &pair.text, &mut after);
@@ -81,6 +88,7 @@ pub fn compare_numerator<L: Questions>(lib: &L, cases: usize, seed: u64) -> Tall
     }
     tally.require(&NUMERATOR_ROWS);
     assert!(tally.reach.every > cases as u64 / 4, "{tally}: few pairs were asked at every tuple");
+    tally.reach.require_versions(1);
     tally
 }
 
@@ -89,6 +97,7 @@ pub(super) fn any_numerator<L: Questions>(lib: &L, rng: &mut Rng, tally: &mut Ta
     let pair = question::pair(rng);
     odd_case(lib, rng, tally, &pair);
     if let Ok(found) = answer(&pair.file, &pair.text, Way::Fitting) {
+        tally.reach.model(&read_model(&pair.file).expect("a pair that is answered"));
         ask_all(lib, rng, tally, &Found { pair: &pair, found: &found }, PRODUCTS);
     }
 }
@@ -119,6 +128,7 @@ pub fn compare_full<L: Questions>(lib: &L, cases: usize, seed: u64) -> Tally {
     for case in 0..cases {
         let pair = extreme::few_steps(&mut rng, case);
         let found = answer(&pair.file, &pair.text, Way::Table).expect("a pair that is answered");
+        tally.reach.model(&read_model(&pair.file).expect("a pair that is answered"));
         ask_all(lib, &mut rng, &mut tally, &Found { pair: &pair, found: &found }, usize::MAX);
     }
     tally
@@ -225,6 +235,15 @@ fn ask_all<L: Questions>(lib: &L, rng: &mut Rng, tally: &mut Tally, pair: &Found
         tally.reach.every_full += u64::from(tuples == 1_024);
     }
     tally.reach.below_zero += u64::from(pair.found.below_zero);
+}
+
+/// The first path at every tuple of a pair under one letter, answered or refused.
+pub(super) fn at_each_state<L: Questions>(lib: &L, rng: &mut Rng, tally: &mut Tally, pair: &Pair) {
+    for state in 0..pair.file[1] {
+        let asked = Asked { pair, tuple: vec![state], path: 0, room: WORK + 1 };
+        let expected = expected_of(rng, &asked);
+        numerator_case(lib, rng, tally, &asked, expected);
+    }
 }
 
 /// Row 15 on both sides: for `cases` pairs that are answered, tuples of every

@@ -3,6 +3,7 @@
 use super::meaning::members;
 use super::{agree, output, output_after, shown_file, shown_text, Merges, Questions, Tally};
 use crate::inputs::grouping::{self, Merging};
+use crate::inputs::model::file_of;
 use crate::inputs::{question, Rng};
 use crate::second::meaning::{answer, Answer, Way, WORK};
 use crate::second::{self, read_model};
@@ -15,6 +16,8 @@ pub fn compare_merge<L: Merges>(lib: &L, cases: usize, seed: u64) -> Tally {
         any_merge(lib, &mut rng, &mut tally);
     }
     tally.require(&[2, 3, 4, 5, 12, 13, 14]);
+    tally.reach.require_versions(1);
+    assert!(tally.reach.mixed.iter().all(|&count| count > 0), "{tally}: {:?}", tally.reach);
     tally
 }
 
@@ -39,6 +42,28 @@ pub fn compare_kept<L: Merges + Questions>(lib: &L, cases: usize, seed: u64) -> 
     }
     let every = tally.reach.every;
     assert!(every > cases as u64 / 10, "{tally}: only {every} merges were asked at every tuple of a path");
+    tally.reach.require_versions(1);
+    tally
+}
+
+/// What an empty row means: for `cases` random models the grouping 0, 1, 2, .. gives the filled file, the same file
+/// where no row is empty, and a random sentence is asked of both files as in [`compare_kept`].
+pub fn compare_filled<L: Merges + Questions>(lib: &L, cases: usize, seed: u64) -> Tally {
+    let mut rng = Rng::new(seed);
+    let mut tally = Tally::new("what filling keeps");
+    for _ in 0..cases {
+        let merging = grouping::identity(&mut rng);
+        let given = merge_case(lib, &mut rng, &mut tally, &merging).expect("the grouping 0, 1, 2, ..");
+        let model = read_model(&merging.file).expect("a model that was merged");
+        let told = || shown(&merging);
+        agree("the filled file", &file_of(&model.filled()), &given, told);
+        if (0..model.n as usize).all(|state| !model.row_is_empty(state)) {
+            agree("a file without an empty row", &merging.file, &given, told);
+        }
+        keeps(lib, &mut rng, &mut tally, &merging, &given);
+    }
+    tally.require(&[]);
+    tally.reach.require_versions(1);
     tally
 }
 
@@ -49,7 +74,12 @@ fn shown(merging: &Merging) -> String {
 }
 
 /// One merge; gives the merged file if it was accepted.
-fn merge_case<L: Merges>(lib: &L, rng: &mut Rng, tally: &mut Tally, merging: &Merging) -> Option<Vec<u8>> {
+pub(super) fn merge_case<L: Merges>(
+    lib: &L,
+    rng: &mut Rng,
+    tally: &mut Tally,
+    merging: &Merging,
+) -> Option<Vec<u8>> {
     let before = output(rng, merging.room);
     let mut written = before.clone();
     let expected = second::merge(&merging.file, &merging.grouping, &mut written);
@@ -60,6 +90,10 @@ fn merge_case<L: Merges>(lib: &L, rng: &mut Rng, tally: &mut Tally, merging: &Me
     agree("merge: the lent grouping", &merging.grouping, &lent.grouping, || shown(merging));
     output_after("merge", &expected, &written, &before, &after, || shown(merging));
     tally.count(&expected);
+    if matches!(expected, Ok(_) | Err(13)) {
+        let model = read_model(&merging.file).expect("a model that was merged or refused by 13");
+        tally.reach.merge(&model, &merging.grouping, expected.is_ok());
+    }
     let length = expected.ok()?;
     after.truncate(length);
     Some(after)

@@ -1,7 +1,8 @@
 //! What the answered cases of an area had, so that a generator that stops reaching something is noticed.
 
 use crate::inputs::question::Pair;
-use crate::second::{read_sentence, Node};
+use crate::second::{read_model, read_sentence, Model, Node};
+use std::fmt::{self, Formatter};
 
 /// Counts of answered cases that had something.
 #[derive(Clone, Debug, Default, PartialEq, Eq)]
@@ -30,6 +31,12 @@ pub struct Reach {
     pub every: u64,
     /// Those of exactly 1,024 tuples.
     pub every_full: u64,
+    /// Models of version 0.
+    pub version_0: u64,
+    /// Models of version 1: without an empty row, with one, with several, with no other row.
+    pub version_1: [u64; 4],
+    /// Merges with an empty row and a written one in a group: those accepted, and those refused by 13.
+    pub mixed: [u64; 2],
 }
 
 impl Reach {
@@ -45,6 +52,54 @@ impl Reach {
         let long = |node: &Node| matches!(node, Node::Until { to: 60, .. });
         self.window_60 += u64::from(sentence.nodes[..sentence.count].iter().any(long));
         self.nodes_60 += u64::from(sentence.count >= 60);
+        self.model(&read_model(&pair.file).expect("a pair that is answered"));
+    }
+
+    /// Counts a model by its version and its empty rows.
+    pub(super) fn model(&mut self, model: &Model) {
+        let states = model.n as usize;
+        let empty = (0..states).filter(|&state| model.row_is_empty(state)).count();
+        let place = match empty {
+            0 => 0,
+            _ if empty == states => 3,
+            1 => 1,
+            _ => 2,
+        };
+        match model.version {
+            0 => self.version_0 += 1,
+            _ => self.version_1[place] += 1,
+        }
+    }
+
+    /// Counts a merge that is answered or refused by 13.
+    pub(super) fn merge(&mut self, model: &Model, grouping: &[u8], answered: bool) {
+        if answered {
+            self.model(model);
+        }
+        let has = |group: u8, empty: bool| {
+            let mut members = (0..grouping.len()).filter(|&state| grouping[state] == group);
+            members.any(|state| model.row_is_empty(state) == empty)
+        };
+        if grouping.iter().any(|&group| has(group, true) && has(group, false)) {
+            self.mixed[usize::from(!answered)] += 1;
+        }
+    }
+
+    /// Tells how many models of each version were counted, if there were any.
+    pub(super) fn tell_versions(&self, f: &mut Formatter<'_>) -> fmt::Result {
+        let [none, one, several, all] = self.version_1;
+        if self.version_0 + none + one + several + all == 0 {
+            return Ok(());
+        }
+        write!(f, "; version 0: {}, version 1: {none} without an empty row, ", self.version_0)?;
+        write!(f, "{one} with one, {several} with several, {all} with no other")
+    }
+
+    /// Stops unless there were at least so many models of version 0, and of version 1 with no empty row, with one, with
+    /// several and with no other.
+    pub fn require_versions(&self, least: u64) {
+        assert!(self.version_0 >= least, "too few models of version 0: {self:?}");
+        assert!(self.version_1.iter().all(|&count| count >= least), "too few models of version 1: {self:?}");
     }
 
     /// Counts a fraction that was given.
@@ -68,5 +123,8 @@ impl Reach {
         self.between += other.between;
         self.every += other.every;
         self.every_full += other.every_full;
+        self.version_0 += other.version_0;
+        self.version_1.iter_mut().zip(other.version_1).for_each(|(sum, count)| *sum += count);
+        self.mixed.iter_mut().zip(other.mixed).for_each(|(sum, count)| *sum += count);
     }
 }

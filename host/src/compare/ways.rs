@@ -31,6 +31,7 @@ pub fn compare_ways(cases: u64, seed: u64) -> Tally {
             tally.holds += u64::from(found.holds);
             tally.fails += u64::from(!found.holds);
             tally.reach.letters[letters] += 1;
+            tally.reach.model(&model);
             tally.reach.below_zero += u64::from(found.below_zero);
             tally.numerators += found.paths.iter().map(|path| path.tops.len() as u64).sum::<u64>();
         }

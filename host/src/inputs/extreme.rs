@@ -1,7 +1,7 @@
 //! Pairs of a model and a sentence at the ends of what is answered: as many
 //! tuples, as long windows, as great numbers and as deep nesting as there can be.
 
-use super::model::{file_of, model_with};
+use super::model::{any_with, file_of, model_with};
 use super::question::{fitting_sentence, widest_window, Pair};
 use super::Rng;
 use crate::second::meaning::{answer, Way};
@@ -72,7 +72,7 @@ pub fn pair(rng: &mut Rng, kind: Kind) -> Pair {
 fn full(rng: &mut Rng) -> Pair {
     let (n, letters) = rng.pick(&FULL);
     let d = rng.between(1, 3) as u32;
-    let model = model_with(rng, n, 2, d);
+    let model = any_with(rng, n, 2, d);
     let size = rng.between(3, 20);
     let text = fitting_sentence(rng, &model, letters, size).text();
     if text.contains(&b'P') {
@@ -88,7 +88,7 @@ fn full(rng: &mut Rng) -> Pair {
 pub fn few_steps(rng: &mut Rng, case: usize) -> Pair {
     let (n, letters) = FULL[case % FULL.len()];
     let d = rng.between(2, 4) as u32;
-    let asked = Asked { model: model_with(rng, n, 2, d), letters, window: 2 };
+    let asked = Asked { model: any_with(rng, n, 2, d), letters, window: 2 };
     let (left, right) = (asked.atom(rng), asked.atom(rng));
     let other = format!("{}{}", char::from(rng.pick(b"ab")), letters);
     let body = match rng.below(3) {
@@ -103,7 +103,7 @@ pub fn few_steps(rng: &mut Rng, case: usize) -> Pair {
 fn beyond(rng: &mut Rng) -> Pair {
     let (n, letters) = rng.pick(&[(11, 3), (11, 3), (12, 3), (32, 3), (6, 4), (6, 4), (7, 4), (32, 4)]);
     let d = rng.between(1, 2) as u32;
-    let asked = Asked { model: model_with(rng, n, 2, d), letters, window: 2 };
+    let asked = Asked { model: any_with(rng, n, 2, d), letters, window: 2 };
     let body = match rng.below(3) {
         0 => "T".to_string(),
         1 => asked.atom(rng),
@@ -119,7 +119,9 @@ fn long_window(rng: &mut Rng) -> Pair {
     let n = (1..=32usize).rev().find(|&n| n.pow(letters as u32) <= most).unwrap_or(1);
     let n = rng.between(1, n) as u32;
     let d = if letters == 1 { rng.between(1, 2) as u32 } else { 1 };
-    let asked = Asked { model: model_with(rng, n, 2, d), letters, window: 60 };
+    // Runs of so many steps mostly end in an empty row where there is one.
+    let model = if rng.chance(1, 4) { any_with(rng, n, 2, d) } else { model_with(rng, n, 2, d) };
+    let asked = Asked { model, letters, window: 60 };
     let to = rng.pick(&[60, 60, 59, 50]);
     let from = rng.pick(&[0, 1, to / 2, to - 1, to]);
     let until = format!("PU{from},{to}:{}{}", asked.atom(rng), asked.atom(rng));
@@ -160,7 +162,7 @@ fn end(rng: &mut Rng, above: bool) -> Pair {
     loop {
         let (d, letters, body, gap) = rng.pick(&ENDS);
         let n = rng.between(1, if letters > 2 { 3 } else { 5 }) as u32;
-        let asked = Asked { model: model_with(rng, n, 2, d), letters, window: 0 };
+        let asked = Asked { model: any_with(rng, n, 2, d), letters, window: 0 };
         let (first, second) = (rng.pick(&["T", "T", "a1", "!b1"]), rng.pick(&["a1", "b1", "T", "!a1"]));
         let filled = body.replace('%', gap[usize::from(above)]);
         let body = filled.replace('f', first).replace('s', second);
@@ -223,7 +225,7 @@ impl Asked {
             (_, 1) => rng.pick(&[1, 2, 3, 4, 10, 100]),
             _ => rng.pick(&[1, 2, 2, 3, 4, 7]),
         };
-        let model = model_with(rng, n, 2, d);
+        let model = any_with(rng, n, 2, d);
         // Two probabilities are multiplied in a comparison, and products of them.
         let window = widest_window(d, letters * 4).clamp(1, 4);
         Asked { model, letters, window }

@@ -1,6 +1,6 @@
-//! Groupings: models made to fit a grouping, and groupings that fit no longer.
+//! Groupings: models of both versions made to fit a grouping, and groupings that fit no longer.
 
-use super::model::{self, file_of, model_with};
+use super::model::{self, any_with, file_of, model_with, staying, EMPTY};
 use super::Rng;
 use crate::second::model::blocks_of;
 use crate::second::Model;
@@ -16,14 +16,18 @@ pub struct Merging {
     pub room: usize,
 }
 
-/// A model and a grouping that it was made for: a small model, each of whose
+/// A model of either version and a grouping that it was made for: a small model, each of whose
 /// states became a group, its weights split among the members. At most so many states.
 pub fn planted(rng: &mut Rng, most: usize) -> (Model, Vec<u8>) {
     let states = rng.between(1, most);
     let groups = rng.between(1, states);
     let (a, any) = (rng.between(1, 4) as u32, rng.between(1, 65_535) as u32);
     let d = rng.pick(&[1, 2, 3, 4, 6, 10, 100, 65_535, any]);
-    let small = model_with(rng, groups as u32, a, d);
+    let mut small = model_with(rng, groups as u32, a, d);
+    if rng.chance(1, 2) {
+        small.version = 1;
+        halt(rng, &mut small);
+    }
     let mut grouping: Vec<u8> =
         (0..states).map(|s| if s < groups { s } else { rng.below(groups) } as u8).collect();
     rng.shuffle(&mut grouping);
@@ -39,7 +43,38 @@ pub fn planted(rng: &mut Rng, most: usize) -> (Model, Vec<u8>) {
             }
         }
     }
+    if small.version == 1 {
+        leave_out(rng, &mut model, &small, &grouping);
+    }
     (model, grouping)
+}
+
+/// Makes no state of a model halt, one, several or all: weight D to the state itself.
+fn halt(rng: &mut Rng, model: &mut Model) {
+    let n = model.n as usize;
+    let (one, part) = (rng.below(n), rng.pick(&[0, 1, 1, 2, 2, 4]));
+    for s in 0..n {
+        if rng.chance(part, 4) || (part == 1 && s == one) {
+            model.weights[s] = staying(model.d, s);
+        }
+    }
+}
+
+/// Puts a model made for a grouping into version 1. Where the small model's state halts, the members may stay in their
+/// group in any way: some rows are left empty, some become weight D to the state itself, some stay split.
+fn leave_out(rng: &mut Rng, model: &mut Model, small: &Model, grouping: &[u8]) {
+    model.version = 1;
+    let part = rng.pick(&[1, 2, 3, 5, 5]);
+    for (s, group) in grouping.iter().map(|&group| usize::from(group)).enumerate() {
+        if small.weights[group] != staying(small.d, group) {
+            continue;
+        }
+        if rng.chance(part, 5) {
+            model.weights[s] = EMPTY;
+        } else if rng.chance(1, 3) {
+            model.weights[s] = staying(model.d, s);
+        }
+    }
 }
 
 /// The input of a merge of any kind, half of them accepted.
@@ -47,7 +82,7 @@ pub fn merging(rng: &mut Rng) -> Merging {
     let most = rng.pick(&[3, 5, 8, 16, 32]);
     let (mut model, mut grouping) = planted(rng, most);
     let mut file = None;
-    match rng.below(20) {
+    match rng.below(21) {
         0..=6 => {}
         7 => grouping = (0..model.n as u8).collect(),
         8 => rng.shuffle(&mut grouping),
@@ -62,14 +97,26 @@ pub fn merging(rng: &mut Rng) -> Merging {
         }
         17 => file = Some(model::file(rng)),
         18 => grouping = (0..rng.below(40)).map(|_| rng.below(4) as u8).collect(),
+        19 => row_off(rng, &mut model),
         _ => {
             let n = rng.between(1, 4);
-            model = model_with(rng, n as u32, 1, 1);
+            model = any_with(rng, n as u32, 1, 1);
             grouping = (0..n).map(|_| rng.below(n) as u8).collect();
         }
     }
     let room = room(rng, &grouping);
     Merging { file: file.unwrap_or_else(|| file_of(&model)), grouping, room }
+}
+
+/// A merge that changes nothing but empty rows: a model of either version and the grouping 0, 1, 2, .., with just the
+/// room for the filled file.
+pub fn identity(rng: &mut Rng) -> Merging {
+    let most = rng.pick(&[3, 5, 8, 8, 32]);
+    let (n, a, any) = (rng.between(1, most), rng.between(1, 4) as u32, rng.between(1, 65_535) as u32);
+    let d = rng.pick(&[1, 2, 3, 4, 6, 10, 100, 65_535, any]);
+    let model = any_with(rng, n as u32, a, d);
+    let file = file_of(&model);
+    Merging { room: file.len(), file, grouping: (0..n as u8).collect() }
 }
 
 /// A length of the output near what a grouping calls for.
@@ -99,6 +146,12 @@ fn weight_off(rng: &mut Rng, model: &mut Model) {
         model.weights[s][from] -= 1;
         model.weights[s][to] += 1;
     }
+}
+
+/// The row of one state is left empty. Members of its group that leave the group are then not alike with it.
+fn row_off(rng: &mut Rng, model: &mut Model) {
+    model.version = 1;
+    model.weights[rng.below(model.n as usize)] = EMPTY;
 }
 
 /// One label of one state changes.

@@ -1,7 +1,7 @@
 //! Pairs of a model file and a sentence text: such as are answered, such as
 //! each row of a verdict refuses, and such as stand at an end of the size rule.
 
-use super::model::{self, file_of, model_with};
+use super::model::{self, any_with, file_of, unfill};
 use super::sentence::{self, Lean, Loose, Taste};
 use super::Rng;
 use crate::second::meaning::{answer, too_large, Way, TUPLES, WORK};
@@ -57,8 +57,8 @@ pub fn fitting(rng: &mut Rng) -> Pair {
     Pair { file: file_of(&model), text: loose.text() }
 }
 
-/// A model of few labels and, mostly, a small D, and a number of letters with
-/// which it has at most so many tuples.
+/// A model of either version, of few labels and, mostly, a small D, and a number of
+/// letters with which it has at most so many tuples.
 pub fn chain(rng: &mut Rng, tuples: usize) -> (Model, usize) {
     let letters = rng.pick(&[1, 1, 1, 2, 2, 2, 3, 4]);
     let most = (1..=32usize).rev().find(|n| n.pow(letters as u32) <= tuples).unwrap_or(1);
@@ -66,7 +66,7 @@ pub fn chain(rng: &mut Rng, tuples: usize) -> (Model, usize) {
     let any = rng.between(1, 65_535) as u32;
     let d = rng.pick(&[1, 1, 2, 2, 2, 2, 3, 3, 4, 4, 5, 6, 10, 100, 65_535, any]);
     let a = rng.between(1, 3) as u32;
-    (model_with(rng, n as u32, a, d), letters)
+    (any_with(rng, n as u32, a, d), letters)
 }
 
 /// The greatest k up to 60 with D to the power letters × k at most 2^62.
@@ -150,6 +150,9 @@ fn near(rng: &mut Rng) -> Pair {
     model.weights[0][..3].copy_from_slice(&[1, goal as u16, (d - 1 - goal) as u16]);
     model.weights[1][1] = d as u16;
     model.weights[2][2] = d as u16;
+    if rng.chance(1, 2) {
+        unfill(rng, &mut model);
+    }
     let window = widest_window(d as u32, 1).max(1) - 1;
     let relation = char::from(rng.pick(b"<L=G>"));
     let compared = format!("{relation}PU0,{window}:Ta1#{goal}/{};", d - 1);
@@ -183,7 +186,7 @@ fn at_tuple_limit(rng: &mut Rng) -> Pair {
     let (n, letters) =
         rng.pick(&[(32, 1), (31, 2), (32, 2), (10, 3), (11, 3), (5, 4), (6, 4), (32, 3), (32, 4), (1, 4)]);
     let d = rng.between(1, 3) as u32;
-    let model = model_with(rng, n, 2, d);
+    let model = any_with(rng, n, 2, d);
     let prefix = "AE".repeat(2)[..letters].to_string();
     let body = rng.pick(&["T", "a1", "!&a1b1", "=PXa1PXb1", "LPU0,2:a1b1#1/2;", "<#1/2;#1/3;"]);
     Pair { file: file_of(&model), text: format!("{prefix}.{body}").into_bytes() }
@@ -199,7 +202,7 @@ fn several(rng: &mut Rng) -> Pair {
     let back = rng.pick(&["", "", "", "", "T"]);
     let many = "!".repeat(rng.pick(&[0, 0, 57, 58, 59, 60]));
     let text = format!("{}.{many}LPU1,{to}:{variable}{label}#0/1;{back}", &"AEAE"[..letters]);
-    Pair { file: file_of(&model_with(rng, n, 1, d)), text: text.into_bytes() }
+    Pair { file: file_of(&any_with(rng, n, 1, d)), text: text.into_bytes() }
 }
 
 /// A pair whose sizes stand at an end of the size rule, on either side.
@@ -208,7 +211,7 @@ pub fn at_size_limit(rng: &mut Rng) -> Pair {
     let d = rng.pick(&[1, 2, 2, 3, 4, 5, 7, 10, 16, 255, 256, 46_340, 65_535, any]);
     let letters = rng.between(1, 3);
     let n = rng.between(1, 3) as u32;
-    let model = model_with(rng, n, 1, d);
+    let model = any_with(rng, n, 1, d);
     let widest = widest_window(d, letters);
     let window = rng.pick(&[widest, widest, widest + 1, rng.clone().below(widest + 1)]);
     let steps = (letters * window) as u32;

@@ -2,7 +2,7 @@
 
 use crate::second::{Node, Relation};
 
-/// A model as the steps take it.
+/// A model as the steps take it: its rows after filling.
 pub struct Chain {
     /// N.
     pub n: usize,
@@ -10,6 +10,8 @@ pub struct Chain {
     pub a: u8,
     /// D.
     pub d: u32,
+    /// The file's version.
+    version: u8,
     /// The label masks.
     pub masks: [u16; 32],
     /// The weights, N in a row, one row after another.
@@ -19,7 +21,7 @@ pub struct Chain {
 impl Chain {
     /// A chain to read into.
     pub fn empty() -> Chain {
-        Chain { n: 0, a: 0, d: 0, masks: [0; 32], weights: [0; 1_024] }
+        Chain { n: 0, a: 0, d: 0, version: 0, masks: [0; 32], weights: [0; 1_024] }
     }
 }
 
@@ -55,23 +57,34 @@ pub fn read_model(file: &[u8], chain: &mut Chain) -> Result<(), u8> {
     if !blocks.fold(true, |right, (i, block)| right & rows(i, block, chain)) {
         return Err(4);
     }
-    let mut states = chain.weights[..chain.n * chain.n].chunks_exact(chain.n);
-    let adds_up =
-        |row: &[u64]| row.iter().fold(0, |sum, &weight| weight.wrapping_add(sum)) == u64::from(chain.d);
-    if states.all(adds_up) {
+    if fill(chain) {
         Ok(())
     } else {
         Err(5)
     }
 }
 
+/// Fills the empty rows of version 1; tells whether every row then adds up to D.
+fn fill(chain: &mut Chain) -> bool {
+    let (n, d, empty_rows) = (chain.n, u64::from(chain.d), chain.version == 1);
+    let mut states = chain.weights[..n * n].chunks_exact_mut(n).enumerate();
+    states.all(|(s, row)| {
+        let sum = row.iter().fold(0u64, |sum, &weight| sum.wrapping_add(weight));
+        if sum == 0 && empty_rows {
+            row[s] = d;
+        }
+        sum == d || (sum == 0 && empty_rows)
+    })
+}
+
 /// Reads the head block; tells whether it keeps to the layout.
 fn head(block: &[u8], chain: &mut Chain) -> bool {
     chain.n = usize::from(block[1]);
     chain.a = block[2];
+    chain.version = block[3];
     chain.d = u32::from(two(&block[4..]));
     let ranges = (1..=32).contains(&chain.n) && (1..=16).contains(&chain.a) && chain.d > 0;
-    if !ranges || block[0] != 1 || block[3] != 0 || !zero(&block[6..8]) {
+    if !ranges || block[0] != 1 || chain.version > 1 || !zero(&block[6..8]) {
         return false;
     }
     let end = 8 + 2 * chain.n;

@@ -1,5 +1,5 @@
 //! The meaning of a sentence on a model: verdicts and numerators
-//! (document 01, 'Meaning'; refusals 1 to 11 and 15).
+//! (document 01, 'Meaning'; document 02, T-05; refusals 1 to 11 and 15).
 //!
 //! A path's numerators are found in two ways. [`Way::Runs`] lists every run and
 //! asks of each whether the path takes it, in the words of the definition.
@@ -88,6 +88,11 @@ pub fn numerator(
 /// Everything that a sentence means on a model, found in the given way. Refusals 2 to 11.
 pub fn answer(file: &[u8], text: &[u8], way: Way) -> Result<Answer, u8> {
     Ok(Question::of(file, text)?.answer(way))
+}
+
+/// Everything that a sentence means on a record's rows as they are given. Refusals 6 to 11.
+pub fn answer_on_rows(model: Model, text: &[u8], way: Way) -> Result<Answer, u8> {
+    Ok(Question::on_rows(model, text)?.answer(way))
 }
 
 /// Whether the size rule refuses a sentence that can be read, for a given D.
@@ -272,7 +277,7 @@ fn names_a_label_beyond(sentence: &Sentence, a: u32) -> bool {
     list.iter().any(|node| matches!(node, Node::Label { label, .. } if u32::from(*label) >= a))
 }
 
-/// A model and a sentence that no row from 2 to 11 refuses.
+/// A filled model and a sentence that no row from 2 to 11 refuses.
 struct Question {
     model: Model,
     sentence: Sentence,
@@ -286,9 +291,13 @@ struct Values {
 }
 
 impl Question {
-    /// Rows 2 to 11, in their order.
+    /// Rows 2 to 11, in their order. The model's rows are those after filling.
     fn of(file: &[u8], text: &[u8]) -> Result<Question, u8> {
-        let model = read_model(file)?;
+        Question::on_rows(read_model(file)?.filled(), text)
+    }
+
+    /// Rows 6 to 11, in their order.
+    fn on_rows(model: Model, text: &[u8]) -> Result<Question, u8> {
         let sentence = read_sentence(text)?;
         if names_a_label_beyond(&sentence, model.a) {
             return Err(9);
@@ -539,7 +548,7 @@ fn meets(relation: Relation, left: i128, right: i128) -> bool {
 
 #[cfg(test)]
 mod tests {
-    use super::super::model::examples::{m1, m2};
+    use super::super::model::examples::{halted, m1, m2};
     use super::super::model::write_model;
     use super::*;
 
@@ -582,6 +591,23 @@ mod tests {
         assert_eq!(fraction(&m1(), "PX&a1a2", &[0, 0]), (1, 16));
         assert_eq!(fraction(&m1(), "PX&a1a2", &[0, 1]), (4, 16));
         assert_eq!(fraction(&m2(), "PU0,2:Ta1", &[0]), (12, 16));
+    }
+
+    #[test]
+    fn an_empty_row_counts_as_weight_d_to_the_state_itself() {
+        // M1's masks, and no row that is not empty.
+        let mut still = Model { n: 2, a: 1, d: 4, version: 1, ..Model::empty() };
+        still.masks[1] = 1;
+        assert_eq!([0, 1].map(|s| fraction(&still, "PXa1", &[s])), [(0, 4), (4, 4)]);
+        assert_eq!([0, 1].map(|s| fraction(&still, "PU1,2:Ta1", &[s])), [(0, 16), (16, 16)]);
+        assert_eq!(fraction(&still, "PX&a1a2", &[1, 1]), (16, 16));
+        assert_eq!(said(&still, "A.=PXTPU0,3:TT"), Ok(true));
+        for path in ["PXa1", "PU0,2:Ta1", "PU2,2:!a1a1", "PX!a1", "PU1,3:a1a1"] {
+            for state in 0..3 {
+                assert_eq!(fraction(&halted(), path, &[state]), fraction(&m2(), path, &[state]), "{path}");
+            }
+        }
+        assert_eq!(fraction(&halted(), "PU0,2:Ta1", &[0]), (12, 16));
     }
 
     #[test]

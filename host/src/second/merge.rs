@@ -1,17 +1,21 @@
 //! Merging states that behave alike (document 01, 'Calls and refusal numbers';
-//! refusals 2 to 5, 12, 13 and 14).
+//! document 02, T-05; refusals 2 to 5, 12, 13 and 14).
 
 use super::model::{read_model, write_model, Model};
 
 /// Writes the model merged by a grouping to the front of `out` and tells the
-/// file's length. Refusals 2, 3, 4, 5, 12, 13, 14.
+/// file's length. The rows are those after filling. Refusals 2, 3, 4, 5, 12, 13, 14.
 pub fn merge(file: &[u8], grouping: &[u8], out: &mut [u8]) -> Result<usize, u8> {
-    let model = read_model(file)?;
-    let groups = groups_of(&model, grouping).ok_or(12)?;
-    if !groups.iter().all(|members| alike(&model, &groups, members)) {
+    merge_rows(&read_model(file)?.filled(), grouping, out)
+}
+
+/// Merges by the rows of a record as they are given. Refusals 12, 13, 14.
+pub fn merge_rows(model: &Model, grouping: &[u8], out: &mut [u8]) -> Result<usize, u8> {
+    let groups = groups_of(model, grouping).ok_or(12)?;
+    if !groups.iter().all(|members| alike(model, &groups, members)) {
         return Err(13);
     }
-    write_model(&merged(&model, &groups), out)
+    write_model(&merged(model, &groups), out)
 }
 
 /// The members of each group, if there is one number a state and the numbers
@@ -42,9 +46,10 @@ fn alike(model: &Model, groups: &[Vec<usize>], members: &[usize]) -> bool {
     members.iter().all(|&s| members.iter().all(|&t| equal(s, t)))
 }
 
-/// The merged model: each group with its members' mask and a member's total weights.
+/// The merged model, of the same version: each group with its members' mask and a member's total weights.
 fn merged(model: &Model, groups: &[Vec<usize>]) -> Model {
-    let mut small = Model { n: groups.len() as u32, a: model.a, d: model.d, ..Model::empty() };
+    let Model { a, d, version, .. } = *model;
+    let mut small = Model { n: groups.len() as u32, a, d, version, ..Model::empty() };
     for (g, members) in groups.iter().enumerate() {
         small.masks[g] = model.masks[members[0]];
         for (h, group) in groups.iter().enumerate() {
@@ -57,7 +62,7 @@ fn merged(model: &Model, groups: &[Vec<usize>]) -> Model {
 #[cfg(test)]
 mod tests {
     use super::super::meaning::numerator;
-    use super::super::model::examples::{m1, m2};
+    use super::super::model::examples::{halted, m1, m2};
     use super::*;
 
     fn file(model: &Model) -> Vec<u8> {
@@ -110,5 +115,43 @@ mod tests {
         let mut out = [0; 1_024];
         assert_eq!(merge(&file(&model), &[0, 0, 1, 1], &mut out), Ok(1_024));
         assert_eq!(read_model(&out), Ok(m1()));
+    }
+
+    #[test]
+    fn merging_keeps_the_version_and_writes_filled_rows() {
+        let filled = file(&Model { version: 1, ..m2() });
+        let mut out = [7; 1_100];
+        for given in [file(&halted()), filled.clone()] {
+            assert_eq!(merge(&given, &[0, 1, 2], &mut out), Ok(1_024));
+            assert_eq!(out[..1_024], filled);
+        }
+        assert_eq!(merge(&file(&halted()), &[0, 1, 1], &mut out), Ok(1_024));
+        let small = read_model(&out[..1_024]).unwrap();
+        assert_eq!((small.n, small.version), (2, 1));
+        assert_eq!(
+            (small.weights[0][..2].to_vec(), small.weights[1][..2].to_vec()),
+            (vec![2, 2], vec![0, 4])
+        );
+        assert!(out[1_024..].iter().all(|&byte| byte == 7));
+        assert_eq!(merge(&file(&halted()), &[0, 0, 1], &mut out), Err(13));
+        assert_eq!(merge(&file(&halted()), &[0, 1, 1], &mut out[..1_023]), Err(14));
+    }
+
+    #[test]
+    fn an_empty_row_goes_with_rows_that_stay_in_its_group() {
+        // States 0 and 1 halt, state 2 says so, state 3 moves between 2 and itself, state 4 leaves.
+        let mut model = Model { n: 5, a: 1, d: 4, version: 1, ..Model::empty() };
+        model.weights[2][2] = 4;
+        model.weights[3][2..4].copy_from_slice(&[1, 3]);
+        model.weights[4][..5].copy_from_slice(&[1, 0, 0, 0, 3]);
+        let answer = |grouping: &[u8]| merge(&file(&model), grouping, &mut [0; 1_024]).err();
+        assert_eq!(answer(&[0, 0, 1, 2, 3]), None);
+        assert_eq!(answer(&[0, 0, 0, 1, 2]), None);
+        assert_eq!(answer(&[0, 0, 0, 0, 1]), None);
+        assert_eq!(answer(&[0, 0, 0, 0, 0]), None);
+        assert_eq!(answer(&[0, 1, 1, 0, 2]), Some(13));
+        assert_eq!(answer(&[0, 1, 1, 2, 1]), Some(13));
+        model.masks[1] = 1;
+        assert_eq!(merge(&file(&model), &[0, 0, 1, 2, 3], &mut [0; 1_024]), Err(13));
     }
 }

@@ -1,5 +1,5 @@
 //! The model file: blocks, block checks, reading and writing
-//! (document 01, 'The model file'; refusals 2, 3, 4, 5 and 14).
+//! (document 01, 'The model file'; document 02, T-05; refusals 2, 3, 4, 5 and 14).
 
 /// Bytes of one block.
 pub const BLOCK: usize = 512;
@@ -17,16 +17,35 @@ pub struct Model {
     pub a: u32,
     /// D, to which the weights of every state add up.
     pub d: u32,
+    /// The file's version: 0, or 1 where a state's row may be empty.
+    pub version: u32,
     /// The label mask of each state: bit l for label l.
     pub masks: [u16; STATES],
-    /// Row s, column t: the weight from s to t.
+    /// Row s, column t: the weight from s to t, as it stands in the file.
     pub weights: [[u16; STATES]; STATES],
 }
 
 impl Model {
     /// The record with every field zero. It is no model of the layout.
     pub fn empty() -> Model {
-        Model { n: 0, a: 0, d: 0, masks: [0; STATES], weights: [[0; STATES]; STATES] }
+        Model { n: 0, a: 0, d: 0, version: 0, masks: [0; STATES], weights: [[0; STATES]; STATES] }
+    }
+
+    /// Whether a state's row is empty: zero in all its weights.
+    pub fn row_is_empty(&self, state: usize) -> bool {
+        self.weights[state] == [0; STATES]
+    }
+
+    /// The model after filling: in version 1 the empty row of a state below N becomes weight D to the state
+    /// itself. Everything else stays, rows from N on too.
+    pub fn filled(&self) -> Model {
+        let mut model = self.clone();
+        if self.version == 1 {
+            for state in (0..self.n as usize).filter(|&state| self.row_is_empty(state)) {
+                model.weights[state][state] = self.d as u16;
+            }
+        }
+        model
     }
 }
 
@@ -59,7 +78,7 @@ pub fn read_model(file: &[u8]) -> Result<Model, u8> {
     if !in_layout(&model) || spelled(&model) != file {
         return Err(4);
     }
-    if !rows_add_up(&model) {
+    if !rows_right(&model) {
         return Err(5);
     }
     Ok(model)
@@ -70,7 +89,7 @@ pub fn write_model(model: &Model, out: &mut [u8]) -> Result<usize, u8> {
     if !in_layout(model) {
         return Err(4);
     }
-    if !rows_add_up(model) {
+    if !rows_right(model) {
         return Err(5);
     }
     let file = spelled(model);
@@ -98,6 +117,7 @@ fn fields(file: &[u8]) -> Option<Model> {
     let mut model = Model::empty();
     model.n = file[1].into();
     model.a = file[2].into();
+    model.version = file[3].into();
     model.d = u32::from_le_bytes([file[4], file[5], file[6], file[7]]);
     for s in 0..n {
         model.masks[s] = number(file, 8 + 2 * s);
@@ -108,23 +128,25 @@ fn fields(file: &[u8]) -> Option<Model> {
     Some(model)
 }
 
-/// Whether a record keeps to the layout: N, A and D in range, no mask bit from
-/// A on, nothing but zero in masks, rows and columns from N on.
+/// Whether a record keeps to the layout: N, A, D and the version in range, no mask
+/// bit from A on, nothing but zero in masks, rows and columns from N on.
 fn in_layout(model: &Model) -> bool {
     let n = model.n as usize;
     let a = model.a;
     (1..=32).contains(&n)
         && (1..=16).contains(&a)
         && (1..=65_535).contains(&model.d)
+        && model.version <= 1
         && model.masks.iter().all(|&mask| u32::from(mask) >> a == 0)
         && (n..STATES).all(|s| model.masks[s] == 0)
         && (0..STATES).all(|s| (0..STATES).all(|t| (s < n && t < n) || model.weights[s][t] == 0))
 }
 
-/// Whether every state's weights add up to D.
-fn rows_add_up(model: &Model) -> bool {
-    let states = &model.weights[..(model.n as usize)];
-    states.iter().all(|row| row.iter().map(|&weight| u32::from(weight)).sum::<u32>() == model.d)
+/// Whether every state's weights add up to D, or are all zero where the version allows it.
+fn rows_right(model: &Model) -> bool {
+    let total = |state: usize| model.weights[state].iter().map(|&weight| u32::from(weight)).sum::<u32>();
+    let may_be_empty = model.version == 1;
+    (0..model.n as usize).all(|s| total(s) == model.d || (may_be_empty && model.row_is_empty(s)))
 }
 
 /// The file of a record of the layout, block by block, each with its check.
@@ -134,6 +156,7 @@ fn spelled(model: &Model) -> Vec<u8> {
     file[0] = 1;
     file[1] = model.n as u8;
     file[2] = model.a as u8;
+    file[3] = model.version as u8;
     file[4..8].copy_from_slice(&model.d.to_le_bytes());
     for (i, block) in file.chunks_mut(BLOCK).enumerate().skip(1) {
         block[0] = 2;
@@ -158,7 +181,7 @@ pub fn mend(file: &mut [u8]) {
     }
 }
 
-/// The two models of the document's examples, for tests.
+/// The two models of the document's examples, and one with an empty row, for tests.
 pub mod examples {
     use super::Model;
 
@@ -180,11 +203,18 @@ pub mod examples {
         model.weights[2][..3].copy_from_slice(&[0, 0, 4]);
         model
     }
+
+    /// M2 in version 1, the row of its last state left empty. Filled, it has M2's rows.
+    pub fn halted() -> Model {
+        let mut model = Model { version: 1, ..m2() };
+        model.weights[2] = [0; 32];
+        model
+    }
 }
 
 #[cfg(test)]
 mod tests {
-    use super::examples::{m1, m2};
+    use super::examples::{halted, m1, m2};
     use super::*;
 
     fn file(model: &Model) -> Vec<u8> {
@@ -216,7 +246,7 @@ mod tests {
 
     #[test]
     fn reading_what_was_written_gives_the_same() {
-        for model in [m1(), m2()] {
+        for model in [m1(), m2(), Model { version: 1, ..m2() }, halted(), halted().filled()] {
             assert_eq!(read_model(&file(&model)), Ok(model));
         }
     }
@@ -267,12 +297,74 @@ mod tests {
         assert_eq!(wrong(|m| m.a = 17), Err(4));
         assert_eq!(wrong(|m| m.d = 0), Err(4));
         assert_eq!(wrong(|m| m.d = 65_536), Err(4));
+        assert_eq!(wrong(|m| m.version = 2), Err(4));
+        assert_eq!(wrong(|m| m.version = 256), Err(4));
+        assert_eq!(wrong(|m| m.version = 65_536), Err(4));
+        assert_eq!(wrong(|m| m.version = u32::MAX), Err(4));
         assert_eq!(wrong(|m| m.masks[0] = 2), Err(4));
         assert_eq!(wrong(|m| m.masks[31] = 1), Err(4));
         assert_eq!(wrong(|m| m.weights[0][2] = 1), Err(4));
         assert_eq!(wrong(|m| m.weights[2][0] = 1), Err(4));
         assert_eq!(wrong(|m| m.weights[1][0] = 1), Err(5));
+        assert_eq!(wrong(|m| m.weights[1][1] = 0), Err(5));
+        assert_eq!(wrong(|m| (m.version, m.weights[1][1]) = (1, 3)), Err(5));
+        assert_eq!(wrong(|m| (m.version, m.weights[0][1]) = (1, 0)), Err(5));
+        assert_eq!(wrong(|m| (m.version, m.weights[1][1]) = (2, 0)), Err(4));
         assert_eq!(write_model(&m1(), &mut [0; 1_023]), Err(14));
         assert_eq!(write_model(&m1(), &mut [0; 1_024]), Ok(1_024));
+    }
+
+    /// A file with byte 3 and the weights of state 0 changed, its checks mended.
+    fn changed(model: &Model, version: u8, row: [u16; 2]) -> Vec<u8> {
+        let mut file = file(model);
+        file[3] = version;
+        for (t, weight) in row.into_iter().enumerate() {
+            file[weight_place(0, t)..][..2].copy_from_slice(&weight.to_le_bytes());
+        }
+        mend(&mut file);
+        file
+    }
+
+    #[test]
+    fn byte_3_is_the_version_and_4_above_1() {
+        for version in 0..=255 {
+            let expected = if version > 1 { Err(4) } else { Ok(Model { version: version.into(), ..m1() }) };
+            assert_eq!(read_model(&changed(&m1(), version, [3, 1])), expected, "version {version}");
+            let empty = [Err(5), Ok(()), Err(4)][usize::from(version.min(2))];
+            assert_eq!(read_model(&changed(&m1(), version, [0, 0])).map(|_| ()), empty, "version {version}");
+        }
+        let file = file(&Model { version: 1, ..m1() });
+        assert_eq!(file[510..512], [43, 0]);
+        assert_eq!(file[512..], self::file(&m1())[512..]);
+    }
+
+    #[test]
+    fn a_row_partly_zero_is_5_in_both_versions() {
+        for row in [[3, 0], [0, 1], [1, 0], [0, 3], [5, 0], [65_535, 1], [65_535, 5]] {
+            for version in [0, 1] {
+                assert_eq!(read_model(&changed(&m1(), version, row)), Err(5), "{row:?} in version {version}");
+            }
+        }
+    }
+
+    #[test]
+    fn reading_keeps_an_empty_row_and_filling_gives_it_d() {
+        let read = read_model(&file(&halted())).unwrap();
+        assert!(read.row_is_empty(2) && !read.row_is_empty(1));
+        assert_eq!(read.filled(), Model { version: 1, ..m2() });
+        assert_eq!(m2().filled(), m2());
+        let mut still = Model { n: 2, a: 1, d: 9, version: 1, ..Model::empty() };
+        assert_eq!(read_model(&file(&still)), Ok(still.clone()));
+        let rows_from_n = still.weights;
+        still = still.filled();
+        assert_eq!(
+            (still.weights[0][..3].to_vec(), still.weights[1][..3].to_vec()),
+            (vec![9, 0, 0], vec![0, 9, 0])
+        );
+        assert_eq!(still.weights[2..], rows_from_n[2..]);
+        assert_eq!(still.filled(), still);
+        still.version = 0;
+        still.weights[0] = [0; 32];
+        assert_eq!(still.filled(), still);
     }
 }

@@ -1,6 +1,7 @@
 /*
  * Calls each function of the header with values that matter in each place, on document 01's models, and stops at the first
- * answer that is not the document's. What read model and read sentence leave is handed to the writers as it is.
+ * answer that is not the document's; then on a model of version 1 with an empty row. What read model and read sentence leave
+ * is handed to the writers as it is.
  */
 #include "twolsken.h"
 
@@ -28,7 +29,7 @@ static size_t length;
 
 /* Write model, then read model, then write what was read. */
 static void models(void) {
-    const uint32_t head[3] = {3, 1, 4};
+    const uint32_t head[4] = {3, 1, 4, 0};
     const uint16_t masks[TWOLSKEN_STATES] = {0, 1, 1};
     uint16_t rows[TWOLSKEN_STATES][TWOLSKEN_STATES] = {{2, 1, 1}, {0, 3, 1}, {0, 0, 4}};
     uint64_t answer = twolsken_write_model(head, masks, rows, file, sizeof file);
@@ -37,13 +38,15 @@ static void models(void) {
     length = (size_t)answer;
     IS(3, file[1]);
     IS(1, file[2]);
+    IS(0, file[3]);
     IS(4, file[4]);
 
-    uint32_t head_read[3] = {9, 9, 9};
+    uint32_t head_read[4] = {9, 9, 9, 9};
     uint16_t masks_read[TWOLSKEN_STATES];
     uint16_t rows_read[TWOLSKEN_STATES][TWOLSKEN_STATES];
     IS(TWOLSKEN_REFUSAL_FILE_LENGTH, twolsken_read_model(file, length - 1, head_read, masks_read, rows_read));
     IS(9, head_read[2]);
+    IS(9, head_read[3]);
     IS(0, twolsken_read_model(file, length, head_read, masks_read, rows_read));
     IS(0, memcmp(head, head_read, sizeof head));
     IS(0, memcmp(masks, masks_read, sizeof masks));
@@ -61,9 +64,56 @@ static void models(void) {
     masks_read[2] = 2;
     answer = twolsken_write_model(head_read, masks_read, rows_read, out, sizeof out);
     IS(TWOLSKEN_REFUSAL_LAYOUT, twolsken_writer_refusal(answer));
-    const uint32_t wide[3] = {259, 1, 4};
+    const uint32_t wide[4] = {259, 1, 4, 0};
     answer = twolsken_write_model(wide, masks, rows, out, sizeof out);
     IS(TWOLSKEN_REFUSAL_LAYOUT, twolsken_writer_refusal(answer));
+}
+
+/* Changes byte 3 of a model file, its version, and the check of block 0 to match: byte 3 counts four times. */
+static void set_version(uint8_t *model, uint8_t version) {
+    uint32_t check = model[510] + 256u * model[511] - 4u * model[3] + 4u * version;
+    model[3] = version;
+    model[510] = (uint8_t)(check & 255);
+    model[511] = (uint8_t)(check >> 8);
+}
+
+/* The file of M1 with an empty row for state 1, and so of version 1. */
+static uint8_t halted[1024];
+
+/* Write model and read model on each side of the version and of an empty row. */
+static void versions(void) {
+    uint32_t head[4] = {2, 1, 4, 1};
+    const uint16_t masks[TWOLSKEN_STATES] = {0, 1};
+    uint16_t rows[TWOLSKEN_STATES][TWOLSKEN_STATES] = {{3, 1}, {0, 0}};
+    IS(1024, twolsken_write_model(head, masks, rows, halted, sizeof halted));
+    IS(1, halted[3]);
+
+    uint32_t head_read[4] = {9, 9, 9, 9};
+    uint16_t masks_read[TWOLSKEN_STATES];
+    uint16_t rows_read[TWOLSKEN_STATES][TWOLSKEN_STATES];
+    IS(0, twolsken_read_model(halted, sizeof halted, head_read, masks_read, rows_read));
+    IS(0, memcmp(head, head_read, sizeof head));
+    IS(0, memcmp(masks, masks_read, sizeof masks));
+    IS(0, memcmp(rows, rows_read, sizeof rows));
+
+    uint8_t out[1024];
+    IS(1024, twolsken_write_model(head_read, masks_read, rows_read, out, sizeof out));
+    IS(0, memcmp(halted, out, sizeof halted));
+    set_version(out, 2);
+    IS(TWOLSKEN_REFUSAL_LAYOUT, twolsken_read_model(out, sizeof out, head_read, masks_read, rows_read));
+    set_version(out, 0);
+    IS(TWOLSKEN_REFUSAL_ROW_SUM, twolsken_read_model(out, sizeof out, head_read, masks_read, rows_read));
+
+    rows[1][0] = 1;
+    IS(TWOLSKEN_REFUSAL_ROW_SUM,
+       twolsken_writer_refusal(twolsken_write_model(head, masks, rows, out, sizeof out)));
+    rows[1][0] = 0;
+    head[3] = 0;
+    IS(TWOLSKEN_REFUSAL_ROW_SUM,
+       twolsken_writer_refusal(twolsken_write_model(head, masks, rows, out, sizeof out)));
+    head[3] = 2;
+    IS(TWOLSKEN_REFUSAL_LAYOUT,
+       twolsken_writer_refusal(twolsken_write_model(head, masks, rows, out, sizeof out)));
 }
 
 /* The bytes of a text. */
@@ -120,11 +170,12 @@ static void merges(void) {
     const uint8_t grouping[3] = {0, 1, 1}, unlike[3] = {0, 0, 1}, unused[3] = {0, 2, 2};
     uint8_t out[TWOLSKEN_LONGEST_FILE];
     IS(1024, twolsken_merge(file, length, grouping, 3, out, sizeof out));
-    uint32_t head[3];
+    uint32_t head[4];
     uint16_t masks[TWOLSKEN_STATES];
     uint16_t rows[TWOLSKEN_STATES][TWOLSKEN_STATES];
     IS(0, twolsken_read_model(out, 1024, head, masks, rows));
     IS(2, head[0]);
+    IS(0, head[3]);
     IS(2, rows[0][0]);
     IS(2, rows[0][1]);
     IS(4, rows[1][1]);
@@ -171,7 +222,7 @@ static void verdicts(void) {
 
 /* Refusal 11 needs a model of 11 states. */
 static void tuples(void) {
-    const uint32_t head[3] = {11, 1, 1};
+    const uint32_t head[4] = {11, 1, 1, 0};
     const uint16_t masks[TWOLSKEN_STATES] = {0};
     uint16_t rows[TWOLSKEN_STATES][TWOLSKEN_STATES] = {{0}};
     for (size_t s = 0; s < 11; s++) {
@@ -210,13 +261,44 @@ static void numerators(void) {
     IS(2 * 4, value[0]);
 }
 
+/*
+ * Questions and merge on the model with the empty row. Filled, it is M1, in which the label is met at step 2 in 7 of 16 runs
+ * from state 0 and in all from state 1. If the empty row had no weight these would be 3 and 0; if it led to state 0, 3 and 4.
+ */
+static void filled_rows(void) {
+    const char *at_least = "A.GPU2,2:Ta1#7/16;", *more = "A.>PU2,2:Ta1#7/16;";
+    const uint8_t states[2] = {0, 1};
+    const uint64_t expected[2] = {7, 16};
+    size_t size = strlen(at_least);
+    for (size_t s = 0; s < 2; s++) {
+        uint64_t value[2] = {9, 9};
+        IS(0, twolsken_numerator(halted, sizeof halted, bytes(at_least), size, states + s, 1, 0, work,
+                                 TWOLSKEN_WORK_AREA, value));
+        IS(expected[s], value[0]);
+        IS(16, value[1]);
+    }
+    IS(TWOLSKEN_HOLDS,
+       twolsken_verdict(halted, sizeof halted, bytes(at_least), size, work, TWOLSKEN_WORK_AREA));
+    IS(TWOLSKEN_FAILS, twolsken_verdict(halted, sizeof halted, bytes(more), size, work, TWOLSKEN_WORK_AREA));
+
+    const uint32_t head[4] = {2, 1, 4, 1};
+    const uint16_t masks[TWOLSKEN_STATES] = {0, 1};
+    uint16_t rows[TWOLSKEN_STATES][TWOLSKEN_STATES] = {{3, 1}, {0, 4}};
+    uint8_t filled[1024], out[1024];
+    IS(1024, twolsken_write_model(head, masks, rows, filled, sizeof filled));
+    IS(1024, twolsken_merge(halted, sizeof halted, states, 2, out, sizeof out));
+    IS(0, memcmp(filled, out, sizeof filled));
+}
+
 int main(void) {
     models();
+    versions();
     sentences();
     merges();
     verdicts();
     tuples();
     numerators();
+    filled_rows();
     if (!wrong) {
         puts("every call answers as the header says");
     }

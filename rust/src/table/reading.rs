@@ -1,8 +1,13 @@
-//! Reading a table. The lines are read first, since a state may go to one that is named further down.
+//! Reading a table. The line of the version is read first, since it says whether a state may go nowhere; then the
+//! other lines; then what they say of one another, since a state may go to one that is named further down.
 
 use super::{Table, TableError};
 use crate::{Model, GREATEST_D, LABELS, STATES};
+use std::ops::RangeInclusive;
 use std::str::FromStr;
+
+/// The word that the line of the version begins with.
+const VERSION: &str = "version";
 
 /// The signs of a line: each is a word of its own, and ends the one before it.
 const SIGNS: [char; 4] = [':', ',', '(', ')'];
@@ -85,11 +90,16 @@ impl<'a> Line<'a> {
 
     /// Whether the next word is the given sign, which is then passed.
     fn passes(&mut self, sign: &str) -> bool {
-        let found = self.words.as_slice().first().is_some_and(|word| word.text == sign);
+        let found = self.begins(sign);
         if found {
             self.words.next();
         }
         found
+    }
+
+    /// Whether the next word is the given one.
+    fn begins(&self, word: &str) -> bool {
+        self.words.as_slice().first().is_some_and(|first| first.text == word)
     }
 
     /// Whether the line is at its end.
@@ -138,9 +148,28 @@ struct State<'a> {
 /// The lines that were read.
 #[derive(Default)]
 struct Lines<'a> {
+    version: Option<u32>,
     d: Option<u32>,
     labels: Vec<Word<'a>>,
     states: Vec<State<'a>>,
+}
+
+/// Reads a line that gives one number, which is in a range, and may be there once.
+fn single<'a>(
+    number: &mut Option<u32>,
+    what: &str,
+    range: RangeInclusive<u32>,
+    first: Word<'a>,
+    mut line: Line<'a>,
+) -> Result<(), TableError> {
+    if number.is_some() {
+        return first.wrong(format!("{what} was given before"));
+    }
+    *number = Some(line.next().number(what, *range.start(), *range.end())?);
+    match line.done() {
+        true => Ok(()),
+        false => line.next().wrong(format!("nothing follows the number of {what} in its line")),
+    }
 }
 
 /// The place of a name in a list, if it has it.
@@ -154,24 +183,20 @@ impl<'a> Lines<'a> {
         let first = line.next();
         match first.text {
             "" => Ok(()),
-            "D" => self.total(first, line),
+            VERSION => single(&mut self.version, "the version", 0..=1, first, line),
+            "D" => single(&mut self.d, "D", 1..=GREATEST_D, first, line),
             "labels" => self.all_labels(first, line),
             "state" => self.state(line),
-            _ => first
-                .wrong(format!("a line begins with `D`, `labels` or `state`, not with {}", first.shown())),
+            _ => first.wrong(format!(
+                "a line begins with `version`, `D`, `labels` or `state`, not with {}",
+                first.shown()
+            )),
         }
     }
 
-    /// Reads the line of D.
-    fn total(&mut self, first: Word<'a>, mut line: Line<'a>) -> Result<(), TableError> {
-        if self.d.is_some() {
-            return first.wrong("D was given before");
-        }
-        self.d = Some(line.next().number("D", 1, GREATEST_D)?);
-        match line.done() {
-            true => Ok(()),
-            false => line.next().wrong("nothing follows the number of D in its line"),
-        }
+    /// Whether a row may be empty.
+    fn empty_rows(&self) -> bool {
+        self.version == Some(1)
     }
 
     /// Reads the line of labels.
@@ -218,7 +243,8 @@ impl<'a> Lines<'a> {
                 word.shown()
             ));
         }
-        let goes = line.goes()?;
+        // of a halted state nothing is said after the colon
+        let goes = if self.empty_rows() && line.done() { Vec::new() } else { line.goes()? };
         self.states.push(State { name, labels, goes });
         Ok(())
     }
@@ -249,7 +275,8 @@ impl<'a> Lines<'a> {
             row[place] = *weight;
         }
         let sum: u32 = row.iter().map(|&weight| u32::from(weight)).sum();
-        if sum != d {
+        let empty = self.empty_rows() && sum == 0;
+        if sum != d && !empty {
             let name = state.name.text;
             return state.name.wrong(format!("the weights of `{name}` add up to {sum}, and D is {d}"));
         }
@@ -269,6 +296,7 @@ impl<'a> Lines<'a> {
         }
         let mut model = Model::empty();
         (model.n, model.a, model.d) = (self.states.len() as u32, self.labels.len() as u32, d);
+        model.version = self.version.unwrap_or(0);
         for (place, state) in self.states.iter().enumerate() {
             model.masks[place] = self.mask(state)?;
             model.weights[place] = self.row(state, d)?;
@@ -286,12 +314,11 @@ impl FromStr for Table {
     fn from_str(text: &str) -> Result<Table, TableError> {
         // some editors put a mark of their own before the text
         let text = text.strip_prefix('\u{feff}').unwrap_or(text);
+        let all = text.lines().zip(1..).map(|(line, number)| Line::of(line, number));
+        let (versions, others): (Vec<Line>, Vec<Line>) = all.partition(|line| line.begins(VERSION));
+        let end = Word { text: "", line: versions.len() + others.len() + 1, column: 1 };
         let mut lines = Lines::default();
-        let mut last = 0;
-        for (place, line) in text.lines().enumerate() {
-            last = place + 1;
-            lines.read(Line::of(line, last))?;
-        }
-        lines.table(Word { text: "", line: last + 1, column: 1 })
+        versions.into_iter().chain(others).try_for_each(|line| lines.read(line))?;
+        lines.table(end)
     }
 }

@@ -27,12 +27,17 @@ impl Table {
 /// The text of the table, the colons' right sides under one another. Parsing it gives the table again.
 impl Display for Table {
     fn fmt(&self, f: &mut Formatter<'_>) -> fmt::Result {
+        if self.model.version > 0 {
+            writeln!(f, "version {}", self.model.version)?;
+        }
         writeln!(f, "D {}", self.model.d)?;
         writeln!(f, "labels {}", self.labels.join(" "))?;
         let fronts: Vec<String> = (0..self.states.len()).map(|state| self.front(state)).collect();
         let width = fronts.iter().map(|front| front.chars().count()).max().unwrap_or(0);
         for (state, front) in fronts.iter().enumerate() {
-            writeln!(f, "{front:width$} {}", self.back(state))?;
+            let line = format!("{front:width$} {}", self.back(state));
+            // after the colon of an empty row there is nothing
+            writeln!(f, "{}", line.trim_end())?;
         }
         Ok(())
     }

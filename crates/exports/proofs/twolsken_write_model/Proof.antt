@@ -11,7 +11,7 @@ use Rattle.exports.proofs.twolsken_write_model.Tie as tie
 returns : tie.Need-returns
 returns c =
     let w = c .before .before .before in
-    let a = w .before .before .before .before .before .before .before .before .before .args in
+    let a = w .before .before .before .before .before .before .before .before .before .before .args in
     subst (λ (rows : List (List ℕ)). ExportedWriteModel (modelOfParts (a .head .now) (a .masks .now) rows) (a .out .now)
     (w .write-model .last .1 .0) (c .written-code .result))
     (w .before .before .holding .ensures)
@@ -21,6 +21,7 @@ pub twolsken-write-model-spec : {M : Type 1} → statement M
 twolsken-write-model-spec =
     tie.close
     (tie.spec
+    (λ c. search needs)
     (λ c. search needs)
     (λ c. search needs)
     (λ c. search needs)

@@ -8,7 +8,7 @@ use Rattle.refusal.specs.declared.Written.the-variants.{Refused as Unwritten}
 use Rattle.refusal.proofs.Listed.{writes-refused, rows-changed}
 use Rattle.model.specs.declared.Model.{Model}
 use Rattle.model.specs.Layout.{fieldsOf, fileOf}
-use Rattle.model.specs.Rules.{fieldsRight, allAddUp}
+use Rattle.model.specs.Rules.{fieldsRight, rowsRight}
 use Rattle.model.specs.Contract.{fileNumber}
 use Rattle.model.proofs.Answer.{reads-number, reads-value, reads-refusal}
 use Rattle.chain.proofs.Accepted.{fields-right, rows-right}
@@ -33,7 +33,7 @@ merge-model-requires c κs =
     let e = c .before in
     let file = e .before .before .before .before .before .before .args .file .now in
     let ok = read e in
-    (ap fieldsRight (fields e) ∙ fields-right file ok, ap allAddUp (fields e) ∙ rows-right file ok)
+    (ap fieldsRight (fields e) ∙ fields-right file ok, ap rowsRight (fields e) ∙ rows-right file ok)
 
 returns : tie.Need-returns
 unfolding mergeNumber

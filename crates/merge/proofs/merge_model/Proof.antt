@@ -15,6 +15,7 @@ use Rattle.model.specs.Layout.{modelOf, fileOf}
 use Rattle.model.specs.Contract.{recordRows, recordNumber}
 use Rattle.model.proofs.Answer.{record-rows}
 use Rattle.model.proofs.Rightness as right
+use Rattle.chain.specs.Of.{filledRows}
 use Rattle.merge.specs.Groups.{groupOf, groupCount, isUsed, memberOf, groupingRight, groupsAlike, mergedModel}
 use Rattle.merge.specs.Working.{pairAlike, masksOfGroups, rowsOfGroups}
 use Rattle.merge.proofs.Grouped.{as-long, all-used}
@@ -42,10 +43,10 @@ counted c = c .group-count .ensures .0
 
 totalled : (c : tie.After-totals-of) →
     let a = c .before .before .before .before .before .before .before .before .before .args in
-    c .totals-of .result ≡ totalsOf (a .m .weights .rows) (a .grouping .now) (a .m .n)
+    c .totals-of .result ≡ totalsOf (filledRows (a .m)) (a .grouping .now) (a .m .n)
 totalled c =
     let a = c .before .before .before .before .before .before .before .before .before .args in
-    c .totals-of .ensures ∙ ap (λ (rows : List (List ℕ)). totalsOf rows (a .grouping .now) (a .m .n)) (c .before .rows-of .ensures)
+    c .totals-of .ensures ∙ ap (λ (rows : List (List ℕ)). totalsOf rows (a .grouping .now) (a .m .n)) (c .before .filled-rows .ensures)
 
 tested : (c : tie.After-states-alike) →
     let a = c .before .before .before .before .before .before .before .before .before .before .before .args in
@@ -70,13 +71,18 @@ returns c =
     (groups-12 (a .m) (a .grouping .now) (length (a .out .now))
     (sym (c .before .grouping-right .ensures) ∙ not-true _ (c .if1 .taken))) refl refl
 
+filled-rows-requires : tie.Need-filled-rows-requires
+filled-rows-requires c κs =
+    let start = c .before .before .before .before .before .before .before in
+    omega (arith, right.total-few (start .args .m) (start .pre .0))
+
 totals-of-requires : tie.Need-totals-of-requires
 totals-of-requires c κs =
     let start = c .before .before .before .before .before .before .before .before in
     let a = start .args in (
       right.states-few (a .m) (start .pre .0),
       λ s l.
-          subst (λ (rows : List (List ℕ)). sumBelow (a .m .n) (λ t. getD (getD rows s []) t 0) ≤ 65535) (sym (c .rows-of .ensures))
+          subst (λ (rows : List (List ℕ)). sumBelow (a .m .n) (λ t. getD (getD rows s []) t 0) ≤ 65535) (sym (c .filled-rows .ensures))
           (row-small (a .m) (start .pre .0) (start .pre .1) s l),
     )
 
@@ -124,7 +130,7 @@ built c =
     c .model-of-groups .ensures ∙
     ap₂
     (λ (totals : List (List ℕ)) (count : ℕ).
-    modelOf count (a .m .a) (a .m .d) (masksOfGroups (a .m .masks) (a .grouping .now) count)
+    modelOf count (a .m .a) (a .m .d) (a .m .version) (masksOfGroups (a .m .masks) (a .grouping .now) count)
     (rowsOfGroups totals (a .grouping .now) count))
     (totalled t) (counted (t .before .before .before)) ∙
     model-built (a .m) (a .grouping .now) (start .pre .0) (grouped e)
@@ -154,7 +160,7 @@ merge-model-spec =
     (λ c κs. search needs)
     returns
     (λ c κs. search needs)
-    (λ c κs. search needs)
+    filled-rows-requires
     totals-of-requires
     states-alike-requires
     returns-2

@@ -11,7 +11,7 @@ use Rattle.model_writer.proofs.content_byte.Tie as tie
 
 -- the model of the fields at hand
 abbrev fields : tie.Start → Model
-fields c = modelOf (c .args .n) (c .args .a) (c .args .d) (c .args .masks .now) (c .args .rows .now)
+fields c = modelOf (c .args .n) (c .args .a) (c .args .d) (c .args .version) (c .args .masks .now) (c .args .rows .now)
 
 returns : tie.Need-returns
 unfolding headByte

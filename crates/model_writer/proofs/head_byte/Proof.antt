@@ -12,7 +12,7 @@ use Rattle.model_writer.proofs.head_byte.Tie as tie
 
 -- the model of the fields at hand
 abbrev fields : tie.Start → Model
-fields c = modelOf (c .args .n) (c .args .a) (c .args .d) (c .args .masks .now) []
+fields c = modelOf (c .args .n) (c .args .a) (c .args .d) (c .args .version) (c .args .masks .now) []
 
 -- a number that is none of four in a row, and not below them, is past them
 four-more : (b j : ℕ) → b ≤ j → (j ≡ b → ⊥) → (j ≡ b + 1 → ⊥) → (j ≡ b + 2 → ⊥) → (j ≡ b + 3 → ⊥) → b + 4 ≤ j

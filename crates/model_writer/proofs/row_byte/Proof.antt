@@ -12,7 +12,7 @@ use Rattle.model_writer.proofs.row_byte.Tie as tie
 
 -- the model of the rows at hand
 abbrev fields : tie.Start → Model
-fields c = modelOf 0 0 0 [] (c .args .rows .now)
+fields c = modelOf 0 0 0 0 [] (c .args .rows .now)
 
 -- past the two marks
 past : (c : tie.At-match-rest) → 2 ≤ c .before .args .j

@@ -12,15 +12,15 @@ use Rattle.model_writer.proofs.write_blocks.Statement.{statement}
 use Rattle.model_writer.proofs.write_blocks.Tie as tie
 
 abbrev Inv-loop : tie.InvT-loop
-Inv-loop n a d masks rows count out₀ i₀ out i =
-    (i ≤ count) × (length out ≡ length out₀) × (out ≡ atFront (blocksBelow (modelOf n a d masks rows) i) out₀)
+Inv-loop n a d version masks rows count out₀ i₀ out i =
+    (i ≤ count) × (length out ≡ length out₀) × (out ≡ atFront (blocksBelow (modelOf n a d version masks rows) i) out₀)
 
 abbrev μ-loop : tie.MeasureT-loop
-μ-loop n a d masks rows count out₀ i₀ out i = count - i
+μ-loop n a d version masks rows count out₀ i₀ out i = count - i
 
 -- the model of the fields at hand
 abbrev fields : tie.Start Inv-loop μ-loop → Model
-fields c = modelOf (c .args .n) (c .args .a) (c .args .d) (c .args .masks .now) (c .args .rows .now)
+fields c = modelOf (c .args .n) (c .args .a) (c .args .d) (c .args .version) (c .args .masks .now) (c .args .rows .now)
 
 loop-holds : tie.Need-loop-holds Inv-loop μ-loop
 loop-holds c = (search needs, refl, blocks-none (fields (c .before)) (c .before .args .out .now))

@@ -8,10 +8,10 @@ use Rattle.model_writer.proofs.write_content.Statement.{statement}
 use Rattle.model_writer.proofs.write_content.Tie as tie
 
 abbrev Inv-loop : tie.InvT-loop
-Inv-loop n a d masks rows i out₀ j₀ out j = Fronted 510 (contentByte (modelOf n a d masks rows) i) out₀ j out
+Inv-loop n a d version masks rows i out₀ j₀ out j = Fronted 510 (contentByte (modelOf n a d version masks rows) i) out₀ j out
 
 abbrev μ-loop : tie.MeasureT-loop
-μ-loop n a d masks rows i out₀ j₀ out j = 510 - j
+μ-loop n a d version masks rows i out₀ j₀ out j = 510 - j
 
 loop-holds : tie.Need-loop-holds Inv-loop μ-loop
 loop-holds c = fronted-none

@@ -4,9 +4,13 @@ use mathlib.Core.Path.{_∙_}
 use native.Mathlib.Omega.{arith}
 use borrow.Author.Needs.{needs, scaled-fits}
 use Rattle.question.proofs.Pair.{count-few}
+use Rattle.question.proofs.Settled.{d-few}
 use Rattle.numerator.proofs.Counting.{tuple-ready, tuple-inside, path-ready, counted-so}
 use Rattle.numerator.proofs.counted.Statement.{statement}
 use Rattle.numerator.proofs.counted.Tie as tie
+
+filled-rows-requires : tie.Need-filled-rows-requires
+filled-rows-requires c κs = d-few (c .before .before .before .before .before .pre .0 .ready)
 
 path-place-requires : tie.Need-path-place-requires
 path-place-requires c κs = count-few (c .before .before .before .before .before .before .pre .0 .ready .read .sentence)
@@ -16,7 +20,7 @@ path-requires c κs =
     let placed = c .before .before .before in
     let settled = placed .before .before .before .before in
     let pre = settled .before .before .before .pre in
-    path-ready (pre .0) (settled .setting-of .ensures) (placed .before .rows-of .ensures) (placed .path-place .ensures) (pre .1)
+    path-ready (pre .0) (settled .setting-of .ensures) (placed .before .filled-rows .ensures) (placed .path-place .ensures) (pre .1)
 
 tuple-place-requires : tie.Need-tuple-place-requires
 tuple-place-requires c κs =
@@ -47,7 +51,7 @@ returns c = record {
       let placed = evaluated .before .before .before .before in
       let settled = placed .before .before .before .before in
       let pre = settled .before .before .before .pre in
-      counted-so (pre .0) (settled .setting-of .ensures) (placed .before .rows-of .ensures) (placed .path-place .ensures)
+      counted-so (pre .0) (settled .setting-of .ensures) (placed .before .filled-rows .ensures) (placed .path-place .ensures)
       (evaluated .path .ensures) (c .before .tuple-place .ensures) b;
 }
 
@@ -56,7 +60,7 @@ counted-spec =
     tie.close
     (tie.spec
     (λ c κs. search needs)
-    (λ c κs. search needs)
+    filled-rows-requires
     path-place-requires
     path-requires
     tuple-place-requires

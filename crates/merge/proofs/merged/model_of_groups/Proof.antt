@@ -14,12 +14,12 @@ use Rattle.merge.proofs.merged.model_of_groups.Statement.{statement}
 use Rattle.merge.proofs.merged.model_of_groups.Tie as tie
 
 abbrev Inv-loop : tie.InvT-loop
-Inv-loop a d masks grouping count totals merged₀ rows₀ g₀ merged rows g =
+Inv-loop a d version masks grouping count totals merged₀ rows₀ g₀ merged rows g =
     Fronted count (λ g. getD masks (memberOf (length grouping) grouping g) 0) merged₀ g merged ×
     Fronted count (λ g. getD totals (memberOf (length grouping) grouping g) []) rows₀ g rows
 
 abbrev μ-loop : tie.MeasureT-loop
-μ-loop a d masks grouping count totals merged₀ rows₀ g₀ merged rows g = count - g
+μ-loop a d version masks grouping count totals merged₀ rows₀ g₀ merged rows g = count - g
 
 -- the first state of the group
 small : (c : tie.After-first-of Inv-loop μ-loop) →
@@ -52,7 +52,7 @@ loop-again c =
     (omega arith) (c .before .before .first-of .ensures) in (
       fronted-next (at-loop .loop .inv .0) (omega arith) (omega arith)
           (ap (λ s. getD (start .args .masks .now) s 0) (sym own)),
-      fronted-next (at-loop .loop .inv .1) (omega arith) (omega arith) (ap (λ s. getD (start .args .t4) s []) (sym own)),
+      fronted-next (at-loop .loop .inv .1) (omega arith) (omega arith) (ap (λ s. getD (start .args .t5) s []) (sym own)),
     )
 
 returns : tie.Need-returns Inv-loop μ-loop
@@ -64,8 +64,8 @@ returns c =
     let masks = fronted-all (at-loop .loop .inv .0) (omega arith) ∙
     front-table 32 (a .count) (λ g. getD (a .masks .now) (group g) 0) 0 (omega arith) in
     let rows = c .holding .ensures ∙ fronted-all (at-loop .loop .inv .1) (omega arith) ∙
-    front-table 32 (a .count) (λ g. getD (a .t4) (group g) []) (table 32 (λ h. 0)) (omega arith) in
-    λ i. record { n = a .count; a = a .a; d = a .d; masks = masks i; weights = record { rows = rows i } }
+    front-table 32 (a .count) (λ g. getD (a .t5) (group g) []) (table 32 (λ h. 0)) (omega arith) in
+    λ i. record { n = a .count; a = a .a; d = a .d; version = a .version; masks = masks i; weights = record { rows = rows i } }
 
 pub model-of-groups-spec : {M : Type 1} → statement M
 model-of-groups-spec =

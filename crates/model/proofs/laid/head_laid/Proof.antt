@@ -10,12 +10,11 @@ use Rattle.model.proofs.laid.head_laid.Tie as tie
 
 returns : tie.Need-returns
 returns c =
-    let file = c .before .before .before .before .args .file .now in
+    let file = c .before .before .before .args .file .now in
     ap₂ _&&_
-    (ap₂ _&&_ (ap (λ (x : ℕ). eqb x 1) (c .before .before .block-byte .ensures))
-    (ap (λ (x : ℕ). eqb x 0) (c .before .block-byte2 .ensures)))
+    (ap (λ (x : ℕ). eqb x 1) (c .before .block-byte .ensures))
     (c .zeros .ensures) ∙
-    head-test file (λ k. c .before .before .before .shared-slice-known .given k .fits)
+    head-test file (λ k. c .before .before .shared-slice-known .given k .fits)
 
 pub head-laid-spec : {M : Type 1} → statement M
-head-laid-spec = tie.close (tie.spec (λ c κs. search needs) (λ c κs. search needs) (λ c κs. search needs) returns)
+head-laid-spec = tie.close (tie.spec (λ c κs. search needs) (λ c κs. search needs) returns)

@@ -8,7 +8,7 @@ use Rattle.model.proofs.reader.empty_model.Tie as tie
 
 returns : tie.Need-returns
 unfolding emptyModel table
-returns c = λ i. record { n = 0; a = 0; d = 0; masks = replicate 32 0; weights = record { rows = c .holding .ensures i } }
+returns c = λ i. record { n = 0; a = 0; d = 0; version = 0; masks = replicate 32 0; weights = record { rows = c .holding .ensures i } }
 
 pub empty-model-spec : {M : Type 1} → statement M
 empty-model-spec = tie.close (tie.spec (λ c κs. search needs) returns)

@@ -6,7 +6,7 @@ use borrow.Author.Tests.{not-true, not-false}
 use Rattle.block.specs.Block.{checksRight}
 use Rattle.model.specs.declared.Model.{Model}
 use Rattle.model.specs.Layout.{fieldsOf}
-use Rattle.model.specs.Rules.{lengthRight, laidOut, allAddUp}
+use Rattle.model.specs.Rules.{lengthRight, laidOut, rowsRight}
 use Rattle.model.proofs.Answer.{number-2, number-3, number-4, number-5, number-0, reads-refused, reads-done}
 use Rattle.model.proofs.reader.read_model.Statement.{statement}
 use Rattle.model.proofs.reader.read_model.Tie as tie
@@ -31,8 +31,9 @@ standing : (c : tie.Else3) →
 standing c = laid (c .before) ∙ not-false _ (c .if3 .left)
 
 adding : (c : tie.After-rows-right) →
-    allAddUp (fieldsOf (c .before .before .before .before .before .before .before .before .before .args .file .now)) ≡ c .rows-right .result
-adding c = ap allAddUp (sym (c .before .before .before .fields-of .ensures)) ∙ sym (c .rows-right .ensures)
+    rowsRight (fieldsOf (c .before .before .before .before .before .before .before .before .before .args .file .now)) ≡
+    c .rows-right .result
+adding c = ap rowsRight (sym (c .before .before .before .fields-of .ensures)) ∙ sym (c .rows-right .ensures)
 
 returns : tie.Need-returns
 returns c =

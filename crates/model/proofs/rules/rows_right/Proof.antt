@@ -3,20 +3,25 @@ use borrow.Author.Needs.{needs}
 use Prim.Native.Nat.{ℕ}
 use mathlib.Core.List.{List, []}
 use mathlib.Core.Path.{ap, _∙_}
-use lib.Dec.{leb, eqb}
-use mathlib.Core.Bool.{_||_}
+use lib.Dec.{leb, ltb, eqb}
+use mathlib.Core.Bool.{_&&_, _||_}
 use lib.ListN.{getD}
 use Rattle.counting.specs.Below.{sumBelow, everyBelow}
-use Rattle.model.specs.Rules.{allAddUp}
+use Rattle.model.specs.Rules.{rowsRight}
 use Rattle.model.proofs.rules.rows_right.Statement.{statement}
 use Rattle.model.proofs.rules.rows_right.Tie as tie
 
 returns : tie.Need-returns
-unfolding allAddUp
+unfolding rowsRight
 returns c =
     let m = c .before .before .before .args .m in
-    c .rows-add-up .ensures ∙
-    ap (λ (rows : List (List ℕ)). everyBelow 32 (λ s. leb (m .n) s || eqb (sumBelow 32 (λ t. getD (getD rows s []) t 0)) (m .d)))
+    c .all-rows-right .ensures ∙
+    ap
+    (λ (rows : List (List ℕ)).
+    everyBelow 32
+    (λ s.
+    leb (m .n) s || eqb (sumBelow 32 (λ t. getD (getD rows s []) t 0)) (m .d) ||
+    ltb s (m .n) && eqb (m .version) 1 && everyBelow 32 (λ t. eqb (getD (getD rows s []) t 0) 0)))
     (c .before .before .rows-of .ensures)
 
 pub rows-right-spec : {M : Type 1} → statement M
