@@ -35,11 +35,11 @@ use Rattle.numerator.specs.declared.Answer as Counted
 use Rattle.numerator.specs.Contract.{NumeratorRow, question, long, member, missing, NumeratorEnsures, numbered}
 use Rattle.numerator.proofs.Single.{reply-told as counted-told}
 use Rattle.paths.proofs.Members.{members-inside}
-use Rattle.merge.specs.Groups.{groupOf}
+use Rattle.groups.specs.Groups.{groupOf}
 use Rattle.merge.specs.Contract.{mergeRows, mergeNumber, mergedFile, MergeEnsures}
 use Rattle.merge.specs.Keeping.{MergingKeeps}
 use Rattle.merge.proofs.Exact.{refused-13, stable-alike}
-use Rattle.merge.proofs.Grouped.{grouping-right, count-is}
+use Rattle.groups.proofs.Grouped.{grouping-right, count-is}
 use Rattle.merge.proofs.Numbers.{merge-rows, file-accepted}
 use Rattle.merge.proofs.Theorems.{merge-smallest, mergeable, merged-read, kept-written}
 use Rattle.demands.specs.Demands.{chainIn, MergeAsked, Differ, Keeps, MergedWritten, Demand3}

@@ -17,9 +17,9 @@ use Rattle.meaning.specs.Chain.{Chain}
 use Rattle.meaning.specs.Merging.{weightInto, Stable}
 use Rattle.chain.specs.Of.{chainOf}
 use Rattle.chain.proofs.Bits.{bits-same}
-use Rattle.merge.specs.Groups.{groupOf, groupCount, alike, groupsAlike}
+use Rattle.groups.specs.Groups.{groupOf, groupCount, alike, groupsAlike}
 use Rattle.merge.proofs.Shape.{mask-two}
-use Rattle.merge.proofs.Stability.{stable}
+use Rattle.groups.proofs.Stability.{stable}
 use Rattle.demands.specs.Demands.{Differ, inLabels, inWeight}
 
 -- the part of a conjunction that fails, where the other is met

@@ -17,7 +17,7 @@ use Rattle.model.specs.Contract.{fileNumber}
 use Rattle.chain.specs.Of.{filledFile}
 use Rattle.chain.proofs.Accepted.{fields-right, rows-right}
 use Rattle.chain.proofs.Filling.{version-goes}
-use Rattle.merge.specs.Groups.{eachAlone, mergedModel}
+use Rattle.groups.specs.Groups.{eachAlone, mergedModel}
 use Rattle.merge.specs.Contract.{mergeNumber, mergedFile, MergeEnsures}
 use Rattle.merge.proofs.Merging.{goes}
 use Rattle.merge.proofs.Numbers.{merge-rows}

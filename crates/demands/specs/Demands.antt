@@ -32,7 +32,7 @@ use Rattle.verdict.specs.declared.Answer as Judged
 use Rattle.verdict.specs.Contract.{VerdictEnsures, verdictReply}
 use Rattle.numerator.specs.declared.Answer as Counted
 use Rattle.numerator.specs.Contract.{NumeratorRow, NumeratorEnsures, numbered, numeratorReply}
-use Rattle.merge.specs.Groups.{groupOf, eachAlone, mergedModel}
+use Rattle.groups.specs.Groups.{groupOf, eachAlone, mergedModel}
 use Rattle.merge.specs.Contract.{mergeRows, mergedFile, MergeEnsures}
 use Rattle.codes.specs.Codes.{sentenceOf}
 use Rattle.exports.specs.Models.{modelOfParts, ExportedReadModel, ExportedWriteModel}

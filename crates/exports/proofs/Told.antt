@@ -28,7 +28,7 @@ use Rattle.sentence.specs.declared.Sentence.{Sentence}
 use Rattle.codes.specs.Codes.{codeOf}
 use Rattle.codes.proofs.Told.{Short, answer-told}
 use Rattle.chain.proofs.Accepted.{fields-right}
-use Rattle.merge.specs.Groups.{mergedModel}
+use Rattle.groups.specs.Groups.{mergedModel}
 use Rattle.merge.specs.Contract.{mergeNumber, MergeEnsures}
 use Rattle.merge.proofs.Merging.{fields-merged}
 use Rattle.merge.proofs.Numbers.{merge-rows}

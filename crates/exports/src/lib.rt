@@ -22,7 +22,7 @@ pub extern "C" fn twolsken_read_model(
     ensures { λ r. ⌜ ExportedReadModel (now (file .entry)) (now (head .entry)) (now (masks .entry)) (now (rows .entry)) (now (head .exit))
         (now (masks .exit)) (now (rows .exit)) r ⌝ }
 {
-    let read = model::reader::read_model(file);
+    let read = model_reader::read_model(file);
     let outcome = read.outcome;
     match outcome {
         Outcome::Refused(number) => number as u32,

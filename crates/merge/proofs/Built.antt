@@ -23,11 +23,11 @@ use Rattle.chain.proofs.Totals.{sum-first}
 use Rattle.chain.proofs.Filling.{filled-cell}
 use Rattle.model.proofs.Rightness as right
 use Rattle.chain.proofs.Right as chain
-use Rattle.merge.specs.Groups.{groupOf, groupCount, groupingRight, memberOf, groupsAlike, mergedModel}
-use Rattle.merge.specs.Working.{pairAlike, masksOfGroups, rowsOfGroups}
-use Rattle.merge.proofs.Grouped.{as-long, grouping-is, member-of}
+use Rattle.groups.specs.Groups.{groupOf, groupCount, groupingRight, memberOf, groupsAlike, mergedModel}
+use Rattle.groups.specs.Working.{pairAlike, masksOfGroups, rowsOfGroups}
+use Rattle.groups.proofs.Grouped.{as-long, grouping-is, member-of}
 use Rattle.merge.proofs.Merging.{few}
-use Rattle.merge.proofs.Stability.{first-alike}
+use Rattle.groups.proofs.Stability.{first-alike}
 
 -- the totals of the states into the groups, over the states below n
 abbrev pub totalsOf : List (List ℕ) → List ℕ → ℕ → List (List ℕ)

@@ -19,12 +19,12 @@ use Rattle.meaning.specs.Merging.{Grouping, Stable}
 use Rattle.chain.specs.Of.{chainOf}
 use Rattle.chain.proofs.Bits.{bits-same}
 use Rattle.chain.proofs.Accepted.{fields-right}
-use Rattle.merge.specs.Groups.{groupOf, groupCount, groupingRight, groupsAlike}
+use Rattle.groups.specs.Groups.{groupOf, groupCount, groupingRight, groupsAlike}
 use Rattle.merge.specs.Contract.{mergeNumber}
-use Rattle.merge.proofs.Grouped.{as-long, grouping-is, grouping-right, count-is}
+use Rattle.groups.proofs.Grouped.{as-long, grouping-is, grouping-right, count-is}
 use Rattle.merge.proofs.Numbers.{file-accepted, groups-12, groups-13}
 use Rattle.merge.proofs.Shape.{mask-two}
-use Rattle.merge.proofs.Stability.{is-alike, stable}
+use Rattle.groups.proofs.Stability.{is-alike, stable}
 
 -- a stable grouping passes row 13: states with the same labels have one mask
 pub stable-alike : (m : Model) (grouping : List ℕ) → fieldsRight m ≡ true →

@@ -15,7 +15,7 @@ use Rattle.model.proofs.Roundtrip.{fields-written, file-written}
 use Rattle.meaning.specs.Lists.{below, thereIs, total, Each, nothing, further}
 use Rattle.meaning.specs.Merging.{weightInto, member}
 use Rattle.chain.specs.Of.{filledWeight}
-use Rattle.merge.specs.Groups.{overAll, groupingRight, groupsAlike, mergedModel}
+use Rattle.groups.specs.Groups.{overAll, groupingRight, groupsAlike, mergedModel}
 use Rattle.merge.specs.Contract.{groupRows, mergeNumber, mergedFile}
 use Rattle.meaning.specs.Examples.{Sketch, M2, M2merged, merges, lines}
 use Rattle.merge.specs.Examples.{modelOfSketch, MergeMet}

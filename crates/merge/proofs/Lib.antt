@@ -1,8 +1,4 @@
 -- Theorems about merge beside its contract.
-pub mod Counts
-pub mod Members
-pub mod Grouped
-pub mod Stability
 pub mod Merging
 pub mod Built
 pub mod Numbers

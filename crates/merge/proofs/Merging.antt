@@ -23,9 +23,9 @@ use Rattle.chain.proofs.Totals.{sum-first}
 use Rattle.chain.proofs.Filling.{filled-other, weighed-goes, past-goes}
 use Rattle.model.proofs.Rightness as right
 use Rattle.chain.proofs.Right as chain
-use Rattle.merge.specs.Groups.{groupOf, groupCount, memberOf, groupingRight, groupsAlike, mergedModel}
-use Rattle.merge.proofs.Grouped.{grouping-is, count-few, member-of}
-use Rattle.merge.proofs.Stability.{alike-is}
+use Rattle.groups.specs.Groups.{groupOf, groupCount, memberOf, groupingRight, groupsAlike, mergedModel}
+use Rattle.groups.proofs.Grouped.{grouping-is, count-few, member-of}
+use Rattle.groups.proofs.Stability.{alike-is}
 
 -- ---- the merged model, number by number
 

@@ -26,10 +26,10 @@ use Rattle.meaning.proofs.Merging as merging
 use Rattle.chain.specs.Of.{chainOf}
 use Rattle.chain.proofs.Accepted.{fields-right, rows-right}
 use Rattle.chain.proofs.Right.{sound-right}
-use Rattle.merge.specs.Groups.{groupOf, groupingRight, groupsAlike, mergedModel}
+use Rattle.groups.specs.Groups.{groupOf, groupingRight, groupsAlike, mergedModel}
 use Rattle.merge.specs.Contract.{mergeRows, mergeNumber, mergedFile, MergeEnsures}
 use Rattle.merge.specs.Keeping.{MergingKeeps}
-use Rattle.merge.proofs.Grouped.{count-few}
+use Rattle.groups.proofs.Grouped.{count-few}
 use Rattle.merge.proofs.Merging.{merged-chain, fields-merged, rows-merged}
 use Rattle.merge.proofs.Numbers.{merge-rows, file-refused, file-accepted}
 use Rattle.merge.proofs.Shape.{shaped}

@@ -29,12 +29,12 @@ use Rattle.chain.specs.Of.{filledWeight, chainOf, filledModel, filledFile}
 use Rattle.chain.proofs.Accepted.{fields-right}
 use Rattle.chain.proofs.Filling.{filled-other}
 use Rattle.chain.proofs.Right.{filled-past}
-use Rattle.merge.specs.Groups.{groupOf, eachAlone, groupCount, groupingRight, groupsAlike, memberOf, mergedModel}
+use Rattle.groups.specs.Groups.{groupOf, eachAlone, groupCount, groupingRight, groupsAlike, memberOf, mergedModel}
 use Rattle.merge.specs.Contract.{mergeNumber, mergedFile}
-use Rattle.merge.proofs.Grouped.{count-is, grouping-right}
-use Rattle.merge.proofs.Members.{member-first}
+use Rattle.groups.proofs.Grouped.{count-is, grouping-right}
+use Rattle.groups.proofs.Members.{member-first}
 use Rattle.merge.proofs.Numbers.{file-accepted}
-use Rattle.merge.proofs.Stability.{is-alike}
+use Rattle.groups.proofs.Stability.{is-alike}
 
 -- the order of a comparison
 eqb-turn : (a b : ℕ) → eqb a b ≡ eqb b a

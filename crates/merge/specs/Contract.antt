@@ -10,7 +10,7 @@ use Rattle.refusal.specs.Answers.{Writes}
 use Rattle.model.specs.declared.Model.{Model}
 use Rattle.model.specs.Layout.{fieldsOf, fileOf}
 use Rattle.model.specs.Contract.{fileRows}
-use Rattle.merge.specs.Groups.{groupingRight, groupsAlike, mergedModel}
+use Rattle.groups.specs.Groups.{groupingRight, groupsAlike, mergedModel}
 
 -- the rows 12, 13 and 14, for the model of an accepted file, a grouping and an output of `room` bytes
 abbrev pub groupRows : Model → List ℕ → ℕ → List Row

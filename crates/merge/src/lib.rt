@@ -1,29 +1,24 @@
-// Merge: the model of a file, its states put together by a grouping, written as a file. What a grouping is, when it is
-// refused and what the merged model is stands in specs/Groups; the call's rows and what it writes in specs/Contract.
-mod alike;
-mod grouping;
-mod merged;
-mod totals;
-
+// Merge: the model of a file, its states put together by a grouping, written as a file. What a grouping is and what the merged
+// model is stands in specs/Groups of the crate `groups`; the call's rows and what it writes in specs/Contract.
 ghost use mathlib.Core.Path.{_≡_};
 ghost use mathlib.Core.Bool.{true};
 ghost use lib.ListN.{length};
 ghost use Rattle.refusal.specs.Answers.{Writes};
 ghost use Rattle.model.specs.Layout.{fileOf};
 ghost use Rattle.model.specs.Rules.{fieldsRight, rowsRight};
-ghost use Rattle.merge.specs.Groups.{mergedModel};
+ghost use Rattle.groups.specs.Groups.{mergedModel};
 ghost use Rattle.merge.specs.Contract.{groupRows, MergeEnsures};
-use alike::states_alike;
 use chain::filled_rows;
-use grouping::group_count;
-use grouping::grouping_right;
-use merged::model_of_groups;
+use groups::alike::states_alike;
+use groups::grouping::group_count;
+use groups::grouping::grouping_right;
+use groups::merged::model_of_groups;
+use groups::totals::totals_of;
 use model::Model;
-use model::reader::read_model;
+use model_reader::read_model;
 use model_writer::write_model;
 use refusal::Outcome;
 use refusal::Written;
-use totals::totals_of;
 
 // Merge, of the model of an accepted file: rows 12, 13 and 14, then the merged model's file.
 fn merge_model(m: Model, grouping: &[u8], out: &mut [u8]) -> Written

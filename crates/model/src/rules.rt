@@ -8,8 +8,14 @@ ghost use lib.Dec.{leb, ltb, eqb};
 ghost use Rattle.counting.specs.Below.{sumBelow, everyBelow};
 ghost use Rattle.model.specs.Rules.{within, fieldsRight, rowsRight};
 use crate::Model;
-use crate::fields::wide16;
 use crate::matrix;
+
+// A number of two bytes as a wider one.
+pub fn wide16(x: u16) -> u32
+    ensures { λ r. ⌜ (r ≡ x) × (r < 65536) ⌝ }
+{
+    x as u32
+}
 
 // Whether N is 1..32 states, A is 1..16 labels, D is 1..65,535 and the version is 0 or 1.
 fn numbers_right(n: u32, a: u32, d: u32, version: u32) -> bool
@@ -91,7 +97,7 @@ pub fn fields_right(m: Model) -> bool
 }
 
 // The sum of a row.
-pub(crate) fn row_sum(row: &[u16; 32]) -> u32
+fn row_sum(row: &[u16; 32]) -> u32
     ensures { λ r. ⌜ (r ≡ sumBelow 32 (λ t. getD (now (row .entry)) t 0)) × (r < 2097152) ⌝ }
 {
     let mut total: u32 = 0;

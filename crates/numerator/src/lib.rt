@@ -9,7 +9,7 @@ use chain::filled_rows;
 use evaluate::nodes::path;
 use layers::plain::zero;
 use model::Model;
-use model::reader::read_model;
+use model_reader::read_model;
 use paths::path_place;
 use paths::tuple_place;
 use paths::tuple_right;

@@ -11,7 +11,7 @@ use descent::holds_from;
 use evaluate::nodes::state_formula;
 use layers::plain::zero;
 use model::Model;
-use model::reader::read_model;
+use model_reader::read_model;
 use question::AREA;
 use question::first_number;
 use question::setting_of;

@@ -12,7 +12,7 @@ use Rattle.model.specs.Rules.{fieldsRight, rowsRight}
 use Rattle.model.specs.Contract.{fileNumber}
 use Rattle.model.proofs.Answer.{reads-number, reads-value, reads-refusal}
 use Rattle.chain.proofs.Accepted.{fields-right, rows-right}
-use Rattle.merge.specs.Groups.{mergedModel}
+use Rattle.groups.specs.Groups.{mergedModel}
 use Rattle.merge.specs.Contract.{groupRows, mergeNumber, mergedFile}
 use Rattle.merge.proofs.Numbers.{group-rows, merge-rows, file-refused, file-accepted}
 use Rattle.merge.proofs.merge.Statement.{statement}

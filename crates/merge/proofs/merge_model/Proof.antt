@@ -16,9 +16,9 @@ use Rattle.model.specs.Contract.{recordRows, recordNumber}
 use Rattle.model.proofs.Answer.{record-rows}
 use Rattle.model.proofs.Rightness as right
 use Rattle.chain.specs.Of.{filledRows}
-use Rattle.merge.specs.Groups.{groupOf, groupCount, isUsed, memberOf, groupingRight, groupsAlike, mergedModel}
-use Rattle.merge.specs.Working.{pairAlike, masksOfGroups, rowsOfGroups}
-use Rattle.merge.proofs.Grouped.{as-long, all-used}
+use Rattle.groups.specs.Groups.{groupOf, groupCount, isUsed, memberOf, groupingRight, groupsAlike, mergedModel}
+use Rattle.groups.specs.Working.{pairAlike, masksOfGroups, rowsOfGroups}
+use Rattle.groups.proofs.Grouped.{as-long, all-used}
 use Rattle.merge.proofs.Merging.{few}
 use Rattle.merge.proofs.Built.{totalsOf, row-small, alike-built, model-built}
 use Rattle.merge.proofs.Numbers.{group-rows, groups-12, groups-13, groups-14}

@@ -1,0 +1,3 @@
+-- Groupings, and the merged model.
+pub mod Groups
+pub mod Working
