@@ -1,6 +1,5 @@
 -- Laws of evaluation that belong to no one function.
 pub mod Places
-pub mod Surveying
 pub mod Needing
 pub mod Fixing
 pub mod Operands

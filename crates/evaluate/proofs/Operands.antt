@@ -15,8 +15,8 @@ use Rattle.trees.specs.Standing.{FormulaAt, ExpressionAt}
 use Rattle.trees.proofs.Cases.{formula-place, expression-place}
 use Rattle.evaluate.specs.declared.Setting.{Setting}
 use Rattle.evaluate.specs.declared.Valued.{Valued}
-use Rattle.evaluate.specs.declared.survey.Extent.{Extent}
-use Rattle.evaluate.specs.Surveys.{TreeSurveyed}
+use Rattle.surveys.specs.declared.Extent.{Extent}
+use Rattle.surveys.specs.Surveys.{TreeSurveyed}
 use Rattle.evaluate.specs.Evaluation.{FormulaReady, FormulasReady, ExpressionReady}
 use Rattle.evaluate.specs.Evaluation.{ExpressionsReady}
 use Rattle.evaluate.specs.Evaluation.{FormulaDone, FormulasDone, ExpressionDone, ExpressionsDone}

@@ -1,5 +1,4 @@
 -- Working: what the functions of this crate promise one another. Nothing here has to be believed.
 --
--- Surveying and evaluating the nodes of a sentence.
-pub mod Surveys
+-- Evaluating the nodes of a sentence.
 pub mod Evaluation

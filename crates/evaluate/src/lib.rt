@@ -2,7 +2,6 @@
 // state formula its truth, an expression its coded numerator, a path its numerator.
 pub mod nodes;
 mod plain;
-mod survey;
 
 // What evaluation is over: N states, n variables, T tuples, and D.
 pub struct Setting {

@@ -9,7 +9,6 @@ use crate::Valued;
 use crate::ValuedTwo;
 use crate::plain::relation_of;
 use crate::plain::until_within;
-use crate::survey::survey;
 use fractions::Operation;
 use fractions::codes::combine;
 use fractions::codes::compare;
@@ -24,6 +23,7 @@ use layers::power::scaled;
 use sentence::Node;
 use sentence::Slot;
 use steps::joint_step;
+use surveys::survey;
 
 // A state formula: its truth at all tuples. Unspecified for other nodes.
 pub fn state_formula(

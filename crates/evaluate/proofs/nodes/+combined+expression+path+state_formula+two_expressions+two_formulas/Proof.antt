@@ -55,7 +55,7 @@ use Rattle.layers.proofs.plain.label.Reads as label-reads
 use Rattle.evaluate.proofs.plain.relation_of.Reads as relation-of-reads
 use Rattle.layers.proofs.plain.swap.Reads as swap-reads
 use Rattle.evaluate.proofs.plain.until_within.Reads as until-within-reads
-use Rattle.evaluate.proofs.survey.survey.Reads as survey-reads
+use Rattle.surveys.proofs.survey.Reads as survey-reads
 use Rattle.fractions.proofs.codes.combine.Reads as combine-reads
 use Rattle.fractions.proofs.codes.compare.Reads as compare-reads
 use Rattle.fractions.proofs.codes.constant.Reads as constant-reads

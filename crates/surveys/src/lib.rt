@@ -3,14 +3,14 @@
 ghost use mathlib.Core.Path.{_≡_};
 ghost use Prim.Native.Nat.{_+_, _≤_, _<_, max};
 ghost use Rattle.trees.specs.Need.{paired};
-ghost use Rattle.evaluate.specs.Surveys.{TreeSurveyed, TreesSurveyed, layersOfTwo};
+ghost use Rattle.surveys.specs.Surveys.{TreeSurveyed, TreesSurveyed, layersOfTwo};
 use sentence::Node;
 use sentence::Slot;
 use sentence::Wants;
 use sentence::wants_of;
 
 // Where a node's own nodes end, and the layers that its evaluation needs.
-pub(crate) struct Extent {
+pub struct Extent {
     pub next: usize,
     pub layers: usize,
 }
@@ -54,7 +54,7 @@ fn operands(nodes: [Slot; 64], at: usize) -> Extent
 }
 
 // The survey of the node at a place.
-pub(crate) fn survey(nodes: [Slot; 64], at: usize) -> Extent
+pub fn survey(nodes: [Slot; 64], at: usize) -> Extent
     requires { ⌜ at ≤ 64 ⌝ }
     ensures { λ r. ⌜ TreeSurveyed nodes at r ⌝ }
 {

@@ -19,8 +19,8 @@ use Rattle.trees.specs.Standing.{nodeAt, FormulaAt, ExpressionAt}
 use Rattle.trees.specs.Wanted.{operandCount}
 use Rattle.trees.proofs.Cases.{FormulaCase, ExpressionCase, PathCase, formula-case, expression-case, path-case}
 use Rattle.trees.proofs.Cases.{formula-place, expression-place, path-place}
-use Rattle.evaluate.specs.declared.survey.Extent.{Extent}
-use Rattle.evaluate.specs.Surveys.{TreeSurveyed, TreesSurveyed, layersOfTwo}
+use Rattle.surveys.specs.declared.Extent.{Extent}
+use Rattle.surveys.specs.Surveys.{TreeSurveyed, TreesSurveyed, layersOfTwo}
 
 -- two operands need at most one more than the larger
 paired-few : (a b : ℕ) → paired a b ≤ max a b + 1

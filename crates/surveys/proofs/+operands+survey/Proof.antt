@@ -1,22 +1,22 @@
 -- `operands` and `survey` meet their contracts, by what the node wants. The measure is the number of places left, counted twice.
 use borrow.Author.Needs.{needs}
 use mathlib.Core.Path.{refl, sym, _∙_}
-use Rattle.evaluate.proofs.Surveying.{surveyed-past, surveyed-two, surveyed-none, surveyed-one, surveyed-both}
+use Rattle.surveys.proofs.Surveying.{surveyed-past, surveyed-two, surveyed-none, surveyed-one, surveyed-both}
 use Prim.Native.Nat.{ℕ, _+_, _-_, _*_, _<_}
 use borrow.Fn.Kinds.{In}
 use borrow.Fn.PlainCycle.{Measures, is, falls, and}
-use Rattle.evaluate.proofs.survey.operands.Reads as operands
-use Rattle.evaluate.proofs.survey.operands.Kinds as operands-kinds
-use Rattle.evaluate.proofs.survey.+operands+survey.Lts-operands as operands-lts
-use Rattle.evaluate.proofs.survey.survey.Reads as survey
-use Rattle.evaluate.proofs.survey.survey.Kinds as survey-kinds
-use Rattle.evaluate.proofs.survey.+operands+survey.Lts-survey as survey-lts
-use Rattle.evaluate.proofs.survey.of_two.Reads as of-two-reads
-use Rattle.evaluate.proofs.survey.leaf.Reads as leaf-reads
-use Rattle.evaluate.proofs.survey.need_of.Reads as need-of-reads
+use Rattle.surveys.proofs.operands.Reads as operands
+use Rattle.surveys.proofs.operands.Kinds as operands-kinds
+use Rattle.surveys.proofs.+operands+survey.Lts-operands as operands-lts
+use Rattle.surveys.proofs.survey.Reads as survey
+use Rattle.surveys.proofs.survey.Kinds as survey-kinds
+use Rattle.surveys.proofs.+operands+survey.Lts-survey as survey-lts
+use Rattle.surveys.proofs.of_two.Reads as of-two-reads
+use Rattle.surveys.proofs.leaf.Reads as leaf-reads
+use Rattle.surveys.proofs.need_of.Reads as need-of-reads
 use Rattle.sentence.proofs.wants_of.Reads as wants-of-reads
-use Rattle.evaluate.proofs.survey.+operands+survey.{statement}
-use Rattle.evaluate.proofs.survey.+operands+survey.Tie.{close}
+use Rattle.surveys.proofs.+operands+survey.{statement}
+use Rattle.surveys.proofs.+operands+survey.Tie.{close}
 
 abbrev μ-operands : Measures 0 operands-kinds.ps ℕ
 μ-operands κs a = 2 * (64 - a .1 .0) + 1

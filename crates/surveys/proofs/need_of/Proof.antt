@@ -7,8 +7,8 @@ use native.Mathlib.Omega.{arith}
 use native.Mathlib.Numerals.{add-one}
 use borrow.Author.Tests.{eq-eqb, ne-eqb}
 use lib.Dec.{eqb}
-use Rattle.evaluate.proofs.survey.need_of.Statement.{statement}
-use Rattle.evaluate.proofs.survey.need_of.Tie as tie
+use Rattle.surveys.proofs.need_of.Statement.{statement}
+use Rattle.surveys.proofs.need_of.Tie as tie
 
 -- the contract, by the first test
 by-test : (a b r : ℕ) (t : Bool) → eqb a b ≡ t → r ≡ cond t (suc a) (max a b) → r ≡ cond (eqb a b) (suc a) (max a b)

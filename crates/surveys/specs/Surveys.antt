@@ -11,7 +11,7 @@ use Rattle.sentence.specs.declared.Node.the-variants.{Sum, Difference, Product,
 use Rattle.meaning.specs.Tree.{Formula, Expression, PathFormula}
 use Rattle.trees.specs.Need.{paired, need, needIn, needFrom}
 use Rattle.trees.specs.Standing.{FormulaAt, ExpressionAt, PathAt}
-use Rattle.evaluate.specs.declared.survey.Extent.{Extent}
+use Rattle.surveys.specs.declared.Extent.{Extent}
 
 -- of whatever tree stands at the place; and bounds that hold of any nodes
 pub record TreeSurveyed (slots : List Slot) (at : ℕ) (r : Extent) : Type 0 where

@@ -9,9 +9,9 @@ use Rattle.sentence.proofs.Node.{the-type}
 use Rattle.sentence.specs.declared.Node.{Node}
 use Rattle.sentence.specs.declared.Node.the-variants.{True, Label, Not, And, Compare, Probability, Constant}
 use Rattle.sentence.specs.declared.Node.the-variants.{Sum, Difference, Product, Next, Until}
-use Rattle.evaluate.specs.Surveys.{layersOfTwo}
-use Rattle.evaluate.proofs.survey.of_two.Statement.{statement}
-use Rattle.evaluate.proofs.survey.of_two.Tie as tie
+use Rattle.surveys.specs.Surveys.{layersOfTwo}
+use Rattle.surveys.proofs.of_two.Statement.{statement}
+use Rattle.surveys.proofs.of_two.Tie as tie
 
 -- the tags of the nodes that are no until
 abbrev noUntil : List ℕ

@@ -1,0 +1,2 @@
+-- Laws of surveying that belong to no one function.
+pub mod Surveying
