@@ -2,16 +2,16 @@
 use Prim.Native.Nat.{ℕ, _≤_, _<_}
 use mathlib.Core.Bool.{Bool, true, false, cond, _&&_}
 use mathlib.Core.List.{List, []}
-use mathlib.Core.Path.{_≡_, refl, sym, ap, ap₂, _∙_}
+use mathlib.Core.Path.{_≡_, refl, sym, ap, _∙_}
 use native.Mathlib.Decide.{ℕ-discrete}
 use native.Mathlib.Omega.{arith}
-use borrow.Author.Tests.{eqb-true, eq-eqb, ne-eqb, ltb-true, le-ltb}
+use borrow.Author.Tests.{eqb-true, eq-eqb, ne-eqb, ltb-true}
 use lib.Dec.{ltb, eqb}
 use lib.ListN.{length, getD, set, length-set}
 use lib.Seq.{getD-set-same, getD-set-other}
 use Rattle.counting.specs.Below.{sumBelow, everyBelow, table}
 use Rattle.counting.specs.Entries.{cell}
-use Rattle.counting.proofs.Laws.{left-of, right-of, every-at, sum-zero, sum-same, table-at, table-is}
+use Rattle.counting.proofs.Laws.{left-of, right-of, every-at, sum-zero, sum-same, table-at, table-is, is-not-true}
 use Rattle.model.specs.declared.Model.{Model}
 use Rattle.model.specs.Layout.{weightOf}
 use Rattle.model.specs.Rules.{emptyRow, halted}
@@ -19,11 +19,6 @@ use Rattle.meaning.proofs.Merging.{pick}
 use Rattle.meaning.proofs.Sums.{total-sum}
 use Rattle.chain.specs.Of.{filledWeight, filledRows}
 use Rattle.chain.specs.Working.{filledRow}
-
--- a test that cannot be met
-refuted : (b : Bool) → (b ≡ true → ⊥) → b ≡ false
-refuted true h = absurd (h refl)
-refuted false h = refl
 
 -- a number put into a list of zeros
 pub one-weight : (zeros : List ℕ) (s d : ℕ) → length zeros ≡ 32 → ((t : ℕ) → t < 32 → getD zeros t 0 ≡ 0) → s < 32 →
@@ -72,19 +67,19 @@ module _ (m : Model) where
   -- so no state whose row has some weight is halted,
   pub weighed-goes : (s : ℕ) → 1 ≤ sumBelow 32 (weightOf m s) → halted m s ≡ false
   weighed-goes s some =
-      refuted (halted m s)
+      is-not-true (halted m s)
       (λ e.
       let none = sum-zero 32 {f = weightOf m s} (λ t k. halted-none s t e k) in
       absurd (omega (arith, none, some)))
 
   -- no row from N on is filled,
   pub past-goes : (s : ℕ) → m .n ≤ s → halted m s ≡ false
-  past-goes s past = refuted (halted m s) (λ e. let low = halted-below s e in absurd (omega (arith, low, past)))
+  past-goes s past = is-not-true (halted m s) (λ e. let low = halted-below s e in absurd (omega (arith, low, past)))
 
   -- and none in version 0
   pub version-goes : m .version ≡ 0 → (s : ℕ) → halted m s ≡ false
   version-goes zero s =
-      refuted (halted m s)
+      is-not-true (halted m s)
       (λ e.
       let one =
       eqb-true (m .version) 1

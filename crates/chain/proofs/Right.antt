@@ -1,12 +1,12 @@
 -- The chain of a record whose fields and rows are right: it is sound.
 use Prim.Native.Nat.{ℕ, _≤_, _<_}
 use mathlib.Core.Bool.{Bool, true, false, cond, _&&_, _||_}
-use mathlib.Core.Path.{_≡_, refl, sym, ap, ap₂, _∙_}
+use mathlib.Core.Path.{_≡_, refl, sym, ap, _∙_}
 use native.Mathlib.Omega.{arith}
 use borrow.Author.Tests.{eqb-true, ne-eqb, lt-ltb, le-ltb, ltb-false, lt-leb}
-use lib.Dec.{leb, ltb, eqb}
+use lib.Dec.{leb, ltb}
 use Rattle.counting.specs.Below.{sumBelow}
-use Rattle.counting.proofs.Laws.{every-at, sum-same, term-le-sum}
+use Rattle.counting.proofs.Laws.{every-at, sum-same, term-le-sum, not-second}
 use Rattle.model.specs.declared.Model.{Model}
 use Rattle.model.specs.Layout.{weightOf}
 use Rattle.model.specs.Rules.{fieldsRight, addsUp, halted, rowsRight}
@@ -16,11 +16,6 @@ use Rattle.chain.specs.Of.{filledWeight, chainOf}
 use Rattle.meaning.proofs.Sums.{total-sum}
 use Rattle.chain.proofs.Filling.{filled-halted, filled-other, sum-halted, halted-below, halted-none}
 use Rattle.chain.proofs.Totals.{sum-first}
-
--- of two tests joined by 'and' none is met where the second is not
-not-second : (a : Bool) {b : Bool} → b ≡ false → (a && b) ≡ false
-not-second true e = e
-not-second false e = refl
 
 -- of two tests joined by 'or' the first is met where the second is not
 first-met : (a : Bool) {b : Bool} → b ≡ false → (a || b) ≡ true → a ≡ true

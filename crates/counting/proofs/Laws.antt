@@ -77,6 +77,20 @@ pub right-of : (a b : Bool) → (a && b) ≡ true → b ≡ true
 right-of true b e = e
 right-of false b e = absurd (true≢false (sym e))
 
+-- two tests are not met together where the second is not
+pub not-second : (a : Bool) {b : Bool} → b ≡ false → (a && b) ≡ false
+not-second true e = e
+not-second false e = refl
+
+-- a test with the equation that it is answered by
+pub data Tested (b : Bool) : Type 0 where
+  holds : b ≡ true → Tested b
+  fails : b ≡ false → Tested b
+
+pub tested : (b : Bool) → Tested b
+tested true = holds refl
+tested false = fails refl
+
 -- one number more meets the test
 pub every-more : (n : ℕ) (test : ℕ → Bool) → everyBelow n test ≡ true → test n ≡ true → everyBelow (n + 1) test ≡ true
 unfolding everyBelow
@@ -95,7 +109,8 @@ unfolding everyBelow
 every-all zero test h = refl
 every-all (suc n) test h = and-true (every-all n test (λ k l. h k (omega arith))) (h n (omega arith))
 
-is-not-true : (a : Bool) → (a ≡ true → ⊥) → a ≡ false
+-- a test that cannot be met
+pub is-not-true : (a : Bool) → (a ≡ true → ⊥) → a ≡ false
 is-not-true true h = absurd (h refl)
 is-not-true false h = refl
 

@@ -1,11 +1,12 @@
 -- Document 01's starred lines hold: the one statement over the one table; and so does the example of T-05. Assumes nothing.
-use Prim.Native.Nat.{ℕ, _≤_}
+use Prim.Native.Nat.{_≤_}
 use Prim.Native.String.{String}
 use mathlib.Core.Bool.{Bool, true, false, _&&_, false≢true}
 use mathlib.Core.List.{List, [], _∷_, _++_, map}
 use mathlib.Core.Path.{_≡_, refl}
 use native.Mathlib.Omega.{arith}
 use lib.ListN.{length}
+use Rattle.counting.proofs.Laws.{left-of, right-of}
 use Rattle.counting.specs.Ascii.{ascii}
 use Rattle.counting.specs.Below.{sumBelow, everyBelow, table}
 use Rattle.model.specs.Rules.{fieldsRight, rowsRight}
@@ -20,7 +21,6 @@ use Rattle.sentence.proofs.Suiting.{same-eq}
 use Rattle.meaning.specs.Lists.{below, every, Each, nothing, further}
 use Rattle.meaning.specs.Tree.{Formula, letterOf}
 use Rattle.meaning.specs.Examples.{M1, M2, M2merged, sketched, sameChain, Line, met, lines}
-use Rattle.meaning.proofs.Tests.{and-left, and-right}
 use Rattle.meaning.proofs.Examples.{examples as meant}
 use Rattle.trees.specs.Listed.{formulaNodes, expressionNodes}
 use Rattle.chain.specs.Of.{filledWeight}
@@ -42,10 +42,10 @@ nested [] [] e = end
 nested [] (n ∷ ns) e = absurd (false≢true e)
 nested (k ∷ ks) [] e = absurd (false≢true e)
 nested (k ∷ ks) (n ∷ ns) e =
-    let rest = and-right (sameKind (kindOf n) k) (writable n && nesting (wants n ++ ks) ns) e in
-    node (and-left (writable n) (nesting (wants n ++ ks) ns) rest)
-    (same-eq (kindOf n) k (and-left (sameKind (kindOf n) k) (writable n && nesting (wants n ++ ks) ns) e))
-    (nested (wants n ++ ks) ns (and-right (writable n) (nesting (wants n ++ ks) ns) rest))
+    let rest = right-of (sameKind (kindOf n) k) (writable n && nesting (wants n ++ ks) ns) e in
+    node (left-of (writable n) (nesting (wants n ++ ks) ns) rest)
+    (same-eq (kindOf n) k (left-of (sameKind (kindOf n) k) (writable n && nesting (wants n ++ ks) ns) e))
+    (nested (wants n ++ ks) ns (right-of (writable n) (nesting (wants n ++ ks) ns) rest))
 
 -- the text of an expression, and of a sentence
 expression : (nodes : List Node) (text : String) → nesting (Expression ∷ []) nodes ≡ true → ascii text ≡ bodyText nodes
@@ -119,8 +119,8 @@ together : (l : List Line) → every met l ≡ true → Each Texted (length l) l
 unfolding every
 together [] e nothing nothing nothing = nothing
 together (x ∷ xs) e (further t ts) (further m ms) (further d ds) =
-    further (record { means = and-left (met x) (every met xs) e; texted = t; merging = m; model = d })
-    (together xs (and-right (met x) (every met xs) e) ts ms ds)
+    further (record { means = left-of (met x) (every met xs) e; texted = t; merging = m; model = d })
+    (together xs (right-of (met x) (every met xs) e) ts ms ds)
 
 -- every line marked * agrees with the definitions
 pub examples : Each Met (length lines) lines

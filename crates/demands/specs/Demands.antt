@@ -76,7 +76,7 @@ abbrev pub stepsOf : PathFormula → ℕ
 stepsOf (next f) = 1
 stepsOf (until k1 k2 f g) = k2
 
--- the chain that a file describes
+-- the chain that a file describes, its empty rows filled
 abbrev pub chainIn : List ℕ → Chain
 chainIn file = chainOf (fieldsOf file)
 

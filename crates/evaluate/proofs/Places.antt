@@ -1,6 +1,6 @@
 -- Places and lengths in a walk over the nodes: a node is counted three times, so that the functions for two operands
 -- and for an operation on them stand between a node and the next; and a layer that has room keeps it over a call.
-use Prim.Native.Nat.{ℕ, _+_, _-_, _*_, _^_, _≤_, _<_}
+use Prim.Native.Nat.{ℕ, _+_, _-_, _*_, _≤_, _<_}
 use mathlib.Core.Path.{_≡_}
 use native.Mathlib.Omega.{arith}
 use mir.Syntax.{w64}

@@ -2,7 +2,7 @@
 --
 -- What evaluating a tree's nodes asks and leaves: the front layer of the work area holds, at every tuple, the meaning's
 -- own function of the tree that stands at the place.
-use Prim.Native.Nat.{ℕ, _+_, _*_, _^_, _≤_, _<_}
+use Prim.Native.Nat.{ℕ, _*_, _≤_, _<_}
 use mathlib.Core.Bool.{false}
 use mathlib.Core.List.{List}
 use mathlib.Core.Path.{_≡_}

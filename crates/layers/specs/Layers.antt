@@ -2,7 +2,7 @@
 --
 -- A layer: T numbers at the front of the lent work area, one for each tuple of n states, in the order of the tuples'
 -- numbers. The contracts of this crate say what a layer holds after a call, and that what lies past it has stayed.
-use Prim.Native.Nat.{ℕ, _+_, _/_, _%_, _^_, _≤_, _<_}
+use Prim.Native.Nat.{ℕ, _+_, _^_, _≤_, _<_}
 use mathlib.Core.Bool.{Bool, cond}
 use mathlib.Core.List.{List}
 use mathlib.Core.Path.{_≡_}

@@ -10,12 +10,13 @@ use lib.Dec.{T}
 use lib.IntN.{ℤ}
 use lib.ListN.{length, getD}
 use lib.Signed.{leZ, ltZ, leZ-yes, ltZ-yes, _≤ℤ_, _<ℤ_}
+use Rattle.counting.proofs.Laws.{left-of, right-of, and-true}
 use Rattle.meaning.specs.Lists.{below}
 use Rattle.meaning.specs.Chain.{Chain, Tuple}
 use Rattle.meaning.specs.Tree.{less, atMost, equal, atLeast, greater, Letter, forAll, exists}
 use Rattle.meaning.specs.Meaning.{hasLabel, related, ranges, ranged}
 use Rattle.meaning.proofs.Magnitude.{leZ-both, leZ-self}
-use Rattle.meaning.proofs.Tests.{and-left, and-right, and-both, every-means, thereIs-found, thereIs-from}
+use Rattle.meaning.proofs.Tests.{every-means, thereIs-found, thereIs-from}
 use Rattle.meaning.proofs.Tests.{below-member, below-has}
 
 -- label l of variable i + 1 is that of the state in place i, counted from 0
@@ -49,8 +50,8 @@ exchanged a b = (refl, refl)
 pub equal-means : (a b : ℤ) → (related equal a b ≡ true) ↔ (a ≡ b)
 unfolding related
 equal-means a b = (
-  λ e. leZ-both a b (and-left (leZ a b) (leZ b a) e) (and-right (leZ a b) (leZ b a) e),
-  λ p. ap (λ x. leZ a x && leZ x a) (sym p) ∙ and-both (leZ-self a) (leZ-self a),
+  λ e. leZ-both a b (left-of (leZ a b) (leZ b a) e) (right-of (leZ a b) (leZ b a) e),
+  λ p. ap (λ x. leZ a x && leZ x a) (sym p) ∙ and-true (leZ-self a) (leZ-self a),
 )
 
 module _ (c : Chain) (letters : List Letter) (meets : Tuple → Bool) where

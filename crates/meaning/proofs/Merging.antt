@@ -13,6 +13,7 @@ use borrow.Author.Tests.{eqb-true, eqb-false, eq-eqb, ne-eqb}
 use lib.Dec.{eqb}
 use lib.IntN.{pos}
 use lib.ListN.{length}
+use Rattle.counting.proofs.Laws.{same-truth}
 use Rattle.meaning.specs.Lists.{below, every, thereIs, total, nothing, further}
 use Rattle.meaning.specs.Chain.{Chain, Sound, Tuple, Inside}
 use Rattle.meaning.specs.Tree.{Formula, always, labelled, negation, both, compare}
@@ -23,7 +24,7 @@ use Rattle.meaning.specs.Meaning.{ranges, ranged, verdict}
 use Rattle.meaning.specs.Merging.{weightInto, Grouping, Stable, Merged, member, merged}
 use Rattle.meaning.proofs.Sums.{total-same, total-le, total-member, total-zero}
 use Rattle.meaning.proofs.Sums.{total-scale, total-scale-right, total-swap, total-below}
-use Rattle.meaning.proofs.Tests.{same-answer, every-means, thereIs-found, thereIs-from, below-member, below-has}
+use Rattle.meaning.proofs.Tests.{every-means, thereIs-found, thereIs-from, below-member, below-has}
 use Rattle.meaning.proofs.Steps.{step, step-same, step-none, step-first, next-step}
 use Rattle.meaning.proofs.Until.{table, until-table}
 
@@ -211,7 +212,7 @@ module _ (c : Chain) (group : ℕ → ℕ) (m : Chain) (merge : Merged c group m
   every-merged : (p q : ℕ → Bool) → ((s : ℕ) → s < c .N → p s ≡ q (group s)) →
       every p (below (c .N)) ≡ every q (below (m .N))
   every-merged p q h =
-      same-answer _ _
+      same-truth _ _
       (λ e.
       every-means q (below (m .N)) .1
       (λ g w.
@@ -226,7 +227,7 @@ module _ (c : Chain) (group : ℕ → ℕ) (m : Chain) (merge : Merged c group m
   thereIs-merged : (p q : ℕ → Bool) → ((s : ℕ) → s < c .N → p s ≡ q (group s)) →
       thereIs p (below (c .N)) ≡ thereIs q (below (m .N))
   thereIs-merged p q h =
-      same-answer _ _
+      same-truth _ _
       (λ e.
       let u = thereIs-found p (below (c .N)) e in
       let i = below-member (c .N) (u .1) in

@@ -1,17 +1,18 @@
 -- The path formulas of a body: there are as many as the body has probabilities (`paths-count`), and where row 10 does not apply to it,
 -- each has a denominator of at most 2^62 (`paths-fit`).
 use Prim.Native.Nat.{ℕ, suc, _+_}
-use mathlib.Core.Bool.{Bool, true, false, not, _&&_, _||_}
+use mathlib.Core.Bool.{Bool, true, false, not, _||_}
 use mathlib.Core.List.{List, [], _∷_, _++_}
 use mathlib.Core.Path.{_≡_, refl, ap, ap₂, _∙_}
 use lib.ListN.{length, length-append}
+use Rattle.counting.proofs.Laws.{left-of, right-of, and-true}
 use Rattle.meaning.specs.Lists.{every}
 use Rattle.meaning.specs.Tree.{Formula, always, labelled, negation, both, compare, pathsOf}
 use Rattle.meaning.specs.Tree.{Expression, probability, constant, sum, difference, product, pathsIn}
 use Rattle.meaning.specs.Tree.{PathFormula, next, until, pathsFrom}
 use Rattle.meaning.specs.Meaning.{denominator}
 use Rattle.meaning.specs.Size.{size, tooLarge, largeSize, largeCross, exceeds, exceedsIn, exceedsFrom}
-use Rattle.meaning.proofs.Tests.{and-left, and-right, and-both, or-left, or-right}
+use Rattle.meaning.proofs.Tests.{or-left, or-right}
 
 -- ---- how many there are
 
@@ -68,7 +69,7 @@ every-joined : (test : PathFormula → Bool) (xs ys : List PathFormula) → ever
 unfolding every
 every-joined test [] ys e f = f
 every-joined test (x ∷ xs) ys e f =
-    and-both (and-left (test x) (every test xs) e) (every-joined test xs ys (and-right (test x) (every test xs) e) f)
+    and-true (left-of (test x) (every test xs) e) (every-joined test xs ys (right-of (test x) (every test xs) e) f)
 
 module _ (D n : ℕ) where
   -- a path formula's denominator is at most 2^62
@@ -81,7 +82,7 @@ module _ (D n : ℕ) where
 
   every-first : (p : PathFormula) (ps : List PathFormula) → small p ≡ true → every small ps ≡ true → every small (p ∷ ps) ≡ true
   unfolding every
-  every-first p ps e f = and-both e f
+  every-first p ps e f = and-true e f
 
   -- of a probability, d is the denominator
   own-small : (p : PathFormula) → largeSize (size (probability p) D n) ≡ false → small p ≡ true

@@ -9,27 +9,8 @@ use mathlib.Core.Path.{_≡_, refl, sym, ap, ap₂, _∙_}
 use native.Mathlib.Decide.{ℕ-discrete}
 use native.Mathlib.Nat.{not-suc-le-zero}
 use native.Mathlib.Omega.{arith}
+use Rattle.counting.proofs.Laws.{left-of, right-of, and-true}
 use Rattle.meaning.specs.Lists.{below, every, thereIs}
-
--- two answers are equal if each is `true` where the other is
-pub same-answer : (a b : Bool) → (a ≡ true → b ≡ true) → (b ≡ true → a ≡ true) → a ≡ b
-same-answer true b f g = sym (f refl)
-same-answer false true f g = g refl
-same-answer false false f g = refl
-
--- of two tests that are met the first is
-pub and-left : (a b : Bool) → (a && b) ≡ true → a ≡ true
-and-left true b e = refl
-and-left false b e = e
-
--- and the second is
-pub and-right : (a b : Bool) → (a && b) ≡ true → b ≡ true
-and-right true b e = e
-and-right false b e = absurd (false≢true e)
-
--- two tests that are met are met together
-pub and-both : {a b : Bool} → a ≡ true → b ≡ true → (a && b) ≡ true
-and-both {a = a} {b = b} p q = ap₂ _&&_ p q
 
 module _ {A : Type 0} where
   -- `every` is true exactly if each member meets the test
@@ -41,10 +22,10 @@ module _ {A : Type 0} where
       let r = every-means test xs in (
         λ e y m.
             ⊎-elim
-            (λ p. ap test p ∙ and-left (test x) (every test xs) e)
-            (λ w. r .0 (and-right (test x) (every test xs) e) y w)
+            (λ p. ap test p ∙ left-of (test x) (every test xs) e)
+            (λ w. r .0 (right-of (test x) (every test xs) e) y w)
             (List·Memᴰ·cases-cons m),
-        λ h. and-both (h x (List·Memᴰ·head refl)) (r .1 (λ y m. h y (List·Memᴰ·tail m))),
+        λ h. and-true (h x (List·Memᴰ·head refl)) (r .1 (λ y m. h y (List·Memᴰ·tail m))),
       )
 
   -- where `thereIs` is true, there is a member that meets the test

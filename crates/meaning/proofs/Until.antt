@@ -8,6 +8,7 @@ use native.Mathlib.Nat.{mul-zero}
 use native.Mathlib.Omega.{arith}
 use borrow.Author.Tests.{leb-true, le-leb, lt-leb}
 use lib.Dec.{leb, leb·zero, leb·suc-zero, leb·suc-suc}
+use Rattle.counting.proofs.Laws.{left-of, right-of, and-true as both-met}
 use Rattle.meaning.specs.Lists.{below, every, thereIs, total}
 use Rattle.meaning.specs.Chain.{Chain, Sound, Tuple, Inside, joint, Run, runWeight, runs}
 use Rattle.meaning.specs.Tree.{Formula, next, until}
@@ -15,7 +16,7 @@ use Rattle.meaning.specs.Meaning.{position, untilTakes, takenWeight, hol
 use Rattle.meaning.proofs.Sums.{cond-scale, total-zero}
 use Rattle.meaning.proofs.Steps.{step, step-same, step-constant, step-denominator, total-runs-zero}
 use Rattle.meaning.proofs.Steps.{total-runs-step, runs-total, next-step}
-use Rattle.meaning.proofs.Tests.{and-left, and-right, and-both, and-front}
+use Rattle.meaning.proofs.Tests.{and-front}
 use Rattle.meaning.proofs.Tests.{every-means, every-below, thereIs-found}
 use Rattle.meaning.proofs.Tests.{thereIs-from, thereIs-front, thereIs-below, below-member, below-has}
 
@@ -41,22 +42,22 @@ module _ (first second : Tuple → Bool) where
       there e =
           let q = thereIs-found (matches k1 r) (below (suc k2)) e in
           let h = below-member (suc k2) (q .1) in
-          let rest = and-right (leb k1 (q .0)) _ (q .2) in
+          let rest = right-of (leb k1 (q .0)) _ (q .2) in
           record {
             j = q .0;
-            opened = leb-true k1 (q .0) (and-left (leb k1 (q .0)) _ (q .2));
+            opened = leb-true k1 (q .0) (left-of (leb k1 (q .0)) _ (q .2));
             closing = omega arith;
-            meets = and-left (second (position r (q .0))) _ rest;
+            meets = left-of (second (position r (q .0))) _ rest;
             before = λ i l.
                 every-means (λ x. first (position r x)) (below (q .0)) .0
-                (and-right (second (position r (q .0))) _ rest) i (below-has (q .0) l);
+                (right-of (second (position r (q .0))) _ rest) i (below-has (q .0) l);
           }
 
       back : Match first second k1 k2 r → untilTakes first second k1 k2 r ≡ true
       back m =
           thereIs-from (matches k1 r) (below (suc k2)) (m .j) (below-has (suc k2) (omega arith))
-          (and-both (le-leb k1 (m .j) (m .opened))
-          (and-both (m .meets)
+          (both-met (le-leb k1 (m .j) (m .opened))
+          (both-met (m .meets)
           (every-means (λ x. first (position r x)) (below (m .j)) .1 (λ i w. m .before i (below-member (m .j) w)))))
 
   -- at a run that starts at s: j = 0, or position 0 meets the first formula and the rest of the run has a match

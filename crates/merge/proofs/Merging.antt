@@ -10,7 +10,7 @@ use borrow.Author.Tests.{lt-ltb, le-ltb, le-leb, lt-leb, eq-eqb}
 use lib.Dec.{ltb, leb, eqb}
 use lib.ListN.{getD}
 use Rattle.counting.specs.Below.{sumBelow, everyBelow, table}
-use Rattle.counting.proofs.Laws.{table-at, every-all, and-true}
+use Rattle.counting.proofs.Laws.{table-at, every-all, and-true, not-second}
 use Rattle.model.specs.declared.Model.{Model}
 use Rattle.model.specs.Layout.{maskOf, weightOf}
 use Rattle.model.specs.Rules.{numbersRight, maskRight, weightRight, fieldsRight, addsUp, halted, rowsRight}
@@ -74,10 +74,6 @@ or-zero : (b : Bool) (x : ℕ) → (b ≡ false → x ≡ 0) → (b || eqb x 0) 
 or-zero true x h = refl
 or-zero false x h = eq-eqb x 0 (h refl)
 
-not-either : (a b : Bool) → b ≡ false → (a && b) ≡ false
-not-either true b e = e
-not-either false b e = refl
-
 module _ (m : Model) (grouping : List ℕ) (fields : fieldsRight m ≡ true) (grouped : groupingRight (m .n) grouping ≡ true) where
   pub few : groupCount grouping ≤ 32
   few =
@@ -136,7 +132,7 @@ module _ (m : Model) (grouping : List ℕ) (fields : fieldsRight m ≡ true) (gr
           sum-first (groupCount grouping) 32 (weightOf (mergedModel m grouping) g) few
           (λ h past low.
           weight-out m grouping g h (omega arith) low
-          (not-either (ltb g (groupCount grouping)) (ltb h (groupCount grouping)) (le-ltb h (groupCount grouping) past))) ∙
+          (not-second (ltb g (groupCount grouping)) (le-ltb h (groupCount grouping) past))) ∙
           sym (total-sum (groupCount grouping) (weightOf (mergedModel m grouping) g)) ∙
           sound-merged (chainOf m) (groupOf grouping) standing merged-standing (chain.sound-right m fields adds) g k
 

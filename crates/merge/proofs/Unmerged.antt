@@ -10,7 +10,6 @@ use native.Mathlib.Omega.{arith}
 use borrow.Author.Tests.{ltb-true, lt-ltb, le-ltb, eqb-true, eq-eqb, ne-eqb}
 use lib.Dec.{ltb, eqb}
 use lib.ListN.{length, getD}
-use Rattle.counting.specs.Below.{table}
 use Rattle.counting.proofs.Laws.{table-at, table-is, table-same, length-table, left-of, right-of}
 use Rattle.refusal.proofs.Laws.{first-later, first-none}
 use Rattle.model.specs.declared.Model.{Model}

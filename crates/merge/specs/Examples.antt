@@ -1,6 +1,5 @@
 -- Document 01, 'Examples on both sides': what the starred line on merging claims of files. The table of the lines is specs/Examples of
 -- the crate `meaning`; `demands` has the one statement over all of it.
-use mathlib.Core.List.{[]}
 use mathlib.Core.Path.{_≡_}
 use lib.ListN.{getD, length}
 use Rattle.counting.specs.Below.{table}

@@ -12,9 +12,9 @@ use native.Mathlib.Nat.{one-le-pow}
 use native.Mathlib.Omega.{arith}
 use borrow.Author.Tests.{lt-ltb, le-ltb, le-leb, lt-leb, ltb-true, eq-eqb, eqb-true}
 use lib.Dec.{ltb, leb, eqb}
-use lib.ListN.{length, getD, List·getD-eq-default}
+use lib.ListN.{length, List·getD-eq-default}
 use Rattle.counting.specs.Below.{sumBelow, everyBelow}
-use Rattle.counting.proofs.Laws.{every-at, every-all, and-true, left-of, right-of, sum-same}
+use Rattle.counting.proofs.Laws.{every-at, every-all, and-true, left-of, right-of, sum-same, Tested, holds, fails, tested}
 use Rattle.block.specs.Block.{byteOf, two, blocksIn}
 use Rattle.model.specs.Layout.{maskOf, weightOf, maskAt, weightAt, fieldsOf, headByte, rowByte, contentByte, blocks, byteOfTwo}
 use Rattle.model.specs.Rules.{within, maskRight, weightRight, fieldsRight, addsUp, emptyRow, halted, rowsRight, lengthRight, laidOut}
@@ -25,15 +25,6 @@ use Rattle.model.proofs.Rightness.{mask-at, weight-past}
 use Rattle.model.proofs.Standing.{Bytes, byte-of-zero, head-rest, row-end, content-row, content-head}
 use Rattle.model.proofs.Standing.{mask-of-file, weight-of-file, past-masks, past-rows, head-stands, head-first}
 use Rattle.model.proofs.Standing.{row-first, row-second, row-stands}
-
--- a test with the equation that it is answered by
-data Tested (b : Bool) : Type 0 where
-  holds : b ≡ true → Tested b
-  fails : b ≡ false → Tested b
-
-tested : (b : Bool) → Tested b
-tested true = holds refl
-tested false = fails refl
 
 -- a number of two bytes is 0 exactly if both are
 two-zero : (a b : ℕ) → two a b ≡ 0 → (a ≡ 0) × (b ≡ 0)

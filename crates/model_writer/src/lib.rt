@@ -5,7 +5,7 @@ ghost use Prim.Native.Nat.{_+_, _*_, _/_, _%_, _<_, _≤_};
 ghost use lib.ListN.{length, getD, drop};
 ghost use Rattle.counting.specs.Below.{table};
 ghost use Rattle.refusal.specs.Answers.{atFront};
-ghost use Rattle.model.specs.Layout.{modelOf, byteOfTwo, headByte, rowByte, contentByte, blockBytes, blocksBelow, fileOf};
+ghost use Rattle.model.specs.Layout.{modelOf, byteOfTwo, headByte, rowByte, contentByte, blockBytes, blocksBelow};
 ghost use Rattle.model.specs.Contract.{WriteModelEnsures};
 use block::BLOCK;
 use block::CHECK_HIGH;

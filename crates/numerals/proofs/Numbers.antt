@@ -8,6 +8,7 @@ use native.Mathlib.Omega.{arith}
 use borrow.Author.Tests.{lt-ltb, le-ltb, le-leb, lt-leb, ltb-true, ltb-false}
 use lib.Dec.{ltb, leb}
 use lib.ListN.{length, length-append}
+use Rattle.counting.proofs.Laws.{Tested, holds, fails, tested}
 use Rattle.numerals.specs.Numeral.{digits, numberText}
 use Rattle.numerals.specs.Working.{NoDigit}
 
@@ -15,15 +16,6 @@ use Rattle.numerals.specs.Working.{NoDigit}
 abbrev pub beyond : ℕ → ℕ
 beyond zero = 1
 beyond (suc k) = 10 * beyond k
-
--- a test with the equation that it is answered by
-pub data Tested (b : Bool) : Type 0 where
-  holds : b ≡ true → Tested b
-  fails : b ≡ false → Tested b
-
-pub tested : (b : Bool) → Tested b
-tested true = holds refl
-tested false = fails refl
 
 -- a digit more to write with changes nothing where fewer do
 digits-more : (k n : ℕ) → n < beyond (suc k) → digits (suc (suc k)) n ≡ digits (suc k) n

@@ -7,11 +7,11 @@ use native.Mathlib.Omega.{arith}
 use borrow.Author.Tests.{lt-ltb, le-ltb, ltb-true, eqb-true, not-true, not-false}
 use lib.Dec.{ltb, eqb}
 use lib.ListN.{length}
+use Rattle.counting.proofs.Laws.{left-of, right-of}
 use Rattle.model.specs.declared.Model.{Model}
 use Rattle.sentence.specs.declared.Sentence.{Sentence}
 use Rattle.sentence.specs.Record.{recordOf}
 use Rattle.meaning.specs.Tree.{Formula, next, always, pathsOf}
-use Rattle.meaning.proofs.Tests.{and-left, and-right}
 use Rattle.trees.specs.Listed.{formulaNodes}
 use Rattle.paths.specs.Tuples.{membersBelow, tupleRight}
 use Rattle.paths.specs.Places.{PathPlace, here, none}
@@ -53,12 +53,12 @@ pub record RightParts (m : Model) (s : Sentence) (f : Formula) (tuple : List ℕ
 pub right-parts : (m : Model) (s : Sentence) (f : Formula) (tuple : List ℕ) (number : ℕ) → asksRight m s f tuple number ≡ true →
     RightParts m s f tuple number
 right-parts m s f tuple number e =
-    let right = and-left (tupleRight (s .letters) (m .n) tuple) (ltb number (length (pathsOf f))) e in
+    let right = left-of (tupleRight (s .letters) (m .n) tuple) (ltb number (length (pathsOf f))) e in
     record {
       tuple-right = right;
-      long = eqb-true (length tuple) (s .letters) (and-left (eqb (length tuple) (s .letters)) (membersBelow (m .n) tuple) right);
-      members = and-right (eqb (length tuple) (s .letters)) (membersBelow (m .n) tuple) right;
-      there = ltb-true number (length (pathsOf f)) (and-right (tupleRight (s .letters) (m .n) tuple) (ltb number (length (pathsOf f))) e);
+      long = eqb-true (length tuple) (s .letters) (left-of (eqb (length tuple) (s .letters)) (membersBelow (m .n) tuple) right);
+      members = right-of (eqb (length tuple) (s .letters)) (membersBelow (m .n) tuple) right;
+      there = ltb-true number (length (pathsOf f)) (right-of (tupleRight (s .letters) (m .n) tuple) (ltb number (length (pathsOf f))) e);
     }
 
 -- what the test of the two says, of the text that the sentence is read from

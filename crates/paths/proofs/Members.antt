@@ -13,12 +13,12 @@ use borrow.Author.Tests.{ltb-true, eqb-true}
 use lib.Dec.{ltb, eqb}
 use lib.ListN.{length, getD, drop, drop-of-length-le}
 use lib.Seq.{drop-cons}
+use Rattle.counting.proofs.Laws.{left-of, right-of}
 use Rattle.layers.specs.Layers.{Layer}
 use Rattle.layers.specs.Held.{mostStates, mostVariables}
 use Rattle.layers.proofs.Places.{pow-some}
 use Rattle.meaning.specs.Lists.{every, nothing, further}
 use Rattle.meaning.specs.Chain.{Tuple, Inside}
-use Rattle.meaning.proofs.Tests.{and-left, and-right}
 use Rattle.meaning.proofs.Numbers.{numberOf, tupleOf, number-below, tuple-number}
 use Rattle.paths.specs.Tuples.{membersBelow, tupleRight}
 use Rattle.paths.specs.Places.{TupleReady, TuplePlace}
@@ -62,7 +62,7 @@ pub members-inside : (N : ℕ) (s : List ℕ) → membersBelow N s ≡ true → 
 unfolding every
 members-inside N [] e = nothing
 members-inside N (x ∷ s) e =
-    further (ltb-true x N (and-left (ltb x N) (membersBelow N s) e)) (members-inside N s (and-right (ltb x N) (membersBelow N s) e))
+    further (ltb-true x N (left-of (ltb x N) (membersBelow N s) e)) (members-inside N s (right-of (ltb x N) (membersBelow N s) e))
 
 -- ---- the tuple's number
 
@@ -136,13 +136,13 @@ sum-fits {x} h few less =
 
 -- it is as long as there are letters
 pub right-long : (n N : ℕ) (s : List ℕ) → tupleRight n N s ≡ true → length s ≡ n
-right-long n N s e = eqb-true (length s) n (and-left (eqb (length s) n) (membersBelow N s) e)
+right-long n N s e = eqb-true (length s) n (left-of (eqb (length s) n) (membersBelow N s) e)
 
 -- and its number can be computed
 pub right-ready : (n N : ℕ) (s : List ℕ) → tupleRight n N s ≡ true → n ≤ mostVariables → N ≤ mostStates → TupleReady N s
 right-ready n N s e letters states =
     let long = right-long n N s e in
-    record { few = omega arith; states = states; below = and-right (eqb (length s) n) (membersBelow N s) e }
+    record { few = omega arith; states = states; below = right-of (eqb (length s) n) (membersBelow N s) e }
 
 -- a layer holds its function's number of the tuple at the tuple's place
 pub layer-there : {N n r : ℕ} {g : Tuple → ℕ} {w : List ℕ} {s : Tuple} → Layer N n g w → length s ≡ n → TuplePlace N s r → getD w r 0 ≡ g s

@@ -1,18 +1,18 @@
 -- Both round trips, as demand 2 asks: writing what was read gives the same text, and reading what was written gives the same
 -- sentence, with the places that are no part of it empty. Assumes nothing.
-use Prim.Native.Nat.{ℕ, _-_, _≤_, _<_}
-use mathlib.Core.Bool.{Bool, false}
-use mathlib.Core.List.{List, [], _∷_, map}
+use Prim.Native.Nat.{ℕ, _≤_, _<_}
+use mathlib.Core.Bool.{Bool}
+use mathlib.Core.List.{List, []}
 use mathlib.Core.Path.{_≡_, refl, sym, ap, ap₂, _∙_, subst}
 use native.Mathlib.Omega.{arith}
-use lib.ListN.{length, take, drop, replicate, length-map, length-take}
-use lib.Seq.{take-append-seam, take-at, length-take-le}
+use lib.ListN.{length, take, drop, length-map, length-take}
+use lib.Seq.{take-append-seam, length-take-le}
 use Rattle.sentence.specs.Grammar.{Spells, someOutOfRange}
 use Rattle.refusal.specs.declared.Outcome.the-variants.{Done}
 use Rattle.refusal.specs.declared.Written.{Written}
 use Rattle.refusal.specs.declared.Written.the-variants.{Wrote}
 use Rattle.refusal.specs.Answers.{gives, refuses, replyOf, Ensured, refused, answered, atFront, TextAtFront}
-use Rattle.sentence.specs.Record.{slot, recordOf, prefixOf, nodesOf}
+use Rattle.sentence.specs.Record.{recordOf, prefixOf, nodesOf}
 use Rattle.sentence_reader.specs.Contract.{ReadRow, Spelled, ReadSentenceEnsures}
 use Rattle.sentence_writer.specs.Contract.{WriteRow, WriteSentenceEnsures}
 use Rattle.sentence_reader.specs.Contract.ReadRow.{outside, long, range, many}

@@ -1,9 +1,9 @@
 -- The record of a prefix and a node list has that prefix and that list. Assumes nothing.
-use Prim.Native.Nat.{ℕ, _-_}
+use Prim.Native.Nat.{_-_}
 use mathlib.Core.Bool.{Bool, false}
 use mathlib.Core.List.{List, [], _∷_, map}
 use mathlib.Core.Path.{_≡_, refl, ap, _∙_}
-use lib.ListN.{length, take, replicate, length-map}
+use lib.ListN.{length, replicate, length-map}
 use lib.Seq.{take-append-seam, take-at}
 use Rattle.sentence.specs.Record.{slot, recordOf, prefixOf, nodesOf}
 use Rattle.sentence.specs.declared.Node.{Node}

@@ -19,7 +19,7 @@ use Rattle.sentence.specs.declared.Node.the-variants.{True, Label}
 use Rattle.sentence.specs.declared.Slot.{Slot}
 use Rattle.sentence_reader.specs.declared.NodeRead.{NodeRead}
 use Rattle.numerals.specs.declared.NumbersRead.{NumbersRead}
-use Rattle.numerals.proofs.Places.{here, firstByte, first-byte-here}
+use Rattle.numerals.proofs.Places.{here, first-byte-here}
 use Rattle.sentence.proofs.Unique.{decode, decoded, one-node, twoNumbers}
 use Rattle.sentence_reader.proofs.ReadAll.{stored}
 

@@ -8,6 +8,7 @@ use borrow.Author.Tests.{ltb-true, ltb-false}
 use lib.Dec.{ltb}
 use lib.ListN.{length, drop, replicate, length-replicate, length-drop}
 use lib.Seq.{sets, sets-eq, drop-length}
+use Rattle.counting.proofs.Laws.{Tested, tested}
 use Rattle.sentence.specs.Grammar.{letterByte, bodyText, Spells, Nests, someOutOfRange, outOfRange}
 use Rattle.refusal.specs.declared.Outcome.{Outcome}
 use Rattle.refusal.specs.declared.Outcome.the-variants.{Done}
@@ -27,8 +28,7 @@ use Rattle.sentence.specs.declared.Node.{Node}
 use Rattle.sentence_scan.specs.declared.Tally.{Tally}
 use Rattle.sentence.specs.declared.Sentence.{Sentence}
 use Rattle.sentence_reader.specs.declared.SentenceRead.{SentenceRead}
-use Rattle.numerals.proofs.Numbers.{Tested, tested}
-use Rattle.numerals.proofs.Numbers.Tested.{holds, fails}
+use Rattle.counting.proofs.Laws.Tested.{holds, fails}
 use Rattle.sentence.proofs.Unique.{all-writable, Peeled, peel}
 use Rattle.sentence.proofs.Letters.{one-prefix}
 use Rattle.sentence.proofs.Once.{no-nodes, spelled-text, spelled-once}

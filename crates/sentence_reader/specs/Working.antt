@@ -1,29 +1,21 @@
 -- Working: what the functions of this crate promise one another. Nothing here has to be believed.
 -- The parts of the reader, said over the grammar.
-use Prim.Native.Nat.{ℕ, _+_, _-_, _≤_, _<_}
-use mathlib.Core.Bool.{Bool, true, false, _||_, cond}
+use Prim.Native.Nat.{ℕ, _+_, _-_, _≤_}
+use mathlib.Core.Bool.{Bool, true, false, cond}
 use mathlib.Core.List.{List, [], _∷_, _++_, map}
-use mathlib.Core.Logic.{_⊎_}
 use mathlib.Core.Path.{_≡_}
-use lib.Dec.{ltb, eqb}
+use lib.Dec.{ltb}
 use lib.ListN.{length, drop, replicate}
 use lib.Seq.{sets}
-use Rattle.numerals.specs.Numeral.{numberText}
-use Rattle.sentence.specs.Grammar.{Nests, nodeText, Writable, kindOf, wants, bodyText, letterByte, outOfRange}
+use Rattle.sentence.specs.Grammar.{nodeText, Writable, bodyText, letterByte}
 use Rattle.refusal.specs.declared.Outcome.the-variants.{Done, Refused}
 use Rattle.sentence.specs.Record.{slot, recordOf}
-use Rattle.numerals.specs.Working.{NoDigit}
 use Rattle.sentence.specs.Working.{AllWritable}
-use Rattle.sentence.specs.declared.Kind.{Kind}
-use Rattle.sentence.specs.declared.Relation.the-variants.{Less, AtMost, Equal, AtLeast, Greater}
 use Rattle.sentence.specs.declared.Node.{Node}
-use Rattle.sentence.specs.declared.Node.the-variants.{True, Not, And, Compare, Probability, Sum, Difference, Product, Next}
+use Rattle.sentence.specs.declared.Node.the-variants.{True}
 use Rattle.sentence.specs.declared.Slot.{Slot}
 use Rattle.sentence_scan.specs.declared.Tally.{Tally}
-use Rattle.sentence_scan.specs.declared.Progress.{Progress}
 use Rattle.sentence_reader.specs.declared.SentenceRead.{SentenceRead}
-use Rattle.numerals.specs.declared.NumberRead.{NumberRead}
-use Rattle.numerals.specs.declared.NumbersRead.{NumbersRead}
 use Rattle.sentence_reader.specs.declared.NodeRead.{NodeRead}
 use Rattle.sentence_reader.specs.declared.PrefixRead.{PrefixRead}
 

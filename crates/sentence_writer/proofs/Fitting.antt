@@ -5,10 +5,9 @@ use mathlib.Core.List.{List, [], _∷_, _++_, append-assoc, append-nil}
 use mathlib.Core.Path.{_≡_, refl, sym, ap, _∙_, subst}
 use native.Mathlib.Numerals.{add-one}
 use native.Mathlib.Omega.{arith}
-use borrow.Author.Tests.{lt-ltb, le-leb, ltb-true, leb-true}
-use lib.Dec.{ltb, leb}
 use lib.ListN.{length, take, drop, getD, length-map, length-take, List·getD-map, drop-of-length-le}
 use lib.Seq.{drop-cons, getD-take}
+use Rattle.counting.proofs.Laws.{left-of, right-of}
 use Rattle.sentence.specs.Grammar.{writable, Writable, kindOf, wants, Nests, bodyText, wanted, wantsOf}
 use Rattle.sentence.specs.Grammar.Nests.{end, node}
 use Rattle.sentence.specs.Record.{slot, listed}
@@ -16,14 +15,12 @@ use Rattle.sentence.specs.Working.{sameKind}
 use Rattle.sentence_writer.specs.Working.{Unfit, Fit, Fits}
 use Rattle.sentence_writer.specs.Working.Fit.{stopped, fit, unfit}
 use Rattle.sentence.specs.declared.Kind.{Kind}
-use Rattle.sentence.specs.declared.Kind.the-variants.{State, Expression, Path}
 use Rattle.sentence.specs.declared.Node.{Node}
-use Rattle.sentence.specs.declared.Node.the-variants.{True, Label, Not, And, Compare, Probability, Constant, Sum, Difference, Product, Next}
-use Rattle.sentence.specs.declared.Node.the-variants.{Until}
+use Rattle.sentence.specs.declared.Node.the-variants.{True}
 use Rattle.sentence.specs.declared.Slot.{Slot}
 use Rattle.sentence_writer.specs.declared.Place.{Place}
 use Rattle.sentence.proofs.Unique.{body-append, join, Peeled, peel}
-use Rattle.sentence.proofs.Suiting.{left, right, same-refl, same-eq}
+use Rattle.sentence.proofs.Suiting.{same-refl, same-eq}
 
 -- the list has as many nodes as are counted
 pub listed-length : (nodes : List Slot) (count : ℕ) → count ≤ length nodes → length (listed nodes count) ≡ count
@@ -113,8 +110,8 @@ fits-node n k l p r ok here suits f =
       within = f .within;
       result =
           fit-node n k l p (record { ok = true; at = p .at + 1 }) r ok refl here
-          (right (sameKind (kindOf n) k) (writable n) suits)
-          (same-eq (kindOf n) k (left (sameKind (kindOf n) k) (writable n) suits))
+          (right-of (sameKind (kindOf n) k) (writable n) suits)
+          (same-eq (kindOf n) k (left-of (sameKind (kindOf n) k) (writable n) suits))
           (f .result);
     }
 

@@ -1,29 +1,20 @@
 -- Working: what the functions of this crate promise one another. Nothing here has to be believed.
 -- The parts of the writer, said over the grammar.
-use Prim.Native.Nat.{ℕ, _+_, _*_, _≤_}
-use mathlib.Core.Bool.{Bool, true, false, _&&_}
-use mathlib.Core.List.{List, [], _∷_, _++_, map}
+use Prim.Native.Nat.{ℕ, _*_, _≤_}
+use mathlib.Core.Bool.{true, false}
+use mathlib.Core.List.{List, _++_}
 use mathlib.Core.Path.{_≡_}
-use lib.Dec.{leb, ltb}
-use lib.ListN.{length, take, drop}
-use lib.Seq.{sets}
+use lib.ListN.{length, drop}
 use Rattle.refusal.specs.declared.Written.{Written}
 use Rattle.refusal.specs.Answers.{replyOfWritten, Ensured}
-use Rattle.numerals.specs.Numeral.{numberText}
-use Rattle.sentence.specs.Grammar.{Writable, Nests, bodyText, someOutOfRange, Spells}
+use Rattle.sentence.specs.Grammar.{Nests, bodyText, someOutOfRange, Spells}
 use Rattle.sentence_writer.specs.Contract.{WriteRow}
 use Rattle.sentence.specs.Record.{prefixOf, nodesOf}
 use Rattle.sentence.specs.declared.Kind.{Kind}
-use Rattle.sentence.specs.declared.Kind.the-variants.{State, Expression, Path}
 use Rattle.sentence.specs.declared.Node.{Node}
-use Rattle.sentence.specs.declared.Node.the-variants.{True, Label, Not, And, Compare, Probability, Constant, Sum, Difference, Product, Next}
-use Rattle.sentence.specs.declared.Node.the-variants.{Until}
-use Rattle.sentence.specs.declared.Slot.{Slot}
 use Rattle.sentence.specs.declared.Sentence.{Sentence}
 use Rattle.sentence_writer.specs.declared.Place.{Place}
 use Rattle.sentence_writer.specs.declared.Survey.{Survey}
-use Rattle.sentence.specs.declared.Wants.{Wants}
-use Rattle.sentence.specs.declared.Wants.the-variants.{Nothing, One, Two}
 
 -- no list that starts with things of the kinds js stands at the front of the list l
 abbrev pub Unfit : List Kind → List Node → Type 0

@@ -1,3 +1,2 @@
 -- Laws of capped numbers, and of what the walk finds node by node.
-pub mod Capped
 pub mod Walk

@@ -26,9 +26,10 @@ use Rattle.trees.proofs.Cases.{FormulaCase, ExpressionCase, PathCase, formula-c
 use Rattle.trees.proofs.Cases.{formula-place, expression-place, path-place}
 use Rattle.sizes.specs.declared.Measure.{Measure}
 use Rattle.sizes.specs.declared.MeasureTwo.{MeasureTwo}
-use Rattle.sizes.specs.Sizing.{capped, unmeasured, measured, ofPath, ofSum, ofProduct, ofComparison, ofProbability}
+use Rattle.sizes.specs.Sizing.{unmeasured, measured, ofPath, ofSum, ofProduct, ofComparison, ofProbability}
+use Rattle.capped.specs.Capping.{capped}
 use Rattle.sizes.specs.Sizing.{Sizes, SizesTwo}
-use Rattle.sizes.proofs.Capped.{capped-times, capped-plus, capped-too}
+use Rattle.capped.proofs.Capped.{capped-times, capped-plus, capped-too}
 
 -- a product of capped numbers
 prod : (x y : ℕ) {u v : ℕ} → u ≡ capped x → v ≡ capped y → capped (u * v) ≡ capped (x * y)

@@ -2,7 +2,7 @@
 --
 -- What the size rule's walk finds of the trees that stand in the places of a record. A number above 2^62 is kept as
 -- 2^62 + 1: it is too large, and so is whatever it is a factor or a summand of, unless the other factor is 0.
-use Prim.Native.Nat.{ℕ, min, _+_, _*_, _≤_, _<_}
+use Prim.Native.Nat.{ℕ, _+_, _*_, _≤_, _<_}
 use mathlib.Core.Bool.{Bool, _||_}
 use mathlib.Core.List.{List}
 use mathlib.Core.Path.{_≡_}
@@ -11,15 +11,12 @@ use Rattle.sentence.specs.declared.Node.{Node}
 use Rattle.sentence.specs.Grammar.{wantsOf}
 use Rattle.meaning.specs.Tree.{Formula, Expression, PathFormula}
 use Rattle.meaning.specs.Meaning.{denominator}
-use Rattle.meaning.specs.Size.{sizeLimit, size, tooLarge, exceeds, exceedsIn, exceedsFrom}
+use Rattle.meaning.specs.Size.{size, tooLarge, exceeds, exceedsIn, exceedsFrom}
 use Rattle.trees.specs.Standing.{nodeAt, FormulaAt, ExpressionAt, PathAt}
 use Rattle.trees.specs.Wanted.{operandCount}
+use Rattle.capped.specs.Capping.{capped}
 use Rattle.sizes.specs.declared.Measure.{Measure}
 use Rattle.sizes.specs.declared.MeasureTwo.{MeasureTwo}
-
--- the number itself up to 2^62, and 2^62 + 1 above
-unfoldable pub capped : ℕ → ℕ
-capped x = min x (sizeLimit + 1)
 
 -- ---- what is found of a node, from what was found of its parts
 

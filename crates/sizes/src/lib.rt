@@ -3,22 +3,21 @@
 ghost use Prim.Native.Nat.{ℕ, _+_, _*_, _^_, _≤_, _<_};
 ghost use mathlib.Core.Bool.{false};
 ghost use mathlib.Core.Path.{_≡_};
-ghost use Rattle.meaning.specs.Size.{exceeds as exceedsRule, sizeLimit, tooLarge};
+ghost use Rattle.meaning.specs.Size.{exceeds as exceedsRule};
 ghost use Rattle.meaning.specs.Tree.{Formula};
 ghost use Rattle.trees.specs.Standing.{FormulaAt};
-ghost use Rattle.sizes.specs.Sizing.{capped, unmeasured, measured, ofPath, ofSum, ofProduct, ofComparison, ofProbability};
+ghost use Rattle.sizes.specs.Sizing.{unmeasured, measured, ofPath, ofSum, ofProduct, ofComparison, ofProbability};
+ghost use Rattle.capped.specs.Capping.{capped};
 ghost use Rattle.sizes.specs.Sizing.{Sizes, SizesTwo, OfNone, OfOne, OfTwo};
+use capped::plus;
+use capped::power;
+use capped::times;
+use capped::too_large;
 use sentence::Node;
 use sentence::Sentence;
 use sentence::Slot;
 use sentence::Wants;
 use sentence::wants_of;
-
-// The largest number that the size rule lets through: 2^62.
-const LIMIT: u64 = 4611686018427387904;
-
-// What a larger number is kept as.
-const CAP: u64 = LIMIT + 1;
 
 // What is found of a tree: where its nodes end; an expression's d and m (a path's denominator as both, 0 for a formula),
 // capped; and whether some number of the size rule is above 2^62.
@@ -37,51 +36,6 @@ struct MeasureTwo {
     d2: u64,
     m2: u64,
     over: bool,
-}
-
-// The product, capped.
-fn times(a: u64, b: u64) -> u64
-    ensures { λ r. ⌜ r ≡ capped (a * b) ⌝ }
-{
-    if b == 0 {
-        return 0;
-    }
-    if LIMIT / b < a {
-        return CAP;
-    }
-    a * b
-}
-
-// The sum of two capped numbers, capped.
-fn plus(a: u64, b: u64) -> u64
-    requires { ⌜ (a ≤ sizeLimit + 1) × (b ≤ sizeLimit + 1) ⌝ }
-    ensures { λ r. ⌜ r ≡ capped (a + b) ⌝ }
-{
-    let s = a + b;
-    if LIMIT < s {
-        return CAP;
-    }
-    s
-}
-
-// The power, capped.
-fn power(base: u64, exponent: u64) -> u64
-    ensures { λ r. ⌜ r ≡ capped (base ^ exponent) ⌝ }
-{
-    let mut r: u64 = 1;
-    let mut i: u64 = 0;
-    while i < exponent {
-        r = times(r, base);
-        i = i + 1;
-    }
-    r
-}
-
-// Whether the number is above 2^62.
-fn too_large(x: u64) -> bool
-    ensures { λ r. ⌜ r ≡ tooLarge x ⌝ }
-{
-    LIMIT < x
 }
 
 // A formula, which has no d and no m: both are 0.

@@ -1,12 +1,10 @@
 -- Laws of sums that a step needs: a part is at most the whole, a bound goes over to the sum, and a sum is a total.
 use Prim.Native.Nat.{ℕ, zero, suc, _+_, _*_, _≤_, _<_}
-use mathlib.Core.Path.{_≡_, refl, sym, ap, _∙_}
+use mathlib.Core.Path.{_≡_, ap}
 use native.Mathlib.Nat.{mul-le-mul-left}
 use native.Mathlib.Decide.{decLt}
 use native.Mathlib.Omega.{arith}
 use Rattle.counting.specs.Below.{sumBelow}
-use Rattle.meaning.specs.Lists.{below, total}
-use Rattle.meaning.proofs.Sums.{total-below}
 
 -- the terms up to one of them are at most the whole
 pub part-le : (n : ℕ) (f : ℕ → ℕ) (t : ℕ) → t < n → sumBelow t f + f t ≤ sumBelow n f

@@ -1,6 +1,6 @@
 // Sums of products over the weights that are not 0. Where the windows are long D is small, and a row has at most D of them.
 ghost use mathlib.Core.Path.{_≡_};
-ghost use Prim.Native.Nat.{ℕ, _+_, _*_, _^_, _≤_, _<_};
+ghost use Prim.Native.Nat.{ℕ, _+_, _*_, _≤_, _<_};
 ghost use lib.ListN.{length, getD};
 ghost use Rattle.counting.specs.Below.{sumBelow};
 ghost use Rattle.meaning.specs.Size.{sizeLimit};

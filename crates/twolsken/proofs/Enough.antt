@@ -11,7 +11,7 @@ use borrow.Author.Tests.{leb-true, leb-false}
 use lib.Dec.{leb, eqb}
 use lib.ListN.{length, getD, take}
 use lib.Seq.{take-all, length-take-le}
-use Rattle.numerals.proofs.Numbers.{Tested, holds, fails, tested}
+use Rattle.counting.proofs.Laws.{Tested, holds, fails, tested}
 use Rattle.lines.specs.Texts.{withoutNewline}
 
 -- two byte strings are equal, or both are over the limit

@@ -2,8 +2,9 @@
 use borrow.Author.Needs.{needs}
 use Prim.Native.Nat.{ℕ, _+_}
 use mathlib.Core.Path.{ap₂, _∙_}
-use Rattle.sizes.specs.Sizing.{capped, measured}
-use Rattle.sizes.proofs.Capped.{capped-result}
+use Rattle.sizes.specs.Sizing.{measured}
+use Rattle.capped.specs.Capping.{capped}
+use Rattle.capped.proofs.Capped.{capped-result}
 use Rattle.sizes.proofs.added.Statement.{statement}
 use Rattle.sizes.proofs.added.Tie as tie
 

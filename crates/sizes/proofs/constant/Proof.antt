@@ -5,7 +5,7 @@ use mathlib.Core.Bool.{false}
 use mathlib.Core.Path.{sym, ap₂, _∙_}
 use native.Mathlib.Omega.{arith}
 use Rattle.sizes.specs.Sizing.{measured}
-use Rattle.sizes.proofs.Capped.{capped-small}
+use Rattle.capped.proofs.Capped.{capped-small}
 use Rattle.sizes.proofs.constant.Statement.{statement}
 use Rattle.sizes.proofs.constant.Tie as tie
 

@@ -2,7 +2,6 @@
 use borrow.Author.Needs.{needs}
 use mathlib.Core.Bool.{Bool, _||_}
 use mathlib.Core.Path.{ap₂}
-use Rattle.sizes.specs.declared.Measure.{Measure}
 use Rattle.sizes.proofs.judged.Statement.{statement}
 use Rattle.sizes.proofs.judged.Tie as tie
 

@@ -1,6 +1,6 @@
 -- `steps::step_column` meets its contract: the sums are of the copied column, whatever has been written since.
 use borrow.Author.Needs.{needs}
-use Prim.Native.Nat.{ℕ, _+_, _*_, _-_, _^_, _≤_}
+use Prim.Native.Nat.{ℕ, _+_, _*_, _-_, _≤_}
 use mathlib.Core.Path.{_≡_, ap, sym, subst, _∙_}
 use native.Mathlib.Omega.{arith}
 use Rattle.meaning.specs.Size.{sizeLimit}

@@ -3,11 +3,11 @@ use borrow.Author.Needs.{needs}
 use Prim.Native.Nat.{_-_, _^_, _≤_}
 use mathlib.Core.Path.{_≡_, sym, ap, _∙_}
 use native.Mathlib.Omega.{arith}
-use Rattle.sizes.specs.Sizing.{capped}
-use Rattle.sizes.proofs.Capped.{capped-power, capped-small}
+use Rattle.capped.specs.Capping.{capped}
+use Rattle.capped.proofs.Capped.{capped-power, capped-small}
 use native.Mathlib.Nat.{pow-zero}
-use Rattle.sizes.proofs.power.Statement.{statement}
-use Rattle.sizes.proofs.power.Tie as tie
+use Rattle.capped.proofs.power.Statement.{statement}
+use Rattle.capped.proofs.power.Tie as tie
 
 abbrev Inv-loop : tie.InvT-loop
 Inv-loop base exponent r₀ i₀ r i = (i ≤ exponent) × (r ≡ capped (base ^ i))

@@ -4,11 +4,11 @@ use Prim.Native.Nat.{ℕ, _*_, _≤_}
 use mathlib.Core.Path.{_≡_, sym, ap, _∙_}
 use native.Mathlib.Omega.{arith}
 use Rattle.meaning.specs.Size.{sizeLimit}
-use Rattle.sizes.proofs.Capped.{capped-small, capped-large, product-large, product-small}
-use Rattle.sizes.proofs.times.Statement.{statement}
-use Rattle.sizes.proofs.times.Tie as tie
-use Rattle.sizes.proofs.times.Lts as lts
-use Rattle.sizes.proofs.times.Reads as reads
+use Rattle.capped.proofs.Capped.{capped-small, capped-large, product-large, product-small}
+use Rattle.capped.proofs.times.Statement.{statement}
+use Rattle.capped.proofs.times.Tie as tie
+use Rattle.capped.proofs.times.Lts as lts
+use Rattle.capped.proofs.times.Reads as reads
 
 returns : tie.Need-returns
 returns c =

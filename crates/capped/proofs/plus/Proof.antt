@@ -2,9 +2,9 @@
 use borrow.Author.Needs.{needs}
 use mathlib.Core.Path.{sym}
 use native.Mathlib.Omega.{arith}
-use Rattle.sizes.proofs.Capped.{capped-small, capped-large}
-use Rattle.sizes.proofs.plus.Statement.{statement}
-use Rattle.sizes.proofs.plus.Tie as tie
+use Rattle.capped.proofs.Capped.{capped-small, capped-large}
+use Rattle.capped.proofs.plus.Statement.{statement}
+use Rattle.capped.proofs.plus.Tie as tie
 
 returns : tie.Need-returns
 returns c = sym (capped-large _ (c .if1 .taken))

@@ -8,7 +8,7 @@ use native.Mathlib.Omega.{arith}
 use borrow.Author.Tests.{lt-ltb}
 use lib.Dec.{ltb}
 use Rattle.meaning.specs.Size.{sizeLimit, tooLarge}
-use Rattle.sizes.specs.Sizing.{capped}
+use Rattle.capped.specs.Capping.{capped}
 
 pub capped-small : (x : ℕ) → x ≤ (sizeLimit + 1) → capped x ≡ x
 unfolding capped

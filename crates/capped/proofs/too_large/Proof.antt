@@ -1,8 +1,8 @@
 -- `too_large` meets its contract.
 use mathlib.Core.Path.{refl}
 use Rattle.meaning.specs.Size.{tooLarge}
-use Rattle.sizes.proofs.too_large.Statement.{statement}
-use Rattle.sizes.proofs.too_large.Tie as tie
+use Rattle.capped.proofs.too_large.Statement.{statement}
+use Rattle.capped.proofs.too_large.Tie as tie
 
 returns : tie.Need-returns
 unfolding tooLarge

@@ -1,0 +1,2 @@
+-- Laws of numbers that stop above 2^62.
+pub mod Capped
