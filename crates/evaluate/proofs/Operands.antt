@@ -1,6 +1,7 @@
 -- Two operands, the one that needs more layers first: what each is evaluated with, and what the two layers hold after
 -- both.
 use Prim.Native.Nat.{ℕ, _+_, _-_, _*_, _^_, _≤_, _<_}
+use mathlib.Core.Bool.{true, false, true≢false}
 use mathlib.Core.List.{List}
 use mathlib.Core.Path.{_≡_, sym, ap, subst, _∙_}
 use native.Mathlib.Omega.{arith}
@@ -16,7 +17,8 @@ use Rattle.trees.proofs.Cases.{formula-place, expression-place}
 use Rattle.evaluate.specs.declared.Setting.{Setting}
 use Rattle.evaluate.specs.declared.Valued.{Valued}
 use Rattle.surveys.specs.declared.Extent.{Extent}
-use Rattle.surveys.specs.Surveys.{TreeSurveyed}
+use Rattle.surveys.specs.declared.Order.{Order}
+use Rattle.surveys.specs.Surveys.{TreeSurveyed, Chosen, standing, crossing, Ordered}
 use Rattle.evaluate.specs.Evaluation.{FormulaReady, FormulasReady, ExpressionReady}
 use Rattle.evaluate.specs.Evaluation.{ExpressionsReady}
 use Rattle.evaluate.specs.Evaluation.{FormulaDone, FormulasDone, ExpressionDone, ExpressionsDone}
@@ -59,27 +61,67 @@ module _ {N n T : ℕ} (whole : T ≡ N ^ n) {f h : Tuple → ℕ} {mid lent aft
   pub tail-crossed : {last : List ℕ} → Swapped T after last → Layer N n f (drop T last)
   tail-crossed s = next-swapped (λ k l. omega arith) s f front-stays
 
--- ---- two trees of a kind, the second where the survey of the first ends
+-- ---- by the order of the two
+
+-- what holds at both places holds where the one that is evaluated first begins,
+at-first : (A : ℕ → Type 0) {at : ℕ} {one two : Extent} {r : Order} → Chosen at one two r → A at → A (one .next) → A (r .first)
+at-first A (standing e f c h) a b = subst A (sym e) a
+at-first A (crossing e f c h) a b = subst A (sym e) b
+
+-- and where the other does, by which of them needs no more layers
+at-then : (A : ℕ → Type 0) {at : ℕ} {one two : Extent} {r : Order} → Chosen at one two r → (two .layers ≤ one .layers → A (one .next)) →
+    (one .layers < two .layers → A at) → A (r .then)
+at-then A (standing e f c h) b a = subst A (sym f) (b h)
+at-then A (crossing e f c h) b a = subst A (sym f) (a h)
+
+-- what follows from the one at its place and the other at its own, where they were evaluated as they stand,
+by-standing : (A B : ℕ → Type 0) {C : Type 0} {at : ℕ} {one two : Extent} {r : Order} → Chosen at one two r → r .crossed ≡ false →
+    (A at → B (one .next) → C) → A (r .first) → B (r .then) → C
+by-standing A B (standing e f c h) as-is go a b = go (subst A e a) (subst B f b)
+by-standing A B (crossing e f c h) as-is go a b = absurd (true≢false (sym c ∙ as-is))
+
+-- and where they were crossed
+by-crossing : (A B : ℕ → Type 0) {C : Type 0} {at : ℕ} {one two : Extent} {r : Order} → Chosen at one two r → r .crossed ≡ true →
+    (A (one .next) → B at → C) → A (r .first) → B (r .then) → C
+by-crossing A B (standing e f c h) turned go a b = absurd (true≢false (sym turned ∙ c))
+by-crossing A B (crossing e f c h) turned go a b = go (subst A e a) (subst B f b)
+
+-- both begin at the place or past it
+pub forward-first : {slots : List Slot} {at : ℕ} {r : Order} → Ordered slots at r → at ≤ r .first
+forward-first {at = at} o = at-first (λ k. at ≤ k) (o .chosen) (omega arith) (o .surveyed .forward)
+
+pub forward-then : {slots : List Slot} {at : ℕ} {r : Order} → Ordered slots at r → at ≤ r .then
+forward-then {at = at} o = at-then (λ k. at ≤ k) (o .chosen) (λ h. o .surveyed .forward) (λ h. omega arith)
+
+-- ---- two trees of a kind
+
+-- the second where the survey of the first ends
 module _ {Tree : Type 0} (At : ℕ → Tree → ℕ → Type 0) {at : ℕ} {one : Extent} (needs : Tree → ℕ)
     (found : (x : Tree) (q : ℕ) → At at x q → (one .next ≡ q) × (one .layers ≡ needs x)) where
   follows-survey : {x y : Tree} {m q : ℕ} → At at x m → At m y q → At (one .next) y q
   follows-survey {x} {y} {m} {q} stands follows = subst (λ (m : ℕ). At m y q) (sym (found x m stands .0)) follows
 
-  -- past the front layer there is room for the one that needs fewer
-  module _ {two : Extent} (found′ : (y : Tree) (q : ℕ) → At (one .next) y q → (two .next ≡ q) × (two .layers ≡ needs y))
-      {x y : Tree} {m q : ℕ} (stands : At at x m) (follows : At m y q) (T : ℕ) {long : ℕ}
-      (room : paired (needs x) (needs y) * T ≤ long) (mid : List ℕ) (same : length mid ≡ long) where
-    second-past : two .layers ≤ one .layers → needs y * T ≤ length (take (length mid - T) (drop T mid))
-    second-past h =
-        let a = found x m stands .1 in
-        let b = found′ y q (follows-survey stands follows) .1 in
-        past-room T mid same (room-past (needs y) T (paired-smaller (needs x) (needs y) (omega arith)) room)
+-- Each may be evaluated where there is room for the layers that it needs. So the one that comes first may be evaluated in all of the work
+-- area, and then the other past the front layer, since it needs no more layers.
+module _ {Tree : Type 0} (At : ℕ → Tree → ℕ → Type 0) (needs : Tree → ℕ) (Ready : ℕ → List ℕ → Type 0) {slots : List Slot} {at : ℕ}
+    {r : Order} (o : Ordered slots at r)
+    (found : (x : Tree) (q : ℕ) → At at x q → (o .one .next ≡ q) × (o .one .layers ≡ needs x))
+    (found′ : (y : Tree) (q : ℕ) → At (o .one .next) y q → (o .two .next ≡ q) × (o .two .layers ≡ needs y))
+    {x y : Tree} {m q : ℕ} (stands : At at x m) (follows : At m y q) (T : ℕ) (w : List ℕ)
+    (room : paired (needs x) (needs y) * T ≤ length w) (one : (v : List ℕ) → needs x * T ≤ length v → Ready at v)
+    (two : (v : List ℕ) → needs y * T ≤ length v → Ready (o .one .next) v) where
+  ready-first : Ready (r .first) w
+  ready-first =
+      at-first (λ k. Ready k w) (o .chosen) (one w (room-of T (paired-first (needs x) (needs y)) room))
+      (two w (room-of T (paired-second (needs x) (needs y)) room))
 
-    first-past : one .layers < two .layers → needs x * T ≤ length (take (length mid - T) (drop T mid))
-    first-past h =
-        let a = found x m stands .1 in
-        let b = found′ y q (follows-survey stands follows) .1 in
-        past-room T mid same (room-past (needs x) T (paired-smaller-first (needs x) (needs y) (omega arith)) room)
+  ready-then : (mid : List ℕ) → length mid ≡ length w → Ready (r .then) (take (length mid - T) (drop T mid))
+  ready-then mid same =
+      let a = found x m stands .1 in
+      let b = found′ y q (follows-survey At needs found stands follows) .1 in
+      at-then (λ k. Ready k (take (length mid - T) (drop T mid))) (o .chosen)
+      (λ h. two _ (past-room T mid same (room-past (needs y) T (paired-smaller (needs x) (needs y) (omega (arith, a, b, h))) room)))
+      (λ h. one _ (past-room T mid same (room-past (needs x) T (paired-smaller-first (needs x) (needs y) (omega (arith, a, b, h))) room)))
 
 -- ---- two state formulas
 module _ {nodes : List Slot} {g : Setting} {masks : List ℕ} {rows : List (List ℕ)} {at : ℕ} {w : List ℕ}
@@ -105,11 +147,6 @@ module _ {nodes : List Slot} {g : Setting} {masks : List ℕ} {rows : List (List
     room = room;
   }
 
-  -- the first may be evaluated in all of the work area
-  pub first-formula-whole : FormulaReady nodes g masks rows at w
-  first-formula-whole = first-formula (room-of (g .tuples) (paired-first (need (ready .first)) (need (ready .second)))
-      (ready .room))
-
   module _ {one : Extent} (s : TreeSurveyed nodes at one) where
     second-formula : {v : List ℕ} → need (ready .second) * g .tuples ≤ length v →
         FormulaReady nodes g masks rows (one .next) v
@@ -125,31 +162,24 @@ module _ {nodes : List Slot} {g : Setting} {masks : List ℕ} {rows : List (List
       room = room;
     }
 
-    -- so may the second
-    pub second-formula-whole : FormulaReady nodes g masks rows (one .next) w
-    second-formula-whole = second-formula (room-of (g .tuples)
-        (paired-second (need (ready .first)) (need (ready .second))) (ready .room))
+  -- so the one that comes first, and then the other past it
+  module _ {r : Order} (o : Ordered nodes at r) where
+    pub formula-first : FormulaReady nodes g masks rows (r .first) w
+    formula-first =
+        ready-first (FormulaAt nodes) need (FormulaReady nodes g masks rows) o (o .surveyed .formula) (o .follows .formula)
+        (ready .stands) (ready .follows) (g .tuples) w (ready .room) (λ v. first-formula) (λ v. second-formula (o .surveyed))
 
-    module _ {two : Extent} (s′ : TreeSurveyed nodes (one .next) two) (mid : List ℕ) (same : length mid ≡ length w) where
-      -- the second past the front layer, where it needs no more layers
-      pub second-formula-past : two .layers ≤ one .layers →
-          FormulaReady nodes g masks rows (one .next) (take (length mid - g .tuples) (drop (g .tuples) mid))
-      second-formula-past h =
-          second-formula (second-past (FormulaAt nodes) need (s .formula) (s′ .formula) (ready .stands) (ready .follows)
-          (g .tuples) (ready .room) mid same h)
-
-      -- the first past the front layer, where it needs fewer
-      pub first-formula-past : one .layers < two .layers →
-          FormulaReady nodes g masks rows at (take (length mid - g .tuples) (drop (g .tuples) mid))
-      first-formula-past h =
-          first-formula (first-past (FormulaAt nodes) need (s .formula) (s′ .formula) (ready .stands) (ready .follows)
-          (g .tuples) (ready .room) mid same h)
+    pub formula-then : (mid : List ℕ) → length mid ≡ length w →
+        FormulaReady nodes g masks rows (r .then) (take (length mid - g .tuples) (drop (g .tuples) mid))
+    formula-then =
+        ready-then (FormulaAt nodes) need (FormulaReady nodes g masks rows) o (o .surveyed .formula) (o .follows .formula)
+        (ready .stands) (ready .follows) (g .tuples) w (ready .room) (λ v. first-formula) (λ v. second-formula (o .surveyed))
 
 module _ {nodes : List Slot} {g : Setting} {masks : List ℕ} {rows : List (List ℕ)} {at : ℕ} {one : Extent}
     (s : TreeSurveyed nodes at one)
     {mid lent after : List ℕ} {r1 r2 : ℕ} (back : Back (g .tuples) mid lent after) where
   -- both, where the first was evaluated first
-  pub formulas-in-order : FormulaDone nodes g masks rows at mid r1 →
+  formulas-in-order : FormulaDone nodes g masks rows at mid r1 →
       FormulaDone nodes g masks rows (one .next) lent r2 → FormulasDone nodes g masks rows at after r2
   formulas-in-order first second = record {
     each = λ c f h m q fixed p t small small′.
@@ -159,7 +189,7 @@ module _ {nodes : List Slot} {g : Setting} {masks : List ℕ} {rows : List (List
   }
 
   -- both, where the second was evaluated first and the layers then exchanged
-  pub formulas-crossed : {last : List ℕ} → FormulaDone nodes g masks rows (one .next) mid r1 →
+  formulas-crossed : {last : List ℕ} → FormulaDone nodes g masks rows (one .next) mid r1 →
       FormulaDone nodes g masks rows at lent r2 →
       Swapped (g .tuples) after last → FormulasDone nodes g masks rows at last r1
   formulas-crossed second first swapped = record {
@@ -171,6 +201,21 @@ module _ {nodes : List Slot} {g : Setting} {masks : List ℕ} {rows : List (List
           tail-crossed (tuple-count fixed) back (b .1) (a .1) swapped,
         );
   }
+
+module _ {nodes : List Slot} {g : Setting} {masks : List ℕ} {rows : List (List ℕ)} {at : ℕ} {r : Order} (o : Ordered nodes at r)
+    {mid lent after : List ℕ} {r1 r2 : ℕ} (back : Back (g .tuples) mid lent after)
+    (one : FormulaDone nodes g masks rows (r .first) mid r1) (other : FormulaDone nodes g masks rows (r .then) lent r2) where
+  -- both, by whether they were crossed
+  pub formulas-standing : r .crossed ≡ false → FormulasDone nodes g masks rows at after r2
+  formulas-standing as-is =
+      by-standing (λ k. FormulaDone nodes g masks rows k mid r1) (λ k. FormulaDone nodes g masks rows k lent r2) (o .chosen) as-is
+      (formulas-in-order (o .surveyed) back) one other
+
+  pub formulas-exchanged : {last : List ℕ} → r .crossed ≡ true → Swapped (g .tuples) after last →
+      FormulasDone nodes g masks rows at last r1
+  formulas-exchanged turned swapped =
+      by-crossing (λ k. FormulaDone nodes g masks rows k mid r1) (λ k. FormulaDone nodes g masks rows k lent r2) (o .chosen) turned
+      (λ a b. formulas-crossed (o .surveyed) back a b swapped) one other
 
 -- ---- two expressions
 module _ {nodes : List Slot} {g : Setting} {masks : List ℕ} {rows : List (List ℕ)} {at : ℕ} {w : List ℕ}
@@ -197,11 +242,6 @@ module _ {nodes : List Slot} {g : Setting} {masks : List ℕ} {rows : List (List
     room = room;
   }
 
-  -- the first may be evaluated in all of the work area
-  pub first-expression-whole : ExpressionReady nodes g masks rows at w
-  first-expression-whole = first-expression
-      (room-of (g .tuples) (paired-first (needIn (ready .first)) (needIn (ready .second))) (ready .room))
-
   module _ {one : Extent} (s : TreeSurveyed nodes at one) where
     second-expression : {v : List ℕ} → needIn (ready .second) * g .tuples ≤ length v →
         ExpressionReady nodes g masks rows (one .next) v
@@ -217,31 +257,24 @@ module _ {nodes : List Slot} {g : Setting} {masks : List ℕ} {rows : List (List
       room = room;
     }
 
-    -- so may the second
-    pub second-expression-whole : ExpressionReady nodes g masks rows (one .next) w
-    second-expression-whole = second-expression
-        (room-of (g .tuples) (paired-second (needIn (ready .first)) (needIn (ready .second))) (ready .room))
+  -- so the one that comes first, and then the other past it
+  module _ {r : Order} (o : Ordered nodes at r) where
+    pub expression-first : ExpressionReady nodes g masks rows (r .first) w
+    expression-first =
+        ready-first (ExpressionAt nodes) needIn (ExpressionReady nodes g masks rows) o (o .surveyed .expression) (o .follows .expression)
+        (ready .stands) (ready .follows) (g .tuples) w (ready .room) (λ v. first-expression) (λ v. second-expression (o .surveyed))
 
-    module _ {two : Extent} (s′ : TreeSurveyed nodes (one .next) two) (mid : List ℕ) (same : length mid ≡ length w) where
-      -- the second past the front layer, where it needs no more layers
-      pub second-expression-past : two .layers ≤ one .layers →
-          ExpressionReady nodes g masks rows (one .next) (take (length mid - g .tuples) (drop (g .tuples) mid))
-      second-expression-past h =
-          second-expression (second-past (ExpressionAt nodes) needIn (s .expression) (s′ .expression) (ready .stands)
-          (ready .follows) (g .tuples) (ready .room) mid same h)
-
-      -- the first past the front layer, where it needs fewer
-      pub first-expression-past : one .layers < two .layers →
-          ExpressionReady nodes g masks rows at (take (length mid - g .tuples) (drop (g .tuples) mid))
-      first-expression-past h =
-          first-expression (first-past (ExpressionAt nodes) needIn (s .expression) (s′ .expression) (ready .stands)
-          (ready .follows) (g .tuples) (ready .room) mid same h)
+    pub expression-then : (mid : List ℕ) → length mid ≡ length w →
+        ExpressionReady nodes g masks rows (r .then) (take (length mid - g .tuples) (drop (g .tuples) mid))
+    expression-then =
+        ready-then (ExpressionAt nodes) needIn (ExpressionReady nodes g masks rows) o (o .surveyed .expression) (o .follows .expression)
+        (ready .stands) (ready .follows) (g .tuples) w (ready .room) (λ v. first-expression) (λ v. second-expression (o .surveyed))
 
 module _ {nodes : List Slot} {g : Setting} {masks : List ℕ} {rows : List (List ℕ)} {at : ℕ} {one : Extent}
     (s : TreeSurveyed nodes at one)
     {mid lent after : List ℕ} {r1 r2 : Valued} (back : Back (g .tuples) mid lent after) where
   -- both, where the first was evaluated first
-  pub expressions-in-order : ExpressionDone nodes g masks rows at mid r1 →
+  expressions-in-order : ExpressionDone nodes g masks rows at mid r1 →
       ExpressionDone nodes g masks rows (one .next) lent r2 →
       ExpressionsDone nodes g masks rows at after (record { next = r2 .next; first = r1 .bottom; second = r2 .bottom })
   expressions-in-order first second = record {
@@ -257,7 +290,7 @@ module _ {nodes : List Slot} {g : Setting} {masks : List ℕ} {rows : List (List
   }
 
   -- both, where the second was evaluated first and the layers then exchanged
-  pub expressions-crossed : {last : List ℕ} → ExpressionDone nodes g masks rows (one .next) mid r1 →
+  expressions-crossed : {last : List ℕ} → ExpressionDone nodes g masks rows (one .next) mid r1 →
       ExpressionDone nodes g masks rows at lent r2 →
       Swapped (g .tuples) after last → ExpressionsDone nodes g masks rows at last
       (record { next = r1 .next; first = r2 .bottom; second = r1 .bottom })
@@ -272,3 +305,19 @@ module _ {nodes : List Slot} {g : Setting} {masks : List ℕ} {rows : List (List
           tail-crossed (tuple-count fixed) back (b .2) (a .2) swapped,
         );
   }
+
+module _ {nodes : List Slot} {g : Setting} {masks : List ℕ} {rows : List (List ℕ)} {at : ℕ} {r : Order} (o : Ordered nodes at r)
+    {mid lent after : List ℕ} {r1 r2 : Valued} (back : Back (g .tuples) mid lent after)
+    (one : ExpressionDone nodes g masks rows (r .first) mid r1) (other : ExpressionDone nodes g masks rows (r .then) lent r2) where
+  -- both, by whether they were crossed
+  pub expressions-standing : r .crossed ≡ false → ExpressionsDone nodes g masks rows at after
+      (record { next = r2 .next; first = r1 .bottom; second = r2 .bottom })
+  expressions-standing as-is =
+      by-standing (λ k. ExpressionDone nodes g masks rows k mid r1) (λ k. ExpressionDone nodes g masks rows k lent r2) (o .chosen) as-is
+      (expressions-in-order (o .surveyed) back) one other
+
+  pub expressions-exchanged : {last : List ℕ} → r .crossed ≡ true → Swapped (g .tuples) after last →
+      ExpressionsDone nodes g masks rows at last (record { next = r1 .next; first = r2 .bottom; second = r1 .bottom })
+  expressions-exchanged turned swapped =
+      by-crossing (λ k. ExpressionDone nodes g masks rows k mid r1) (λ k. ExpressionDone nodes g masks rows k lent r2) (o .chosen) turned
+      (λ a b. expressions-crossed (o .surveyed) back a b swapped) one other

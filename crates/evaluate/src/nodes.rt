@@ -23,7 +23,7 @@ use layers::power::scaled;
 use sentence::Node;
 use sentence::Slot;
 use steps::joint_step;
-use surveys::survey;
+use surveys::order_of;
 
 // A state formula: its truth at all tuples. Unspecified for other nodes.
 pub fn state_formula(
@@ -81,16 +81,14 @@ fn two_formulas(
     ensures { λ r. ⌜ FormulasDone nodes g (now (masks .entry)) (now (rows .entry)) at (now (work .exit)) r ⌝ }
 {
     let tuples = g.tuples;
-    let first = survey(nodes, at);
-    let second = survey(nodes, first.next);
-    if second.layers <= first.layers {
-        state_formula(nodes, g, masks, rows, at, work);
-        return state_formula(nodes, g, masks, rows, first.next, &mut work[tuples..]);
+    let order = order_of(nodes, at);
+    let next = state_formula(nodes, g, masks, rows, order.first, work);
+    let last = state_formula(nodes, g, masks, rows, order.then, &mut work[tuples..]);
+    if order.crossed {
+        swap(tuples, work);
+        return next;
     }
-    let next = state_formula(nodes, g, masks, rows, first.next, work);
-    state_formula(nodes, g, masks, rows, at, &mut work[tuples..]);
-    swap(tuples, work);
-    next
+    last
 }
 
 // An expression: the code of its numerator at all tuples, and its denominator. Unspecified for other nodes.
@@ -167,20 +165,17 @@ fn two_expressions(
     ensures { λ r. ⌜ ExpressionsDone nodes g (now (masks .entry)) (now (rows .entry)) at (now (work .exit)) r ⌝ }
 {
     let tuples = g.tuples;
-    let left = survey(nodes, at);
-    let right = survey(nodes, left.next);
-    if right.layers <= left.layers {
-        let one = expression(nodes, g, masks, rows, at, work);
-        let other = expression(nodes, g, masks, rows, left.next, &mut work[tuples..]);
+    let order = order_of(nodes, at);
+    let one = expression(nodes, g, masks, rows, order.first, work);
+    let other = expression(nodes, g, masks, rows, order.then, &mut work[tuples..]);
+    if order.crossed {
+        swap(tuples, work);
         return ValuedTwo {
-            next: other.next,
-            first: one.bottom,
-            second: other.bottom,
+            next: one.next,
+            first: other.bottom,
+            second: one.bottom,
         };
     }
-    let other = expression(nodes, g, masks, rows, left.next, work);
-    let one = expression(nodes, g, masks, rows, at, &mut work[tuples..]);
-    swap(tuples, work);
     ValuedTwo {
         next: other.next,
         first: one.bottom,

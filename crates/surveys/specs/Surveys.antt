@@ -1,7 +1,8 @@
 -- Working: what the functions of this crate promise one another. Nothing here has to be believed.
 --
 -- What surveying the nodes of a tree finds: its end, and how many layers its evaluation needs.
-use Prim.Native.Nat.{ℕ, _+_, _≤_, max}
+use Prim.Native.Nat.{ℕ, _+_, _≤_, _<_, max}
+use mathlib.Core.Bool.{true, false}
 use mathlib.Core.List.{List}
 use mathlib.Core.Path.{_≡_}
 use Rattle.sentence.specs.declared.Slot.{Slot}
@@ -12,6 +13,7 @@ use Rattle.meaning.specs.Tree.{Formula, Expression, PathFormula}
 use Rattle.trees.specs.Need.{paired, need, needIn, needFrom}
 use Rattle.trees.specs.Standing.{FormulaAt, ExpressionAt, PathAt}
 use Rattle.surveys.specs.declared.Extent.{Extent}
+use Rattle.surveys.specs.declared.Order.{Order}
 
 -- of whatever tree stands at the place; and bounds that hold of any nodes
 pub record TreeSurveyed (slots : List Slot) (at : ℕ) (r : Extent) : Type 0 where
@@ -46,3 +48,16 @@ layersOfTwo Difference k = k
 layersOfTwo Product k = k
 layersOfTwo Next k = k
 layersOfTwo (Until k1 k2) k = max 3 k
+
+-- the order of two trees, by what was found of both: as they stand, or crossed
+pub data Chosen (at : ℕ) (one two : Extent) (r : Order) : Type 0 where
+  standing : r .first ≡ at → r .then ≡ one .next → r .crossed ≡ false → two .layers ≤ one .layers → Chosen at one two r
+  crossing : r .first ≡ one .next → r .then ≡ at → r .crossed ≡ true → one .layers < two .layers → Chosen at one two r
+
+-- of whatever two trees stand at the place, one after another
+pub record Ordered (slots : List Slot) (at : ℕ) (r : Order) : Type 0 where
+  pub one : Extent
+  pub two : Extent
+  pub surveyed : TreeSurveyed slots at one
+  pub follows : TreeSurveyed slots (one .next) two
+  pub chosen : Chosen at one two r

@@ -3,7 +3,7 @@
 ghost use mathlib.Core.Path.{_≡_};
 ghost use Prim.Native.Nat.{_+_, _≤_, _<_, max};
 ghost use Rattle.trees.specs.Need.{paired};
-ghost use Rattle.surveys.specs.Surveys.{TreeSurveyed, TreesSurveyed, layersOfTwo};
+ghost use Rattle.surveys.specs.Surveys.{TreeSurveyed, TreesSurveyed, layersOfTwo, Ordered};
 use sentence::Node;
 use sentence::Slot;
 use sentence::Wants;
@@ -13,6 +13,13 @@ use sentence::wants_of;
 pub struct Extent {
     pub next: usize,
     pub layers: usize,
+}
+
+// Where two operands begin, in the order in which they are evaluated, and whether that is not the order in which they stand.
+pub struct Order {
+    pub first: usize,
+    pub then: usize,
+    pub crossed: bool,
 }
 
 // The need of two operands: the larger, or one more where they are equal.
@@ -54,7 +61,7 @@ fn operands(nodes: [Slot; 64], at: usize) -> Extent
 }
 
 // The survey of the node at a place.
-pub fn survey(nodes: [Slot; 64], at: usize) -> Extent
+fn survey(nodes: [Slot; 64], at: usize) -> Extent
     requires { ⌜ at ≤ 64 ⌝ }
     ensures { λ r. ⌜ TreeSurveyed nodes at r ⌝ }
 {
@@ -95,5 +102,26 @@ fn at_least_three(s: Extent) -> Extent
         }
     } else {
         s
+    }
+}
+
+// The order of the two operands at a place: the one that needs more layers first, of equal ones the one that stands first.
+pub fn order_of(nodes: [Slot; 64], at: usize) -> Order
+    requires { ⌜ at ≤ 64 ⌝ }
+    ensures { λ r. ⌜ Ordered nodes at r ⌝ }
+{
+    let one = survey(nodes, at);
+    let two = survey(nodes, one.next);
+    if two.layers <= one.layers {
+        return Order {
+            first: at,
+            then: one.next,
+            crossed: false,
+        };
+    }
+    Order {
+        first: one.next,
+        then: at,
+        crossed: true,
     }
 }

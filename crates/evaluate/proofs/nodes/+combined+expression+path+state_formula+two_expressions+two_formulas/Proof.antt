@@ -1,8 +1,9 @@
 -- Evaluation meets its contracts, node by node: what the operands are evaluated with, and what the call at the node
 -- leaves, are laws about lists and records. The measure is the number of places left, counted three times.
 use borrow.Author.Needs.{needs}
-use native.Mathlib.Nat.{le-refl}
-use Rattle.layers.proofs.Tails.{put-back}
+use mathlib.Core.List.{_++_}
+use lib.ListN.{length, take, drop}
+use Rattle.layers.proofs.Tails.{Back, put-back}
 use Rattle.evaluate.proofs.Expressions.{expression-inside, expression-room, probability-ready, sum-ready}
 use Rattle.evaluate.proofs.Expressions.{difference-ready, product-ready}
 use Rattle.evaluate.proofs.Expressions.{combining-ready, bottoms-small, combined-done, probability-done}
@@ -10,12 +11,9 @@ use Rattle.evaluate.proofs.Expressions.{constant-done, sum-done, differ
 use Rattle.evaluate.proofs.Formulas.{formula-inside, formula-room, label-ready, not-ready, and-ready}
 use Rattle.evaluate.proofs.Formulas.{compare-ready, comparing-ready}
 use Rattle.evaluate.proofs.Formulas.{true-done, label-done, not-done, and-done, compare-done}
-use Rattle.evaluate.proofs.Operands.{formulas-inside, formulas-room, first-formula-whole, second-formula-whole}
-use Rattle.evaluate.proofs.Operands.{first-formula-past, second-formula-past, formulas-in-order}
-use Rattle.evaluate.proofs.Operands.{formulas-crossed}
-use Rattle.evaluate.proofs.Operands.{expressions-inside, expressions-room, first-expression-whole}
-use Rattle.evaluate.proofs.Operands.{second-expression-whole, first-expression-past, second-expression-past}
-use Rattle.evaluate.proofs.Operands.{expressions-in-order, expressions-crossed}
+use Rattle.evaluate.proofs.Operands.{forward-first, forward-then, formulas-inside, formulas-room, formula-first, formula-then}
+use Rattle.evaluate.proofs.Operands.{formulas-standing, formulas-exchanged, expressions-inside, expressions-room}
+use Rattle.evaluate.proofs.Operands.{expression-first, expression-then, expressions-standing, expressions-exchanged}
 use Rattle.evaluate.proofs.Others.{no-formula, no-expression, no-path}
 use Rattle.evaluate.proofs.Pathways.{path-inside, next-ready, next-scales, stepping-ready, until-ready}
 use Rattle.evaluate.proofs.Pathways.{until-times, until-scales, taking-ready, next-done, until-done}
@@ -55,7 +53,7 @@ use Rattle.layers.proofs.plain.label.Reads as label-reads
 use Rattle.evaluate.proofs.plain.relation_of.Reads as relation-of-reads
 use Rattle.layers.proofs.plain.swap.Reads as swap-reads
 use Rattle.evaluate.proofs.plain.until_within.Reads as until-within-reads
-use Rattle.surveys.proofs.survey.Reads as survey-reads
+use Rattle.surveys.proofs.order_of.Reads as order-of-reads
 use Rattle.fractions.proofs.codes.combine.Reads as combine-reads
 use Rattle.fractions.proofs.codes.compare.Reads as compare-reads
 use Rattle.fractions.proofs.codes.constant.Reads as constant-reads
@@ -205,8 +203,8 @@ state-formula-claims t = (
 
 abbrev two-expressions-claims : ℕ → two-expressions-lts.Claims
 two-expressions-claims t = (
-  survey-reads.Asked,
-  survey-reads.Learnt,
+  order-of-reads.Asked,
+  order-of-reads.Learnt,
   expression-below t,
   expression.Post,
   swap-reads.Asked,
@@ -215,8 +213,8 @@ two-expressions-claims t = (
 
 abbrev two-formulas-claims : ℕ → two-formulas-lts.Claims
 two-formulas-claims t = (
-  survey-reads.Asked,
-  survey-reads.Learnt,
+  order-of-reads.Asked,
+  order-of-reads.Learnt,
   state-formula-below t,
   state-formula.Post,
   swap-reads.Asked,
@@ -500,221 +498,146 @@ state-formula-returns-6 t c = no-formula (c .match .keys6)
 
 -- ---- two expressions
 
-two-expressions-survey-requires : (t : ℕ) → two-expressions-lts.Need-survey-requires (two-expressions-claims t) (two-expressions-at t)
+two-expressions-order-of-requires : (t : ℕ) → two-expressions-lts.Need-order-of-requires (two-expressions-claims t) (two-expressions-at t)
     two-expressions.Post
-two-expressions-survey-requires t c κs = place-most (c .before .args .at) (expressions-inside (c .before .pre .1))
+two-expressions-order-of-requires t c κs = place-most (c .before .args .at) (expressions-inside (c .before .pre .1))
 
-two-expressions-expression-requires : (t : ℕ) → two-expressions-lts.Need-expression-requires (two-expressions-claims t)
-    (two-expressions-at t)
+two-expressions-expression-requires : (t : ℕ) →
+    two-expressions-lts.Need-expression-requires (two-expressions-claims t) (two-expressions-at t)
     two-expressions.Post
 two-expressions-expression-requires t c κs =
-    let start = c .before .before .before .before .before .before .before in (
-      to-each (start .args .at) (start .args .at) t (start .pre .0) (le-refl (start .args .at)),
-      first-expression-whole (start .pre .1),
-    )
+    let order = c .before .order-of .ensures in
+    let start = c .before .before .before in
+    (to-each (start .args .at) _ t (start .pre .0) (forward-first order), expression-first (start .pre .1) order)
 
 two-expressions-sub-expression : (t : ℕ) → two-expressions-lts.Need-sub-expression (two-expressions-claims t) (two-expressions-at t)
     two-expressions.Post
 two-expressions-sub-expression t c =
     let called = c .before .before in
-    let start = called .before .before .before .before .before .before .before .before in
+    let start = called .before .before .before .before in
     front-kept (start .args .g .tuples) (expressions-room (start .pre .1)) (called .expression .kept .1 .1 .1 .1 .1 .0)
 
-two-expressions-expression-requires-2 : (t : ℕ) → two-expressions-lts.Need-expression-requires-2
-    (two-expressions-claims t) (two-expressions-at t)
+two-expressions-expression-requires-2 : (t : ℕ) →
+    two-expressions-lts.Need-expression-requires-2 (two-expressions-claims t) (two-expressions-at t)
     two-expressions.Post
 two-expressions-expression-requires-2 t c κs =
     let called = c .before .before .before in
-    let surveyed = called .before .before .before .before .before in
-    let start = surveyed .before .before .before in
-    let first = surveyed .before .survey .ensures in
-    let second = surveyed .survey2 .ensures in
-    let call = called .expression in (
-      to-each (start .args .at) _ t (start .pre .0) (first .forward),
-      second-expression-past (start .pre .1) first second (call .last .1 .1 .1 .1 .1 .0) (call .kept .1 .1 .1 .1 .1 .0)
-          (called .before .before .if1 .taken),
+    let order = called .before .before .order-of .ensures in
+    let start = called .before .before .before .before in (
+      to-each (start .args .at) _ t (start .pre .0) (forward-then order),
+      expression-then (start .pre .1) order (called .expression .last .1 .1 .1 .1 .1 .0) (called .expression .kept .1 .1 .1 .1 .1 .0),
     )
 
-two-expressions-returns : (t : ℕ) → two-expressions-lts.Need-returns (two-expressions-claims t) (two-expressions-at t)
-    two-expressions.Post
-two-expressions-returns t c =
-    let called = c .before .before .before .before .before .before in
-    let surveyed = called .before .before .before .before .before .before in
-    let start = surveyed .before .before in
-    let call = called .expression in
-    let other = c .before .before .expression2 in
+-- the work area after both
+two-expressions-back : (t : ℕ)
+    (c : two-expressions-lts.After-expression2 (two-expressions-claims t) (two-expressions-at t) two-expressions.Post) →
+    let called = c .before .before .before .before in
+    let T = called .before .before .before .before .args .g .tuples in
+    let mid = called .expression .last .1 .1 .1 .1 .1 .0 in
+    let lent = c .expression2 .last .1 .1 .1 .1 .1 .0 in
+    Back T mid lent (take T mid ++ (lent ++ drop (length mid - T) (drop T mid)))
+two-expressions-back t c =
+    let called = c .before .before .before .before in
+    let start = called .before .before .before .before in
     let T = start .args .g .tuples in
-    let back = put-back T (call .last .1 .1 .1 .1 .1 .0) (other .last .1 .1 .1 .1 .1 .0)
-    (front-kept T (expressions-room (start .pre .1)) (call .kept .1 .1 .1 .1 .1 .0))
-    (other .kept .1 .1 .1 .1 .1 .0) in
-    expressions-in-order (surveyed .survey .ensures) back (call .ensures) (other .ensures)
-
-two-expressions-expression-requires-3 : (t : ℕ) → two-expressions-lts.Need-expression-requires-3
-    (two-expressions-claims t) (two-expressions-at t)
-    two-expressions.Post
-two-expressions-expression-requires-3 t c κs =
-    let surveyed = c .before .before .before .before .before in
-    let start = surveyed .before .before in
-    let first = surveyed .survey .ensures in
-    (to-each (start .args .at) _ t (start .pre .0) (first .forward), second-expression-whole (start .pre .1) first)
-
-two-expressions-sub-expression-2 : (t : ℕ) → two-expressions-lts.Need-sub-expression-2 (two-expressions-claims t) (two-expressions-at t)
-    two-expressions.Post
-two-expressions-sub-expression-2 t c =
-    let called = c .before .before in
-    let start = called .before .before .before .before .before .before .before .before in
-    front-kept (start .args .g .tuples) (expressions-room (start .pre .1)) (called .expression3 .kept .1 .1 .1 .1 .1 .0)
-
-two-expressions-expression-requires-4 : (t : ℕ) → two-expressions-lts.Need-expression-requires-4
-    (two-expressions-claims t) (two-expressions-at t)
-    two-expressions.Post
-two-expressions-expression-requires-4 t c κs =
-    let called = c .before .before .before in
-    let surveyed = called .before .before .before .before .before in
-    let start = surveyed .before .before .before in
-    let first = surveyed .before .survey .ensures in
-    let second = surveyed .survey2 .ensures in
-    let call = called .expression3 in (
-      to-each (start .args .at) (start .args .at) t (start .pre .0) (le-refl (start .args .at)),
-      first-expression-past (start .pre .1) first second (call .last .1 .1 .1 .1 .1 .0) (call .kept .1 .1 .1 .1 .1 .0)
-          (called .before .before .if1 .left),
-    )
+    put-back T (called .expression .last .1 .1 .1 .1 .1 .0) (c .expression2 .last .1 .1 .1 .1 .1 .0)
+    (front-kept T (expressions-room (start .pre .1)) (called .expression .kept .1 .1 .1 .1 .1 .0)) (c .expression2 .kept .1 .1 .1 .1 .1 .0)
 
 two-expressions-swap-requires : (t : ℕ) → two-expressions-lts.Need-swap-requires (two-expressions-claims t) (two-expressions-at t)
     two-expressions.Post
 two-expressions-swap-requires t c κs =
-    let called = c .before .before .before .before .before .before .before in
-    let surveyed = called .before .before .before .before .before .before in
-    let start = surveyed .before .before in
-    let call = called .expression3 in
-    let other = c .before .before .before .expression4 in
-    let T = start .args .g .tuples in
-    let back = put-back T (call .last .1 .1 .1 .1 .1 .0) (other .last .1 .1 .1 .1 .1 .0)
-    (front-kept T (expressions-room (start .pre .1)) (call .kept .1 .1 .1 .1 .1 .0))
-    (other .kept .1 .1 .1 .1 .1 .0) in
-    room-kept (room-kept (expressions-room (start .pre .1)) (call .kept .1 .1 .1 .1 .1 .0)) (back .long)
+    let other = c .before .before .before .before in
+    let called = other .before .before .before .before in
+    let start = called .before .before .before .before in
+    room-kept (room-kept (expressions-room (start .pre .1)) (called .expression .kept .1 .1 .1 .1 .1 .0))
+    (two-expressions-back t other .long)
+
+two-expressions-returns : (t : ℕ) → two-expressions-lts.Need-returns (two-expressions-claims t) (two-expressions-at t)
+    two-expressions.Post
+two-expressions-returns t c =
+    let swapped = c .before .before in
+    let other = swapped .before .before .before .before .before in
+    let called = other .before .before .before .before in
+    expressions-exchanged (called .before .before .order-of .ensures) (two-expressions-back t other) (called .expression .ensures)
+    (other .expression2 .ensures) (swapped .before .before .if1 .taken) (swapped .swap .ensures)
 
 two-expressions-returns-2 : (t : ℕ) → two-expressions-lts.Need-returns-2 (two-expressions-claims t) (two-expressions-at t)
     two-expressions.Post
 two-expressions-returns-2 t c =
-    let called = c .before .before .before .before .before .before .before .before .before .before in
-    let surveyed = called .before .before .before .before .before .before in
-    let start = surveyed .before .before in
-    let call = called .expression3 in
-    let other = c .before .before .before .before .before .before .expression4 in
-    let T = start .args .g .tuples in
-    let back = put-back T (call .last .1 .1 .1 .1 .1 .0) (other .last .1 .1 .1 .1 .1 .0)
-    (front-kept T (expressions-room (start .pre .1)) (call .kept .1 .1 .1 .1 .1 .0))
-    (other .kept .1 .1 .1 .1 .1 .0) in
-    expressions-crossed (surveyed .survey .ensures) back (call .ensures) (other .ensures)
-    (c .before .before .swap .ensures)
+    let other = c .before .before .before in
+    let called = other .before .before .before .before in
+    expressions-standing (called .before .before .order-of .ensures) (two-expressions-back t other) (called .expression .ensures)
+    (other .expression2 .ensures) (c .if1 .left)
 
 -- ---- two state formulas
 
-two-formulas-survey-requires : (t : ℕ) → two-formulas-lts.Need-survey-requires (two-formulas-claims t) (two-formulas-at t)
+two-formulas-order-of-requires : (t : ℕ) → two-formulas-lts.Need-order-of-requires (two-formulas-claims t) (two-formulas-at t)
     two-formulas.Post
-two-formulas-survey-requires t c κs = place-most (c .before .args .at) (formulas-inside (c .before .pre .1))
+two-formulas-order-of-requires t c κs = place-most (c .before .args .at) (formulas-inside (c .before .pre .1))
 
 two-formulas-state-formula-requires : (t : ℕ) → two-formulas-lts.Need-state-formula-requires (two-formulas-claims t) (two-formulas-at t)
     two-formulas.Post
 two-formulas-state-formula-requires t c κs =
-    let start = c .before .before .before .before .before .before .before in (
-      to-each (start .args .at) (start .args .at) t (start .pre .0) (le-refl (start .args .at)),
-      first-formula-whole (start .pre .1),
-    )
+    let order = c .before .order-of .ensures in
+    let start = c .before .before .before in
+    (to-each (start .args .at) _ t (start .pre .0) (forward-first order), formula-first (start .pre .1) order)
 
 two-formulas-sub-state-formula : (t : ℕ) → two-formulas-lts.Need-sub-state-formula (two-formulas-claims t) (two-formulas-at t)
     two-formulas.Post
 two-formulas-sub-state-formula t c =
     let called = c .before .before in
-    let start = called .before .before .before .before .before .before .before .before in
+    let start = called .before .before .before .before in
     front-kept (start .args .g .tuples) (formulas-room (start .pre .1)) (called .state-formula .kept .1 .1 .1 .1 .1 .0)
 
 two-formulas-state-formula-requires-2 : (t : ℕ) → two-formulas-lts.Need-state-formula-requires-2 (two-formulas-claims t) (two-formulas-at t)
     two-formulas.Post
 two-formulas-state-formula-requires-2 t c κs =
     let called = c .before .before .before in
-    let surveyed = called .before .before .before .before .before in
-    let start = surveyed .before .before .before in
-    let first = surveyed .before .survey .ensures in
-    let second = surveyed .survey2 .ensures in
-    let call = called .state-formula in (
-      to-each (start .args .at) _ t (start .pre .0) (first .forward),
-      second-formula-past (start .pre .1) first second (call .last .1 .1 .1 .1 .1 .0) (call .kept .1 .1 .1 .1 .1 .0)
-          (called .before .before .if1 .taken),
+    let order = called .before .before .order-of .ensures in
+    let start = called .before .before .before .before in (
+      to-each (start .args .at) _ t (start .pre .0) (forward-then order),
+      formula-then (start .pre .1) order (called .state-formula .last .1 .1 .1 .1 .1 .0) (called .state-formula .kept .1 .1 .1 .1 .1 .0),
     )
 
-two-formulas-returns : (t : ℕ) → two-formulas-lts.Need-returns (two-formulas-claims t) (two-formulas-at t)
-    two-formulas.Post
-two-formulas-returns t c =
-    let called = c .before .before .before .before .before .before in
-    let surveyed = called .before .before .before .before .before .before in
-    let start = surveyed .before .before in
-    let call = called .state-formula in
-    let other = c .before .before .state-formula2 in
+-- the work area after both
+two-formulas-back : (t : ℕ) (c : two-formulas-lts.After-state-formula2 (two-formulas-claims t) (two-formulas-at t) two-formulas.Post) →
+    let called = c .before .before .before .before in
+    let T = called .before .before .before .before .args .g .tuples in
+    let mid = called .state-formula .last .1 .1 .1 .1 .1 .0 in
+    let lent = c .state-formula2 .last .1 .1 .1 .1 .1 .0 in
+    Back T mid lent (take T mid ++ (lent ++ drop (length mid - T) (drop T mid)))
+two-formulas-back t c =
+    let called = c .before .before .before .before in
+    let start = called .before .before .before .before in
     let T = start .args .g .tuples in
-    let back = put-back T (call .last .1 .1 .1 .1 .1 .0) (other .last .1 .1 .1 .1 .1 .0)
-    (front-kept T (formulas-room (start .pre .1)) (call .kept .1 .1 .1 .1 .1 .0))
-    (other .kept .1 .1 .1 .1 .1 .0) in
-    formulas-in-order (surveyed .survey .ensures) back (call .ensures) (other .ensures)
-
-two-formulas-state-formula-requires-3 : (t : ℕ) → two-formulas-lts.Need-state-formula-requires-3 (two-formulas-claims t) (two-formulas-at t)
-    two-formulas.Post
-two-formulas-state-formula-requires-3 t c κs =
-    let surveyed = c .before .before .before .before .before in
-    let start = surveyed .before .before in
-    let first = surveyed .survey .ensures in
-    (to-each (start .args .at) _ t (start .pre .0) (first .forward), second-formula-whole (start .pre .1) first)
-
-two-formulas-sub-state-formula-2 : (t : ℕ) → two-formulas-lts.Need-sub-state-formula-2 (two-formulas-claims t) (two-formulas-at t)
-    two-formulas.Post
-two-formulas-sub-state-formula-2 t c =
-    let called = c .before .before in
-    let start = called .before .before .before .before .before .before .before .before in
-    front-kept (start .args .g .tuples) (formulas-room (start .pre .1)) (called .state-formula3 .kept .1 .1 .1 .1 .1 .0)
-
-two-formulas-state-formula-requires-4 : (t : ℕ) → two-formulas-lts.Need-state-formula-requires-4 (two-formulas-claims t) (two-formulas-at t)
-    two-formulas.Post
-two-formulas-state-formula-requires-4 t c κs =
-    let called = c .before .before .before in
-    let surveyed = called .before .before .before .before .before in
-    let start = surveyed .before .before .before in
-    let first = surveyed .before .survey .ensures in
-    let second = surveyed .survey2 .ensures in
-    let call = called .state-formula3 in (
-      to-each (start .args .at) (start .args .at) t (start .pre .0) (le-refl (start .args .at)),
-      first-formula-past (start .pre .1) first second (call .last .1 .1 .1 .1 .1 .0) (call .kept .1 .1 .1 .1 .1 .0)
-          (called .before .before .if1 .left),
-    )
+    put-back T (called .state-formula .last .1 .1 .1 .1 .1 .0) (c .state-formula2 .last .1 .1 .1 .1 .1 .0)
+    (front-kept T (formulas-room (start .pre .1)) (called .state-formula .kept .1 .1 .1 .1 .1 .0))
+    (c .state-formula2 .kept .1 .1 .1 .1 .1 .0)
 
 two-formulas-swap-requires : (t : ℕ) → two-formulas-lts.Need-swap-requires (two-formulas-claims t) (two-formulas-at t)
     two-formulas.Post
 two-formulas-swap-requires t c κs =
-    let called = c .before .before .before .before .before .before .before in
-    let surveyed = called .before .before .before .before .before .before in
-    let start = surveyed .before .before in
-    let call = called .state-formula3 in
-    let other = c .before .before .before .state-formula4 in
-    let T = start .args .g .tuples in
-    let back = put-back T (call .last .1 .1 .1 .1 .1 .0) (other .last .1 .1 .1 .1 .1 .0)
-    (front-kept T (formulas-room (start .pre .1)) (call .kept .1 .1 .1 .1 .1 .0))
-    (other .kept .1 .1 .1 .1 .1 .0) in
-    room-kept (room-kept (formulas-room (start .pre .1)) (call .kept .1 .1 .1 .1 .1 .0)) (back .long)
+    let other = c .before .before .before .before in
+    let called = other .before .before .before .before in
+    let start = called .before .before .before .before in
+    room-kept (room-kept (formulas-room (start .pre .1)) (called .state-formula .kept .1 .1 .1 .1 .1 .0)) (two-formulas-back t other .long)
+
+two-formulas-returns : (t : ℕ) → two-formulas-lts.Need-returns (two-formulas-claims t) (two-formulas-at t)
+    two-formulas.Post
+two-formulas-returns t c =
+    let swapped = c .before .before in
+    let other = swapped .before .before .before .before .before in
+    let called = other .before .before .before .before in
+    formulas-exchanged (called .before .before .order-of .ensures) (two-formulas-back t other) (called .state-formula .ensures)
+    (other .state-formula2 .ensures) (swapped .before .before .if1 .taken) (swapped .swap .ensures)
 
 two-formulas-returns-2 : (t : ℕ) → two-formulas-lts.Need-returns-2 (two-formulas-claims t) (two-formulas-at t)
     two-formulas.Post
 two-formulas-returns-2 t c =
-    let called = c .before .before .before .before .before .before .before .before .before .before in
-    let surveyed = called .before .before .before .before .before .before in
-    let start = surveyed .before .before in
-    let call = called .state-formula3 in
-    let other = c .before .before .before .before .before .before .state-formula4 in
-    let T = start .args .g .tuples in
-    let back = put-back T (call .last .1 .1 .1 .1 .1 .0) (other .last .1 .1 .1 .1 .1 .0)
-    (front-kept T (formulas-room (start .pre .1)) (call .kept .1 .1 .1 .1 .1 .0))
-    (other .kept .1 .1 .1 .1 .1 .0) in
-    formulas-crossed (surveyed .survey .ensures) back (call .ensures) (other .ensures)
-    (c .before .before .swap .ensures)
+    let other = c .before .before .before in
+    let called = other .before .before .before .before in
+    formulas-standing (called .before .before .order-of .ensures) (two-formulas-back t other) (called .state-formula .ensures)
+    (other .state-formula2 .ensures) (c .if1 .left)
 
 -- ---- all six
 
@@ -831,44 +754,30 @@ pub +combined+expression+path+state-formula+two-expressions+two-formulas-spec :
     (λ t. two-expressions-lts.spec (two-expressions-claims t)
     (two-expressions-at t)
     two-expressions.Post
-    (two-expressions-survey-requires t)
-    (λ c κs. search needs)
+    (two-expressions-order-of-requires t)
     (two-expressions-expression-requires t)
     (λ c. search needs)
     (two-expressions-sub-expression t)
     (two-expressions-sub-expression t)
     (λ c. search needs)
     (two-expressions-expression-requires-2 t)
+    (two-expressions-swap-requires t)
     (λ c. search needs)
     (two-expressions-returns t)
-    (two-expressions-expression-requires-3 t)
-    (λ c. search needs)
-    (two-expressions-sub-expression-2 t)
-    (two-expressions-sub-expression-2 t)
-    (λ c. search needs)
-    (two-expressions-expression-requires-4 t)
-    (two-expressions-swap-requires t)
     (λ c. search needs)
     (two-expressions-returns-2 t))
     λ t. two-formulas-lts.spec (two-formulas-claims t)
     (two-formulas-at t)
     two-formulas.Post
-    (two-formulas-survey-requires t)
-    (λ c κs. search needs)
+    (two-formulas-order-of-requires t)
     (two-formulas-state-formula-requires t)
     (λ c. search needs)
     (two-formulas-sub-state-formula t)
     (two-formulas-sub-state-formula t)
     (λ c. search needs)
     (two-formulas-state-formula-requires-2 t)
+    (two-formulas-swap-requires t)
     (λ c. search needs)
     (two-formulas-returns t)
-    (two-formulas-state-formula-requires-3 t)
-    (λ c. search needs)
-    (two-formulas-sub-state-formula-2 t)
-    (two-formulas-sub-state-formula-2 t)
-    (λ c. search needs)
-    (two-formulas-state-formula-requires-4 t)
-    (two-formulas-swap-requires t)
     (λ c. search needs)
     (two-formulas-returns-2 t)
