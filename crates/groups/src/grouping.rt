@@ -8,7 +8,7 @@ ghost use Rattle.groups.specs.Working.{FirstMember};
 use block::byte_at;
 
 // The group of a state.
-pub(crate) fn group_of(grouping: &[u8], s: usize) -> usize
+pub fn group_of(grouping: &[u8], s: usize) -> usize
     ensures { λ r. ⌜ (r ≡ groupOf (now (grouping .entry)) s) × (r < 256) ⌝ }
 {
     byte_at(grouping, s) as usize
@@ -36,7 +36,7 @@ pub fn group_count(grouping: &[u8]) -> usize
 }
 
 // The first state of a group, and the grouping's length where no state has it.
-pub(crate) fn first_of(grouping: &[u8], g: usize) -> usize
+pub fn first_of(grouping: &[u8], g: usize) -> usize
     ensures { λ r. ⌜ FirstMember (groupOf (now (grouping .entry))) g (length (now (grouping .entry))) r ⌝ }
 {
     let mut s: usize = 0;

@@ -12,13 +12,13 @@ use chain::filled_rows;
 use groups::alike::states_alike;
 use groups::grouping::group_count;
 use groups::grouping::grouping_right;
-use groups::merged::model_of_groups;
-use groups::totals::totals_of;
 use model::Model;
 use model_reader::read_model;
 use model_writer::write_model;
 use refusal::Outcome;
 use refusal::Written;
+use totals::merged::model_of_groups;
+use totals::totals::totals_of;
 
 // Merge, of the model of an accepted file: rows 12, 13 and 14, then the merged model's file.
 fn merge_model(m: Model, grouping: &[u8], out: &mut [u8]) -> Written

@@ -1,4 +1,4 @@
--- `survey::of_two` meets its contract: only an until changes what the two need.
+-- `surveys::of_two` meets its contract: only an until changes what the two need.
 use borrow.Author.Needs.{needs}
 use Prim.Native.Nat.{ℕ}
 use mathlib.Core.List.{List, [], _∷_}

@@ -1,4 +1,4 @@
--- `merge::alike::pair_alike` meets its contract, by what its parts ensure.
+-- `groups::alike::pair_alike` meets its contract, by what its parts ensure.
 use borrow.Author.Needs.{needs}
 use mathlib.Core.Bool.{Bool, _&&_}
 use mathlib.Core.Path.{ap}

@@ -1,4 +1,4 @@
--- `merge::alike::rows_agree` meets its contract. The invariant: the columns passed agree.
+-- `groups::alike::rows_agree` meets its contract. The invariant: the columns passed agree.
 use borrow.Author.Needs.{needs}
 use Prim.Native.Nat.{_-_}
 use native.Mathlib.Omega.{arith}

@@ -1,4 +1,4 @@
--- `merge::alike::states_alike` meets its contract. The invariant: the states passed agree with the first of their group.
+-- `groups::alike::states_alike` meets its contract. The invariant: the states passed agree with the first of their group.
 use borrow.Author.Needs.{needs}
 use Prim.Native.Nat.{_-_, _<_}
 use mathlib.Core.Path.{_≡_, sym, ap, _∙_}

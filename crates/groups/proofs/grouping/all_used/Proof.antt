@@ -1,4 +1,4 @@
--- `merge::grouping::all_used` meets its contract. The invariant: the groups passed are used.
+-- `groups::grouping::all_used` meets its contract. The invariant: the groups passed are used.
 use borrow.Author.Needs.{needs}
 use Prim.Native.Nat.{_-_}
 use mathlib.Core.Path.{sym, _∙_}

@@ -1,4 +1,4 @@
--- `merge::grouping::first_of` meets its contract. The invariant: no state passed has the group.
+-- `groups::grouping::first_of` meets its contract. The invariant: no state passed has the group.
 use borrow.Author.Needs.{needs}
 use Prim.Native.Nat.{ℕ, _-_, _≤_, _<_}
 use mathlib.Core.Path.{_≡_, sym, _∙_}

@@ -1,4 +1,4 @@
--- `merge::grouping::group_count` meets its contract. The invariant: the count is one more than the largest number passed.
+-- `groups::grouping::group_count` meets its contract. The invariant: the count is one more than the largest number passed.
 use borrow.Author.Needs.{needs}
 use Prim.Native.Nat.{ℕ, suc, max, _-_, _≤_}
 use mathlib.Core.Path.{_≡_, sym, ap₂, _∙_}

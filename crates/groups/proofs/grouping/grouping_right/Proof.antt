@@ -1,4 +1,4 @@
--- `merge::grouping::grouping_right` meets its contract, by what its parts ensure.
+-- `groups::grouping::grouping_right` meets its contract, by what its parts ensure.
 use borrow.Author.Needs.{needs}
 use Prim.Native.Nat.{ℕ}
 use mathlib.Core.Bool.{Bool, _&&_}

@@ -1,4 +1,4 @@
--- `merge::grouping::is_used` meets its contract: a group is used exactly if its first state is below the length.
+-- `groups::grouping::is_used` meets its contract: a group is used exactly if its first state is below the length.
 use borrow.Author.Needs.{needs}
 use Rattle.groups.specs.Groups.{groupOf}
 use Rattle.groups.proofs.Members.{used-first}

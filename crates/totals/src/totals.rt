@@ -6,8 +6,8 @@ ghost use Prim.Native.Nat.{ℕ, _<_, _≤_};
 ghost use lib.Dec.{eqb};
 ghost use lib.ListN.{getD};
 ghost use Rattle.counting.specs.Below.{sumBelow, table};
 ghost use Rattle.groups.specs.Groups.{groupOf};
-use crate::grouping::group_of;
+use groups::grouping::group_of;
 
 // A weight where it counts, and 0 where it does not.
 fn counted(counts: bool, weight: u16) -> u32

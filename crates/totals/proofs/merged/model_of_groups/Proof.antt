@@ -1,4 +1,4 @@
--- `merge::merged::model_of_groups` meets its contract: the first state of a group that is used is below 32, and is its
+-- `totals::merged::model_of_groups` meets its contract: the first state of a group that is used is below 32, and is its
 -- member; masks and rows are written from the front, over zeros.
 use borrow.Author.Needs.{needs}
 use Prim.Native.Nat.{_-_, _<_}
@@ -8,10 +8,10 @@ use native.Mathlib.Omega.{arith}
 use lib.ListN.{length, getD}
 use Rattle.counting.specs.Below.{table}
 use Rattle.counting.proofs.Laws.{Fronted, fronted-none, fronted-next, fronted-all}
 use Rattle.groups.specs.Groups.{memberOf}
 use Rattle.groups.proofs.Members.{first-below, first-member, front-table}
-use Rattle.groups.proofs.merged.model_of_groups.Statement.{statement}
-use Rattle.groups.proofs.merged.model_of_groups.Tie as tie
+use Rattle.totals.proofs.merged.model_of_groups.Statement.{statement}
+use Rattle.totals.proofs.merged.model_of_groups.Tie as tie
 
 abbrev Inv-loop : tie.InvT-loop
 Inv-loop a d version masks grouping count totals merged₀ rows₀ g₀ merged rows g =

@@ -1,4 +1,4 @@
--- `merge::totals::totals_of` meets its contract: the matrix is filled row by row.
+-- `totals::totals::totals_of` meets its contract: the matrix is filled row by row.
 use borrow.Author.Needs.{needs}
 use Prim.Native.Nat.{_-_}
 use mathlib.Core.Bool.{cond}
@@ -9,9 +9,9 @@ use lib.Dec.{eqb}
 use lib.ListN.{getD}
 use Rattle.counting.specs.Below.{sumBelow, table}
 use Rattle.counting.proofs.Laws.{Filled, filled-none, filled-next, filled-all}
 use Rattle.groups.specs.Groups.{groupOf}
-use Rattle.groups.proofs.totals.totals_of.Statement.{statement}
-use Rattle.groups.proofs.totals.totals_of.Tie as tie
+use Rattle.totals.proofs.totals.totals_of.Statement.{statement}
+use Rattle.totals.proofs.totals.totals_of.Tie as tie
 
 abbrev Inv-loop : tie.InvT-loop
 Inv-loop grouping n rows totals₀ s₀ totals s =

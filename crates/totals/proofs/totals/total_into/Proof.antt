@@ -1,4 +1,4 @@
--- `merge::totals::total_into` meets its contract. The invariant: the total is the sum so far, which is small.
+-- `totals::totals::total_into` meets its contract. The invariant: the total is the sum so far, which is small.
 use borrow.Author.Needs.{needs}
 use Prim.Native.Nat.{ℕ, _+_, _-_, _*_, _≤_}
 use mathlib.Core.Bool.{cond}
@@ -8,9 +8,9 @@ use lib.Dec.{eqb}
 use lib.ListN.{getD}
 use Rattle.counting.specs.Below.{sumBelow}
 use Rattle.counting.proofs.Laws.{sum-none, sum-more}
 use Rattle.groups.specs.Groups.{groupOf}
-use Rattle.groups.proofs.totals.total_into.Statement.{statement}
-use Rattle.groups.proofs.totals.total_into.Tie as tie
+use Rattle.totals.proofs.totals.total_into.Statement.{statement}
+use Rattle.totals.proofs.totals.total_into.Tie as tie
 
 abbrev Inv-loop : tie.InvT-loop
 Inv-loop row grouping n h total₀ t₀ total t =

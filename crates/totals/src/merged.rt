@@ -5,9 +5,9 @@ ghost use Prim.Native.Nat.{_≤_};
 ghost use lib.ListN.{length};
 ghost use Rattle.counting.specs.Below.{everyBelow};
 ghost use Rattle.model.specs.Layout.{modelOf};
 ghost use Rattle.groups.specs.Groups.{isUsed};
 ghost use Rattle.groups.specs.Working.{masksOfGroups, rowsOfGroups};
-use crate::grouping::first_of;
+use groups::grouping::first_of;
 use model::Model;
 use model::matrix;
 

@@ -1,4 +1,4 @@
--- `merge::totals::totals_row` meets its contract: the totals are filled from the front.
+-- `totals::totals::totals_row` meets its contract: the totals are filled from the front.
 use borrow.Author.Needs.{needs}
 use Prim.Native.Nat.{_-_}
 use mathlib.Core.Bool.{cond}
@@ -8,10 +8,10 @@ use lib.Dec.{eqb}
 use lib.ListN.{getD}
 use Rattle.counting.specs.Below.{sumBelow}
 use Rattle.counting.proofs.Laws.{Filled, filled-none, filled-next, filled-all}
 use Rattle.groups.specs.Groups.{groupOf}
 use Rattle.groups.proofs.Counts.{sum-part}
-use Rattle.groups.proofs.totals.totals_row.Statement.{statement}
-use Rattle.groups.proofs.totals.totals_row.Tie as tie
+use Rattle.totals.proofs.totals.totals_row.Statement.{statement}
+use Rattle.totals.proofs.totals.totals_row.Tie as tie
 
 abbrev Inv-loop : tie.InvT-loop
 Inv-loop row grouping n totals₀ h₀ totals h =
