@@ -130,4 +130,4 @@ examples = together lines meant texts merged models
 
 pub halting : Halting
 unfolding M1halted modelOfSketch fieldsRight rowsRight everyBelow sumBelow table filledWeight sameChain sketched M1 every below
-halting = record { right = refl; chain = refl; row-5 = refl; row-4 = refl }
+halting = record { right = refl; chain = refl; row-5 = (refl, refl); row-4 = refl }

@@ -70,7 +70,7 @@ pub empty-rows : EmptyRows
 empty-rows =
     record {
       version = λ file grouping writes. version-kept file grouping writes;
-      filled = λ file grouping writes s. none-stands file grouping writes s;
+      rows-filled = λ file grouping writes s. none-stands file grouping writes s;
       back = λ file accepted room writes. filled-back file accepted room writes;
       version-0 = λ file accepted zero. unfilled file accepted (version-goes (fieldsOf file) zero);
       none-halted = λ file accepted none. unfilled file accepted none;

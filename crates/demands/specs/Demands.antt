@@ -234,7 +234,7 @@ pub record EmptyRows : Type 0 where
   pub version : (file grouping : List ℕ) {before after : List ℕ} {size : ℕ} → MergeEnsures file grouping before after (Wrote size) →
       fieldsOf (take size after) .version ≡ fieldsOf file .version
   -- and writes filled rows: no state of the merged file is halted.
-  pub filled : (file grouping : List ℕ) {before after : List ℕ} {size : ℕ} → MergeEnsures file grouping before after (Wrote size) →
+  pub rows-filled : (file grouping : List ℕ) {before after : List ℕ} {size : ℕ} → MergeEnsures file grouping before after (Wrote size) →
       (s : ℕ) → halted (fieldsOf (take size after)) s ≡ false
   -- So grouping 0, 1, 2 and on gives back the filled file, where the output has room for it;
   pub back : (file : List ℕ) {before after : List ℕ} {w : Written} → fileNumber file ≡ 0 → length file ≤ length before →

@@ -67,9 +67,10 @@ M1halted version =
     let m = modelOfSketch (record { D = 4; masks = 0 ∷ 1 ∷ []; rows = (3 ∷ 1 ∷ []) ∷ (0 ∷ 0 ∷ []) ∷ [] }) in
     modelOf (m .n) (m .a) (m .d) version (m .masks) (m .weights .rows)
 
--- in version 1 neither row 4 nor row 5 applies, and the chain is that of M1; in version 0 row 5 applies, in version 2 row 4
+-- in version 1 neither row 4 nor row 5 applies, and the chain is that of M1; in version 0 row 5 applies and row 4 does not, in version 2
+-- row 4 does
 pub record Halting : Type 0 where
   pub right : (fieldsRight (M1halted 1) && rowsRight (M1halted 1)) ≡ true
   pub chain : sameChain (chainOf (M1halted 1)) (sketched M1) ≡ true
-  pub row-5 : (fieldsRight (M1halted 0) && rowsRight (M1halted 0)) ≡ false
+  pub row-5 : (fieldsRight (M1halted 0) ≡ true) × (rowsRight (M1halted 0) ≡ false)
   pub row-4 : fieldsRight (M1halted 2) ≡ false
