@@ -1,7 +1,8 @@
 /*
  * Twolsken's calls for C, and for every language that calls C.
  *
- * Link. `rt staticlib exports` makes the archive target/staticlib/libexports.a, which needs no other library:
+ * Link. `tools/library` makes the archive target/staticlib/libexports.a, for x86-64 or Arm as the machine is. It needs no other
+ * library:
  *
  *     cc -std=c11 -I include program.c target/staticlib/libexports.a -o program
  *

@@ -1,4 +1,4 @@
-//! Links the static library that `rt staticlib exports` makes.
+//! Links the static library that `tools/library` makes.
 
 use std::path::Path;
 
@@ -8,7 +8,7 @@ fn main() {
     let archive = folder.join("libexports.a");
     println!("cargo::rerun-if-changed={}", archive.display());
     if !archive.exists() {
-        println!("cargo::error=target/staticlib/libexports.a is missing: make it by `rt staticlib exports`");
+        println!("cargo::error=target/staticlib/libexports.a is missing: make it by `tools/library`");
         return;
     }
     println!("cargo::rustc-link-search=native={}", folder.display());

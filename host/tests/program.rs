@@ -20,12 +20,10 @@ fn put(folder: &Folder, name: &str, bytes: Option<&[u8]>) {
     }
 }
 
-/// A run of the program in a folder.
+/// A run of the program in a folder: by itself on x86-64, under the kit's emulator on Arm.
 fn run(folder: &Path) -> Output {
-    Command::new(at("target/bin/twolsken"))
-        .current_dir(folder)
-        .output()
-        .expect("the program, built by rt check twolsken")
+    assert!(at("target/bin/twolsken").exists(), "the program, built by rt check twolsken");
+    Command::new(at("tools/program")).current_dir(folder).output().expect("a run")
 }
 
 /// The line that document 01 asks for, by the second program on the whole files.
