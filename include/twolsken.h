@@ -80,7 +80,8 @@ enum twolsken_refusal {
     TWOLSKEN_REFUSAL_TOO_MANY_NODES = 8,
     /* a label letter of the text is not below A */
     TWOLSKEN_REFUSAL_NO_SUCH_LABEL = 9,
-    /* the size rule: some expression's denominator d or bound m, or some comparison's m1 x d2 or m2 x d1, is above 2^62 */
+    /* the size rule: some expression's denominator d or bound m, or some comparison's m1 x d2 or m2 x d1, is above 2^62;
+     * d and m of a path formula are its denominator, as numerator returns it */
     TWOLSKEN_REFUSAL_SIZE_RULE = 10,
     /* T, which is N to the power of the number of letters, is over 1,024 */
     TWOLSKEN_REFUSAL_TOO_MANY_TUPLES = 11,
@@ -187,7 +188,10 @@ uint32_t twolsken_verdict(const uint8_t *file, size_t file_length, const uint8_t
 /*
  * Numerator. tuple has one byte a letter of the prefix, a state; path is the number of a path formula, counted from 0 in
  * written order; work is as at verdict. Returns 0, with the numerator of that path formula at the tuple in value[0] and its
- * denominator in value[1], and the work area as after a verdict; or a refusal of 1..11 or 15.
+ * denominator in value[1], and the work area as after a verdict; or a refusal of 1..11 or 15. The denominator is D^v for next
+ * and D^(v x k2) for until with the window k1..k2, where v is the number of different variables that the path formula names,
+ * nested ones included; the runs of the numerator are runs of these variables. If v is 0 the denominator is 1 and the
+ * numerator 0 or 1.
  */
 uint32_t twolsken_numerator(const uint8_t *file, size_t file_length, const uint8_t *text,
                             size_t text_length, const uint8_t *tuple, size_t tuple_length, size_t path,

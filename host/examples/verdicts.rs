@@ -1,6 +1,10 @@
-//! Times verdicts of the library beside two plain Rust programs, in one run and by turns: (a) steps by the joint weights, T × T
-//! products; (b) steps one variable at a time, n × N × T products. Each call reads the file and the text. The median of many
-//! runs counts. A benchmark, and no test: it prints whether each goal is met, and asserts no time.
+//! Times verdicts of the library beside two plain Rust programs, in one run and by turns: (a) steps by the joint weights of the v
+//! variables that a path names, T × N^v products; (b) steps one of them at a time, v × N × T products. Each call reads the file
+//! and the text. The median of many runs counts. A benchmark, and no test: it prints whether each goal is met, and asserts no time.
+//!
+//! Each question is asked with paths that name variables 1 and n, all n, and one. Then follows how many times as long the library
+//! takes where all n are named as where one is, for the whole call and for its steps alone: the time of the same call with windows
+//! 0..0 is taken off. Before T-02 all n stepped in either case.
 //!
 //!     cargo run --release --example verdicts
 
@@ -21,15 +25,58 @@ const GOALS: (f64, f64) = (1.25, 8.0);
 /// About how many seconds the runs of one row take.
 const SECONDS: f64 = 3.0;
 
-/// A sentence with one until, or with ten that are compared pairwise. Each comparison holds at every tuple, so that none of
+/// Which variables the paths of a row name.
+#[derive(Clone, Copy, Debug, PartialEq, Eq)]
+enum Names {
+    /// Variables 1 and n, or the latter alone.
+    Ends,
+    /// All n.
+    All,
+    /// One, in each pair of untils another.
+    One,
+}
+
+/// The rows of a question with so many letters: what is named, and the number of untils. Ten untils that name four variables each
+/// would have more than 64 nodes.
+fn rows(letters: usize) -> Vec<(Names, usize)> {
+    let mut rows = vec![(Names::Ends, 1), (Names::Ends, 10)];
+    if letters > 1 {
+        rows.extend([(Names::All, 1), (Names::All, 6), (Names::One, 1), (Names::One, 6)]);
+    }
+    rows
+}
+
+/// The conjunction of a label of some variables.
+fn each(label: char, variables: &[usize]) -> String {
+    let labels: String = variables.iter().map(|variable| format!("{label}{variable}")).collect();
+    "&".repeat(variables.len() - 1) + &labels
+}
+
+/// The two formulas of an until that names some variables.
+fn formulas(variables: &[usize]) -> String {
+    let half = variables.len().div_ceil(2);
+    let (front, back) = (&variables[..half], &variables[variables.len() - half..]);
+    format!("!{}{}", each('a', front), each('b', back))
+}
+
+/// A sentence with one until, or with several that are compared pairwise. Each comparison holds at every tuple, so that none of
 /// the others can be left out.
-fn sentence(letters: usize, to: u32, untils: usize) -> Vec<u8> {
-    let (first, last) = (1, letters);
+fn sentence(letters: usize, to: u32, (names, untils): (Names, usize)) -> Vec<u8> {
+    let all: Vec<usize> = (1..=letters).collect();
+    let named = |pair: usize| match names {
+        Names::Ends => vec![1, letters],
+        Names::All => all.clone(),
+        Names::One => vec![letters - pair % letters],
+    };
     let prefix = &"AEAE"[..letters];
     if untils == 1 {
-        return format!("{prefix}.GPU0,{to}:!a{first}b{last}#0/1;").into_bytes();
+        return format!("{prefix}.GPU0,{to}:{}#0/1;", formulas(&named(0))).into_bytes();
     }
-    let pair = |from: usize| format!("LPU{from},{to}:!a{first}b{last}PU0,{to}:Tb{last}");
+    let pair = |pair: usize| {
+        let formulas = formulas(&named(pair));
+        let wider = if names == Names::Ends { format!("Tb{letters}") } else { formulas.clone() };
+        format!("LPU{},{to}:{formulas}PU0,{to}:{wider}", (pair as u32).min(to))
+    };
     let pairs: String = (0..untils / 2).map(pair).collect();
     format!("{prefix}.{}{pairs}", "&".repeat(untils / 2 - 1)).into_bytes()
 }
@@ -95,31 +142,58 @@ fn met(goal: bool) -> &'static str {
     }
 }
 
-/// The table, a row for each question with one and with ten untils.
+/// The benchmark of a text.
+fn bench(file: &[u8], text: Vec<u8>) -> Bench {
+    let plain = [Plain::new(Step::Joint), Plain::new(Step::Single)];
+    let mut bench = Bench { file: file.to_vec(), text, work: vec![1; WORK], plain };
+    bench.check();
+    bench
+}
+
+/// One row of the table; gives the library's median, and what it is without steps.
+fn row(
+    (n, letters, d, to): (u32, usize, u32, u32),
+    file: &[u8],
+    (names, untils): (Names, usize),
+) -> [f64; 2] {
+    let [library, joint, single] = bench(file, sentence(letters, to, (names, untils))).medians();
+    let [unstepped, ..] = bench(file, sentence(letters, 0, (names, untils))).medians();
+    let (over, under) = (library / single, joint / library);
+    let names = format!("{names:?}").to_lowercase();
+    print!(
+        "{n:>2} {letters} {d} {to:>2} {names:<5} {untils:>6} | {library:>10.1} {joint:>10.1} {single:>10.1} "
+    );
+    print!("| {over:>7.2}, {:<8} | {under:>7.2}", met(over <= GOALS.0));
+    let to_be_met = (n, letters, names.as_str()) == (32, 2, "ends");
+    println!("{}", if to_be_met { format!(", {}", met(under >= GOALS.1)) } else { String::new() });
+    [library, unstepped]
+}
+
+/// All n variables named over one, for n letters: the whole call, and its steps alone.
+fn ratios(letters: usize, all: [f64; 2], one: [f64; 2]) -> String {
+    let (call, steps) = (all[0] / one[0], (all[0] - all[1]) / (one[0] - one[1]));
+    let told = |ratio: f64| format!("{ratio:>5.2}, {:<7}", met(ratio >= letters as f64));
+    format!("{} {}", told(call), told(steps))
+}
+
+/// The table, then the library's times where all n variables are named over those where one is.
 fn main() {
     let mut rng = Rng::new(1);
-    println!(" N n D k2 untils | library µs     (a) µs     (b) µs | library/(b)       | (a)/library");
-    for (n, letters, d, to) in QUESTIONS {
+    let mut lines = Vec::new();
+    println!(" N n D k2 names untils | library µs     (a) µs     (b) µs | library/(b)       | (a)/library");
+    for question in QUESTIONS {
+        let (n, letters, d, to) = question;
         let file = file_of(&model_with(&mut rng, n, 2, d));
-        for untils in [1, 10] {
-            let text = sentence(letters, to, untils);
-            let plain = [Plain::new(Step::Joint), Plain::new(Step::Single)];
-            let mut bench = Bench { file: file.clone(), text, work: vec![1; WORK], plain };
-            bench.check();
-            let [library, joint, single] = bench.medians();
-            let (over, under) = (library / single, joint / library);
-            print!(
-                "{n:>2} {letters} {d} {to:>2} {untils:>6} | {library:>10.1} {joint:>10.1} {single:>10.1} "
-            );
-            print!("| {over:>7.2}, {:<8} | {under:>7.2}", met(over <= GOALS.0));
-            println!(
-                "{}",
-                if (n, letters) == (32, 2) { format!(", {}", met(under >= GOALS.1)) } else { String::new() }
-            );
+        let times: Vec<[f64; 2]> = rows(letters).into_iter().map(|kind| row(question, &file, kind)).collect();
+        if let [_, _, all_1, all_6, one_1, one_6] = times[..] {
+            let (by_1, by_6) = (ratios(letters, all_1, one_1), ratios(letters, all_6, one_6));
+            lines.push(format!("{n:>2} {letters} {d} {to:>2} | {by_1} | {by_6}"));
         }
     }
     println!(
         "goals: library at most {} × (b); at N = 32, n = 2 at least {} times faster than (a)",
         GOALS.0, GOALS.1
     );
+    println!("the library's time, all n variables named over one named: call, steps alone; goal: at least n");
+    println!(" N n D k2 | 1 until                      | 6 untils\n{}", lines.join("\n"));
 }

@@ -13,6 +13,9 @@ mod faults;
 mod meaning;
 mod merging;
 mod models;
+mod naming;
+#[cfg(test)]
+mod naming_faults;
 mod reach;
 mod sentences;
 #[cfg(test)]
@@ -31,6 +34,7 @@ pub use meaning::{
 };
 pub use merging::{compare_filled, compare_kept, compare_merge};
 pub use models::{compare_model_reader, compare_model_writer};
+pub use naming::{compare_naming, compare_naming_examples, compare_nothing, compare_row_10, Named};
 pub use reach::Reach;
 pub use sentences::{compare_sentence_reader, compare_sentence_writer};
 pub use versions::{compare_empty_rows, compare_version_limits};
@@ -330,6 +334,7 @@ mod tests {
     fn the_examples_hold_of_second() {
         compare_examples(&Second);
         compare_empty_rows(&Second);
+        compare_naming_examples(&Second);
     }
 
     #[test]

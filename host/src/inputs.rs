@@ -5,11 +5,13 @@
 //!   records at each limit.
 //! * [`question`]: pairs of a model and a sentence that suit one another.
 //! * [`extreme`]: such pairs at the ends of what is answered.
+//! * [`naming`]: such pairs whose paths name some of the variables.
 //! * [`grouping`]: groupings that a model was made for, and spoiled ones.
 
 pub mod extreme;
 pub mod grouping;
 pub mod model;
+pub mod naming;
 pub mod question;
 pub mod sentence;
 

@@ -1,6 +1,7 @@
 //! Two plain Rust programs that give verdicts, to time the library against: all in numbers of 64 bits and flat arrays,
-//! allocated once. They differ in the step alone: [`Step::Joint`] goes by the joint weights of all pairs of tuples,
-//! [`Step::Single`] by one variable at a time. Each call reads the file and the text anew and gives every refusal of verdict.
+//! allocated once. In a path only the variables step that occur in it; which these are is found once for each path, when the
+//! text is read. The programs differ in the step alone: [`Step::Joint`] goes by the joint weights of the named variables,
+//! [`Step::Single`] by one of them at a time. Each call reads the file and the text anew and gives every refusal of verdict.
 //!
 //! Sums and products that the size rule keeps below 2^63 are wrapping ones here, so that they are not checked.
 
@@ -55,7 +56,7 @@ impl Plain {
         if self.tuples > TUPLES {
             return Err(11);
         }
-        self.stepping.prepare(&self.chain, self.text.letters, self.tuples);
+        self.stepping.forget();
         self.at = 0;
         self.formula(0);
         let holds =
@@ -143,21 +144,24 @@ impl Plain {
 
     /// The numerators of the next path into a layer; gives the denominator.
     fn path(&mut self, layer: usize) -> i64 {
-        let all = u64::from(self.chain.d).pow(self.text.letters as u32);
+        let named = self.text.named[self.at];
+        let d = u64::from(self.chain.d);
         match self.node() {
             Node::Until { from, to } => {
                 self.formula(layer);
                 self.formula(layer + 1);
-                self.until(layer, from, to, all);
-                all.pow(to) as i64
+                self.stepping.prepare(&self.chain, self.text.letters, named);
+                self.until(layer, from, to, d.pow(named.count_ones()));
+                d.pow(named.count_ones() * to) as i64
             }
             _ => {
                 self.formula(layer);
+                self.stepping.prepare(&self.chain, self.text.letters, named);
                 let (values, spare) = self.layers[layer * TUPLES..].split_at_mut(TUPLES);
                 let values = &mut values[..self.tuples];
                 values.iter_mut().for_each(|truth| *truth &= 1);
                 self.stepping.step(&self.chain, values, &mut spare[..self.tuples]);
-                all as i64
+                d.pow(named.count_ones()) as i64
             }
         }
     }
@@ -217,8 +221,9 @@ fn quantified(exists: &[bool], n: usize, truth: &[u64]) -> bool {
 #[cfg(test)]
 mod tests {
     use super::*;
-    use crate::compare::{compare_extreme, compare_verdict, Questions, Second};
+    use crate::compare::{compare_extreme, compare_naming, compare_verdict, Questions, Second};
     use crate::inputs::extreme::Kind;
+    use crate::inputs::naming::Kind as Naming;
     use std::cell::RefCell;
 
     /// A plain program beside the second one; its numerators are the second one's.
@@ -246,8 +251,13 @@ mod tests {
         for step in [Step::Joint, Step::Single] {
             let plain = Asked(RefCell::new(Plain::new(step)));
             compare_verdict(&plain, 10_000, 71);
-            for kind in [Kind::Tuples, Kind::End, Kind::BelowZero, Kind::RightSum, Kind::Untils] {
+            for kind in
+                [Kind::Tuples, Kind::End, Kind::EndBeyond, Kind::BelowZero, Kind::RightSum, Kind::Untils]
+            {
                 compare_extreme(&plain, kind, 30, 72);
+            }
+            for kind in [Naming::Any, Naming::Inside, Naming::Wide] {
+                compare_naming(&plain, kind, 300, 73);
             }
         }
     }

@@ -24,5 +24,6 @@ fn merging_keeps_verdicts_and_numerators() {
     assert!(tally.reach.every >= 5_000, "only {} merges were asked at every tuple", tally.reach.every);
     assert!(tally.reach.letters[1..].iter().all(|&count| count >= 200), "{:?}", tally.reach);
     tally.reach.require_versions(500);
+    tally.reach.named.require_each(20);
     assert!(tally.reach.mixed[0] >= 500, "{:?}", tally.reach);
 }

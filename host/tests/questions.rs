@@ -24,6 +24,7 @@ fn random_verdicts(seed: u64) {
     assert!(tally.reach.tuples_1024 >= 100 && tally.reach.tuples_near >= 100, "{:?}", tally.reach);
     assert!(tally.reach.window_60 >= 100 && tally.reach.nodes_60 >= 50, "{:?}", tally.reach);
     tally.reach.require_versions(2_000);
+    tally.reach.named.require_each(800);
 }
 
 #[test]
@@ -46,6 +47,7 @@ fn random_numerators(seed: u64) {
     assert!(tally.reach.every >= 2_500, "only {} pairs were asked at every tuple", tally.reach.every);
     assert!(tally.reach.below_zero >= 100, "{:?}", tally.reach);
     tally.reach.require_versions(200);
+    tally.reach.named.require_each(50);
 }
 
 #[test]

@@ -41,6 +41,19 @@ fn the_worked_example() {
     assert_eq!(of_10_000("counter-mended", opens, 3), 9_984);
 }
 
+/// The lines that the page prints of path formula 0, with variable 2 in state 0.
+#[test]
+fn the_numbers_behind_the_verdict() {
+    let [file, line] =
+        ["model.blk", "sentence.txt"].map(|name| read(at("samples/counter-fails").join(name)).expect(name));
+    let text = line.strip_suffix(b"\n").expect("a newline at the end");
+    for state in 0..4 {
+        let fraction = numerator(&file, text, &[state, 0], 0, &mut vec![0; WORK_AREA]).expect("a fraction");
+        let line = format!("    path formula 0 at [{state}, 0]: {fraction}\n");
+        assert!(page().contains(&line), "{line}");
+    }
+}
+
 /// The rows of a table of the page, by the row that heads it.
 fn rows(head: &str) -> Vec<Vec<String>> {
     let page = page();
@@ -48,6 +61,19 @@ fn rows(head: &str) -> Vec<Vec<String>> {
     let rows = after.lines().skip(2).take_while(|line| line.starts_with('|'));
     let cells = |row: &str| row.trim_matches('|').split('|').map(|cell| cell.trim().to_string()).collect();
     rows.map(cells).collect()
+}
+
+/// The fractions of paths by the variables that they name, on M1.
+#[test]
+fn the_named_variables() {
+    let file = read(at("samples/m1/model.blk")).expect("M1");
+    let rows = rows("| Expression | Its path names | Is |");
+    assert_eq!(rows.len(), 5);
+    for row in rows {
+        let text = format!("AA.={}#1/1;", row[0].trim_matches('`'));
+        let fraction = numerator(&file, text.as_bytes(), &[0, 0], 0, &mut vec![0; WORK_AREA]);
+        assert_eq!(fraction.expect("a fraction").to_string(), row[2], "{text}");
+    }
 }
 
 /// What is said of a comparison, with D and so many letters, on a model of one state.
@@ -58,27 +84,41 @@ fn refused(d: u32, letters: usize, body: &str) -> Option<Refusal> {
     verdict(&model.to_file().expect("a model"), text.as_bytes(), &mut vec![0; WORK_AREA]).err()
 }
 
+/// The windows by the variables that a path names, under as many letters and under more.
 #[test]
 fn the_longest_windows() {
-    let rows = rows("| D | 1 letter | 2 letters | 3 letters | 4 letters |");
+    let rows = rows("| D | 1 variable | 2 variables | 3 variables | 4 variables |");
     assert_eq!(rows.len(), 6);
+    let formulas = ["T", "a1", "&a1a2", "&a1&a2a3", "&a1&a2&a3a4"];
     for row in rows {
         let d: u32 = row[0].replace(',', "").parse().expect("a D");
-        for (letters, cell) in row.iter().enumerate().skip(1) {
+        for (variables, cell) in row.iter().enumerate().skip(1) {
             let longest: Vec<u32> =
                 cell.split(", ").map(|number| number.parse().expect("a window")).collect();
-            let bodies: [fn(u32) -> String; 2] =
-                [|k| format!("=PU0,{k}:Ta1#1/1;"), |k| format!("=PU0,{k}:Ta1PU0,{k}:Ta1")];
+            let path = |k: u32| format!("PU0,{k}:T{}", formulas[variables]);
+            let bodies: [&dyn Fn(u32) -> String; 2] =
+                [&|k| format!("={}#1/1;", path(k)), &|k| format!("={}{}", path(k), path(k))];
             for (body, &k) in bodies.iter().zip(&longest) {
                 let beyond = if k == 60 { Refusal::Range } else { Refusal::SizeRule };
-                assert_eq!(refused(d, letters, &body(k)), None, "D = {d}, {letters} letters, {k}");
-                assert_eq!(
-                    refused(d, letters, &body(k + 1)),
-                    Some(beyond),
-                    "D = {d}, {letters} letters, {k}"
-                );
+                for letters in variables..=4 {
+                    let case = format!("D = {d}, {variables} variables of {letters}, {k}");
+                    assert_eq!(refused(d, letters, &body(k)), None, "{case}");
+                    assert_eq!(refused(d, letters, &body(k + 1)), Some(beyond), "{case}");
+                }
             }
         }
+    }
+}
+
+/// The sentence on four starts fits, and with one window longer it does not.
+#[test]
+fn four_starts_each_with_a_path_of_its_own() {
+    let body = "L+PU0,15:Ta1+PU0,15:Ta2+PU0,15:Ta3PU0,15:Ta4#1/1;";
+    assert!(page().contains(&format!("    AAAA.{body}\n")));
+    assert_eq!(refused(2, 4, body), None);
+    for variable in 1..=4 {
+        let longer = body.replace(&format!("15:Ta{variable}"), &format!("16:Ta{variable}"));
+        assert_eq!(refused(2, 4, &longer), Some(Refusal::SizeRule), "{longer}");
     }
 }
 

@@ -23,11 +23,14 @@ impl Display for Verdict {
 
 /// A probability as the call gives it, not in lowest terms. Fractions are equal if both numbers are: 1/4 and
 /// 4/16 differ.
+///
+/// Runs are runs of the v different variables that the path formula names, nested ones included. If v is 0 the
+/// fraction is 0/1 or 1/1.
 #[derive(Clone, Copy, Debug, PartialEq, Eq, Hash)]
 pub struct Fraction {
     /// The total weight of the runs that the path formula takes.
     pub numerator: u64,
-    /// The total weight of all runs.
+    /// The total weight of all runs: D^v for next, D^(v × k2) for until with the window k1..k2.
     pub denominator: u64,
 }
 
@@ -43,7 +46,7 @@ impl Display for Fraction {
 ///
 /// # Errors
 /// 1, `work` is too short; 2 to 5 as [`crate::read_model`]; 6 to 8 as [`crate::read_sentence`]; 9, a label that
-/// the model does not have; 10, the size rule; 11, over 1,024 tuples.
+/// the model does not have; 10, the size rule ([`Refusal::SizeRule`]); 11, over 1,024 tuples.
 ///
 /// ```
 /// use twolsken::{verdict, Refusal, Table, Verdict, WORK_AREA};
@@ -81,9 +84,9 @@ pub fn verdict(file: &[u8], text: &[u8], work: &mut [u64]) -> Result<Verdict, Re
     }
 }
 
-/// Returns the numerator and the denominator of a path formula at a tuple of states. `tuple` has one state for
-/// each letter of the prefix; `path` counts the path formulas from 0 in written order; `work` and empty rows are as
-/// in [`verdict`].
+/// Returns the numerator and the denominator of a path formula at a tuple of states, as [`Fraction`] says. `tuple`
+/// has one state for each letter of the prefix; `path` counts the path formulas from 0 in written order; `work` and
+/// empty rows are as in [`verdict`].
 ///
 /// # Errors
 /// 1 to 11 as [`verdict`]; 15, a tuple of another length, a member that is no state, no such path formula.
@@ -106,6 +109,12 @@ pub fn verdict(file: &[u8], text: &[u8], work: &mut [u64]) -> Result<Verdict, Re
 /// assert_eq!(numerator(&file, text, &[0], 0, &mut work)?.to_string(), "7/16");
 /// assert_eq!(numerator(&file, text, &[1], 0, &mut work)?.to_string(), "16/16");
 /// assert_eq!(numerator(&file, text, &[2], 0, &mut work), Err(Refusal::TupleOrPath));
+///
+/// // The first path names variable 1 alone, the second both, the third none.
+/// let text = b"AA.&GPXa1PX&a1a2=PU0,3:TT#1/1;";
+/// assert_eq!(numerator(&file, text, &[0, 0], 0, &mut work)?.to_string(), "1/4");
+/// assert_eq!(numerator(&file, text, &[0, 0], 1, &mut work)?.to_string(), "1/16");
+/// assert_eq!(numerator(&file, text, &[0, 0], 2, &mut work)?.to_string(), "1/1");
 /// # Ok::<(), Box<dyn std::error::Error>>(())
 /// ```
 pub fn numerator(

@@ -36,7 +36,8 @@ pub enum Refusal {
     TooManyNodes = 8,
     /// The sentence has a label letter that the model does not have.
     NoSuchLabel = 9,
-    /// Some number of the sentence is above 2^62 by the size rule.
+    /// Some number of the sentence is above 2^62 by the size rule. A path formula that names v different variables
+    /// counts there as D^v, or D^(v × k2) if it is an until; letters that it does not name do not count.
     SizeRule = 10,
     /// There are over 1,024 tuples of states.
     TooManyTuples = 11,

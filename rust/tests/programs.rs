@@ -90,8 +90,9 @@ fn show_model_prints_a_table_of_the_same_model() {
 #[test]
 fn ask_prints_the_numbers_behind_a_verdict() {
     let lines = printed(run("ask", &sample("counter-fails"), &[]));
-    assert!(lines.starts_with("fails\npath formula 0 at [0, 0]: 1920000/100000000\n"), "{lines}");
-    assert!(lines.contains("\npath formula 0 at [2, 0]: 10000000/100000000\n"), "{lines}");
+    assert!(lines.starts_with("fails\npath formula 0 at [0, 0]: 192/10000\n"), "{lines}");
+    assert!(lines.contains("\npath formula 0 at [2, 0]: 1000/10000\n"), "{lines}");
+    assert!(lines.contains("\npath formula 1 at [0, 2]: 1000/10000\n"), "{lines}");
     assert_eq!(lines.lines().count(), 1 + 2 * 25);
     let lines = printed(run("ask", &sample("halted"), &[]));
     let numbers = ["0]: 306/1000", "1]: 672/1000", "2]: 1000/1000"];

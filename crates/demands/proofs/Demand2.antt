@@ -1,10 +1,9 @@
 -- Demand 2, of verdict and numerator (`demand-2`). The list of runs is `runs` of the meaning, whose laws say that it has just the
 -- runs from the tuple, each once.
-use Prim.Native.Nat.{ℕ, _^_}
+use Prim.Native.Nat.{ℕ}
 use mathlib.Core.Bool.{cond}
 use mathlib.Core.List.{List, map, Memᴰ·cast}
 use mathlib.Core.Path.{_≡_, refl, sym, ap, ap₂, _∙_}
-use native.Mathlib.Nat.{mul-one}
 use lib.ListN.{length}
 use Rattle.refusal.specs.Answers.{gives}
 use Rattle.refusal.proofs.Ensuring.{right-of}
@@ -12,9 +11,11 @@ use Rattle.model.specs.Layout.{fieldsOf}
 use Rattle.meaning.specs.Lists.{total}
 use Rattle.meaning.specs.Chain.{Chain, Tuple, Inside, Sound, runWeight, runs}
 use Rattle.meaning.specs.Tree.{PathFormula, next, until, letterOf}
-use Rattle.meaning.specs.Meaning.{takenWeight, value, numerator, denominator, verdict}
+use Rattle.meaning.specs.Named.{count, named, v, chosen}
+use Rattle.meaning.specs.Meaning.{takenWeight, stepsOf, value, numerator, denominator, verdict}
 use Rattle.meaning.proofs.Runs.{runs-member, runs-has, runs-distinct}
-use Rattle.meaning.proofs.Steps.{runs-total}
+use Rattle.meaning.proofs.Named.{named-inside}
+use Rattle.meaning.proofs.Steps.{runs-total, denominator-steps}
 use Rattle.chain.proofs.Accepted.{sound}
 use Rattle.question.specs.Contract.{QuestionRow, SentenceOf}
 use Rattle.question.proofs.Settled.{file-free}
@@ -22,19 +23,17 @@ use Rattle.verdict.specs.declared.Answer as Judged
 use Rattle.verdict.specs.Contract.{VerdictEnsures, verdictReply}
 use Rattle.numerator.specs.declared.Answer as Counted
 use Rattle.numerator.specs.Contract.{NumeratorRow, question, NumeratorEnsures, numbered, numeratorReply}
-use Rattle.demands.specs.Demands.{stepsOf, chainIn, takes, PathProbability, Valued, Demand2}
+use Rattle.demands.specs.Demands.{chainIn, takes, PathProbability, Valued, Demand2}
 use Rattle.demands.proofs.Free.{one-sentence, tuple-inside}
 
--- a denominator is the total weight of all runs that start at the tuple
+-- a denominator is the total weight of all runs of its variables that start at the tuple
 all-runs : (p : PathFormula) (c : Chain) → Sound c → (n : ℕ) {s : Tuple} → Inside (c .N) n s →
-    denominator p (c .D) n ≡ total (runWeight c) (runs c n (stepsOf p) s)
-unfolding denominator
-all-runs (next f) c sound n i = ap (λ (k : ℕ). c .D ^ k) (sym (mul-one n)) ∙ sym (runs-total c sound n 1 i)
-all-runs (until k1 k2 f g) c sound n i = sym (runs-total c sound n k2 i)
+    denominator p (c .D) n ≡ total (runWeight c) (runs c (v p n) (stepsOf p) (chosen (named p n) s))
+all-runs p c sound n i = denominator-steps p (c .D) n ∙ sym (runs-total c sound (v p n) (stepsOf p) (named-inside p i))
 
 -- a numerator is the total weight of the runs that the path formula takes
 taken-runs : (p : PathFormula) (c : Chain) (n : ℕ) (s : Tuple) →
-    numerator p c n s ≡ total (λ r. cond (takes p c n r) (runWeight c r) 0) (runs c n (stepsOf p) s)
+    numerator p c n s ≡ total (λ r. cond (takes p c n s r) (runWeight c r) 0) (runs c (v p n) (stepsOf p) (chosen (named p n) s))
 unfolding numerator takenWeight
 taken-runs (next f) c n s = refl
 taken-runs (until k1 k2 f g) c n s = refl
@@ -42,16 +41,20 @@ taken-runs (until k1 k2 f g) c n s = refl
 -- a path formula's numerator and denominator are its probability
 counted-once : (p : PathFormula) (c : Chain) → Sound c → (n : ℕ) {s : Tuple} → Inside (c .N) n s →
     PathProbability c p n s (numerator p c n s) (denominator p (c .D) n)
-counted-once p c adds n {s} inside = record {
-  all = runs c n (stepsOf p) s;
-  just = λ r. (
-    λ m. let own = runs-member c n (stepsOf p) s m in record { rest = own .0; starts = own .1; steps = own .2 },
-    λ from. Memᴰ·cast (sym (from .starts)) (runs-has c n (stepsOf p) s (from .steps)),
-  );
-  once = runs-distinct c n (stepsOf p) s;
-  satisfying = taken-runs p c n s;
-  whole = all-runs p c adds n inside;
-}
+unfolding v
+counted-once p c adds n {s} inside =
+    let those = named p n in
+    record {
+      all = runs c (count those) (stepsOf p) (chosen those s);
+      just = λ r. (
+        λ m. let own = runs-member c (count those) (stepsOf p) (chosen those s) m in
+            record { rest = own .0; starts = own .1; steps = own .2 },
+        λ from. Memᴰ·cast (sym (from .starts)) (runs-has c (count those) (stepsOf p) (chosen those s) (from .steps)),
+      );
+      once = runs-distinct c (count those) (stepsOf p) (chosen those s);
+      satisfying = taken-runs p c n s;
+      whole = all-runs p c adds n inside;
+    }
 
 valued-so : (p : PathFormula) (c : Chain) → Sound c → (n : ℕ) {s : Tuple} → Inside (c .N) n s → Valued c p n s
 unfolding value
@@ -71,8 +74,8 @@ judged file x none =
 
 counted : (file : List ℕ) {text tuple before after : List ℕ} {path : ℕ} {a : Counted.Answer} →
     NumeratorEnsures file text tuple path before a after → ((n : ℕ) → NumeratorRow file text tuple path (length before) n → ⊥) →
-    (s : SentenceOf text) × (v : ℕ × ℕ) × (numeratorReply a ≡ gives v) ×
-    PathProbability (chainIn file) (numbered (s .body) path) (length (s .prefix)) tuple (v .0) (v .1)
+    (s : SentenceOf text) × (x : ℕ × ℕ) × (numeratorReply a ≡ gives x) ×
+    PathProbability (chainIn file) (numbered (s .body) path) (length (s .prefix)) tuple (x .0) (x .1)
 counted file {tuple = tuple} {path = path} x none =
     let right = right-of none (x .ensured) in
     let s = right .2 .sentence in

@@ -87,7 +87,11 @@ texts =
     (further tt
     (further (expression _ "PU0,2:Ta1" refl refl)
     (further (expression _ "PU0,2:Ta1" refl refl)
-    (further tt (further tt (further tt nothing))))))))))))))))))))
+    (further tt (further tt (further tt
+    (further (expression _ "PXa1" refl refl)
+    (further (expression _ "PX&a1>PXa2#0/1;" refl refl)
+    (further (expression _ "PU0,2:TT" refl refl)
+    (further (expression _ "PX!T" refl refl) nothing))))))))))))))))))))))))
 
 -- ---- the chains of the lines are those of the models
 
@@ -110,7 +114,8 @@ models =
     (further drawn-M1 (further drawn-M1 (further drawn-M1 (further drawn-M1 (further drawn-M1 (further drawn-M1 (further drawn-M1
     (further drawn-M1
     (further drawn-M2 (further drawn-M2
-    (further drawn-merged (further drawn-M2 (further drawn-M2 (further drawn-M2 nothing))))))))))))))))))))
+    (further drawn-merged (further drawn-M2 (further drawn-M2 (further drawn-M2
+    (further drawn-M1 (further drawn-M1 (further drawn-M1 (further drawn-M1 nothing))))))))))))))))))))))))
 
 -- ---- all of it
 

@@ -1,6 +1,6 @@
 -- The three demands of document 00, said of whatever the calls' contracts allow: of every reply, and of all that is left.
-use Prim.Native.Nat.{ℕ, _≤_, _<_}
-use mathlib.Core.Bool.{Bool, false, cond}
+use Prim.Native.Nat.{ℕ, _*_, _≤_, _<_}
+use mathlib.Core.Bool.{Bool, true, false, cond}
 use mathlib.Core.List.{List, [], _∷_, map, List·Memᴰ}
 use mathlib.Core.Logic.{_↔_}
 use mathlib.Core.Path.{_≡_}
@@ -20,12 +20,17 @@ use Rattle.sentence.specs.declared.Sentence.{Sentence}
 use Rattle.sentence_reader.specs.declared.SentenceRead.{SentenceRead}
 use Rattle.sentence_reader.specs.Contract.{ReadRow, ReadSentenceEnsures}
 use Rattle.sentence.specs.Record.{recordOf, prefixOf, nodesOf}
+use Rattle.sentence.specs.Grammar.{Spells}
 use Rattle.sentence_writer.specs.Contract.{WriteRow, WriteSentenceEnsures}
 use Rattle.meaning.specs.Lists.{total, Each, Distinct}
 use Rattle.meaning.specs.Chain.{Chain, Tuple, Inside, Run, runWeight}
-use Rattle.meaning.specs.Tree.{probability, PathFormula, next, until, letterOf}
-use Rattle.meaning.specs.Meaning.{nextTakes, untilTakes, holds, value, verdict}
+use Rattle.meaning.specs.Tree.{Formula, probability, PathFormula, next, until, letterOf}
+use Rattle.meaning.specs.Named.{Some, count, named, v, chosen}
+use Rattle.meaning.specs.Meaning.{nextTakes, untilTakes, stepsOf, beside, holds, value, numerator, denominator, verdict}
 use Rattle.meaning.specs.Merging.{weightInto, Grouping}
+use Rattle.unchanged.specs.Base as Base
+use Rattle.unchanged.specs.Unchanged.{shrunk, Unchanged}
+use Rattle.trees.specs.Listed.{formulaNodes}
 use Rattle.chain.specs.Of.{chainOf, filledFile}
 use Rattle.question.specs.Contract.{QuestionRow, SentenceOf, areaSize}
 use Rattle.verdict.specs.declared.Answer as Judged
@@ -71,35 +76,33 @@ pub record Demand1 : Type 0 where
 
 -- ---- Demand 2
 
--- the steps of the runs that a path formula speaks of
-abbrev pub stepsOf : PathFormula → ℕ
-stepsOf (next f) = 1
-stepsOf (until k1 k2 f g) = k2
-
 -- the chain that a file describes, its empty rows filled
 abbrev pub chainIn : List ℕ → Chain
 chainIn file = chainOf (fieldsOf file)
 
--- whether the path formula takes the run
-abbrev pub takes : PathFormula → Chain → ℕ → Run → Bool
-takes (next f) c n r = nextTakes (λ t. holds f c n t) r
-takes (until k1 k2 f g) c n r = untilTakes (λ t. holds f c n t) (λ t. holds g c n t) k1 k2 r
+-- whether the path formula takes the run of its variables, where the other variables have the states of the tuple
+abbrev pub takes : PathFormula → Chain → ℕ → Tuple → Run → Bool
+takes (next f) c n tuple r = nextTakes (beside (named (next f) n) tuple (λ t. holds f c n t)) r
+takes (until k1 k2 f g) c n tuple r =
+    untilTakes
+    (beside (named (until k1 k2 f g) n) tuple (λ t. holds f c n t))
+    (beside (named (until k1 k2 f g) n) tuple (λ t. holds g c n t)) k1 k2 r
 
--- a run of k steps from a tuple: the tuple, followed by any k tuples of n states
-pub record RunFrom (c : Chain) (n k : ℕ) (tuple : Tuple) (r : Run) : Type 0 where
+-- a run of k steps of some variables from a tuple: their states in the tuple, followed by any k tuples of as many states
+pub record RunFrom (c : Chain) (those : Some) (k : ℕ) (tuple : Tuple) (r : Run) : Type 0 where
   pub rest : Run
-  pub starts : tuple ∷ rest ≡ r
-  pub steps : Each (Inside (c .N) n) k rest
+  pub starts : chosen those tuple ∷ rest ≡ r
+  pub steps : Each (Inside (c .N) (count those)) k rest
 
 -- A path formula's numerator and denominator at a tuple. There is a list
 pub record PathProbability (c : Chain) (p : PathFormula) (n : ℕ) (tuple : Tuple) (top bottom : ℕ) : Type 0 where
   pub all : List Run
-  -- in which just the runs from the tuple stand that have as many steps as the path formula speaks of,
-  pub just : (r : Run) → List·Memᴰ r all ↔ RunFrom c n (stepsOf p) tuple r
+  -- in which just the runs from the tuple stand, of the variables that occur in the path formula, that have as many steps as it speaks of,
+  pub just : (r : Run) → List·Memᴰ r all ↔ RunFrom c (named p n) (stepsOf p) tuple r
   -- each run once.
   pub once : Distinct all
   -- The numerator is the total weight of those that the path formula takes,
-  pub satisfying : top ≡ total (λ r. cond (takes p c n r) (runWeight c r) 0) all
+  pub satisfying : top ≡ total (λ r. cond (takes p c n tuple r) (runWeight c r) 0) all
   -- the denominator the total weight of all.
   pub whole : bottom ≡ total (runWeight c) all
 
@@ -225,6 +228,36 @@ pub record Demand3 : Type 0 where
   pub written : (file grouping : List ℕ) (M : ℕ) {before after : List ℕ} {w : Written} → MergeAsked file grouping M (length before) →
       MergeEnsures file grouping before after w →
       (Differ (chainIn file) (groupOf grouping) M → ⊥) → MergedWritten file grouping w after
+
+-- ---- T-02
+
+-- the base's numerator and denominator are these two times the power of D of the variables that the path formula does not name
+pub record SameFraction (c : Chain) (p : PathFormula) (n : ℕ) (tuple : Tuple) (top bottom : ℕ) : Type 0 where
+  pub numerators : Base.numerator p c n tuple ≡ top * shrunk p (c .D) n
+  pub denominators : Base.denominator p (c .D) n ≡ bottom * shrunk p (c .D) n
+
+-- the rows of a question before T-02: the same but for row 10, which went by the denominators of all n variables
+pub data BaseRow (file text : List ℕ) (room : ℕ) : ℕ → Type 0 where
+  other : {n : ℕ} → QuestionRow file text room n → (n ≡ 10 → ⊥) → BaseRow file text room n
+  size : {ps : List Bool} (f : Formula) → Spells ps (formulaNodes f) text → Base.exceeds f (fieldsOf file .d) (length ps) ≡ true →
+      BaseRow file text room 10
+
+-- Of whatever verdict and numerator answer, beside the meaning over all n variables (`Base`):
+pub record FewerVariables : Type 0 where
+  -- on the chain of every accepted file no value and no verdict has changed, and row 10 refuses no body that it did not;
+  pub values : (file : List ℕ) → fileNumber file ≡ 0 → (n : ℕ) → Unchanged (chainIn file) n
+  -- every verdict that was given is still given;
+  pub still-given : {file text before after : List ℕ} {a : Judged.Answer} → VerdictEnsures file text before a after →
+      ((n : ℕ) → BaseRow file text (length before) n → ⊥) →
+      (s : SentenceOf text) × (verdictReply a ≡ gives (Base.verdict (chainIn file) (map letterOf (s .prefix)) (s .body)))
+  -- the two numbers of numerator, times one power of D, are the base's;
+  pub fractions : {file text tuple before after : List ℕ} {path : ℕ} {a : Counted.Answer} →
+      NumeratorEnsures file text tuple path before a after → ((n : ℕ) → NumeratorRow file text tuple path (length before) n → ⊥) →
+      (s : SentenceOf text) × (x : ℕ × ℕ) × (numeratorReply a ≡ gives x) × SameFraction (chainIn file) (numbered (s .body) path)
+      (length (s .prefix)) tuple (x .0) (x .1)
+  -- and where no variable occurs in a path formula, they are 0 or 1, and 1.
+  pub none-named : (file : List ℕ) → fileNumber file ≡ 0 → (p : PathFormula) (n : ℕ) → v p n ≡ 0 → {tuple : Tuple} →
+      Inside (chainIn file .N) n tuple → (numerator p (chainIn file) n tuple ≤ 1) × (denominator p (chainIn file .D) n ≡ 1)
 
 -- ---- T-05
 

@@ -3,8 +3,8 @@
 use Prim.Native.Nat.{ℕ, _+_, _*_, _^_, _≤_, _<_, max}
 use mathlib.Core.Bool.{false}
 use mathlib.Core.List.{List}
-use mathlib.Core.Path.{_≡_, sym, ap, subst, _∙_}
-use native.Mathlib.Nat.{le-trans, le-of-eq, mul-le-mul, one-mul, mul-one}
+use mathlib.Core.Path.{_≡_, refl, sym, ap, ap₂, subst, _∙_}
+use native.Mathlib.Nat.{le-trans, le-of-eq, mul-one}
 use native.Mathlib.Omega.{arith}
 use lib.ListN.{length}
 use lib.Seq.{getD-drop}
@@ -13,23 +13,36 @@ use Rattle.sentence.specs.declared.Node.{Node}
 use Rattle.sentence.specs.declared.Node.the-variants.{Next, Until}
 use Rattle.meaning.specs.Chain.{Chain}
 use Rattle.meaning.specs.Tree.{PathFormula, next, until}
+use Rattle.meaning.specs.Named.{Some, count, named, v}
+use Rattle.meaning.proofs.Named.{named-length}
 use Rattle.meaning.specs.Meaning.{holds, numerator, denominator}
 use Rattle.meaning.specs.Size.{sizeLimit, exceeds, exceedsFrom}
 use Rattle.meaning.proofs.Tests.{or-left, or-right}
 use Rattle.layers.specs.Layers.{Layer}
-use Rattle.steps.specs.Steps.{StepFits, Stepped}
-use Rattle.untils.specs.Untils.{UntilFits, UntilTaken}
+use Rattle.layers.specs.Held.{mostVariables}
+use Rattle.steps.specs.Steps.{StepFits}
+use Rattle.untils.specs.Untils.{UntilFits}
 use Rattle.untils.proofs.Paths.{truth-small, next-layer, until-layer}
 use Rattle.trees.specs.Need.{paired, need, needFrom}
 use Rattle.trees.specs.Ranged.{RangedFrom}
-use Rattle.trees.specs.Standing.{nodeAt}
+use Rattle.trees.specs.Standing.{nodeAt, PathAt}
 use Rattle.trees.proofs.Cases.{PathCase, path-case, path-place}
+use Rattle.trees.proofs.Parts.{path-ends}
+use Rattle.names.proofs.Labels.{path-names, path-forward}
 use Rattle.evaluate.specs.declared.Setting.{Setting}
 use Rattle.evaluate.specs.declared.Valued.{Valued}
 use Rattle.evaluate.specs.Evaluation.{Fixed, FormulaReady, FormulasReady, PathReady, FormulaDone, FormulasDone}
-use Rattle.evaluate.specs.Evaluation.{PathDone}
+use Rattle.evaluate.specs.Evaluation.{PathDone, namedAt, NextFits, NextTaken, WindowFits, WindowTaken}
 use Rattle.evaluate.proofs.Needing.{needFrom-some, room-of}
-use Rattle.evaluate.proofs.Fixing.{to-chain, to-setting, tuple-count}
+use Rattle.evaluate.proofs.Fixing.{to-chain, to-setting, tuple-count, stepped-by, taken-by}
+
+-- the variables that step are those that occur in whatever path stands at the places
+those-of : (nodes : List Slot) (g : Setting) (at : ℕ) → g .variables ≤ mostVariables → {r q : ℕ} (p p′ : PathFormula) →
+    PathAt nodes at p q → r ≡ q → p ≡ p′ → namedAt nodes g at r ≡ named p′ (g .variables)
+those-of nodes g at few {r} {q} p p′ stands ends e =
+    ap (λ (x : ℕ). namedAt nodes g at x) ends ∙
+    path-names nodes p at q (g .variables) stands few ∙
+    ap (λ (p : PathFormula). named p (g .variables)) e
 
 module _ {nodes : List Slot} {g : Setting} {masks : List ℕ} {rows : List (List ℕ)} {at : ℕ} {w : List ℕ}
     (ready : PathReady nodes g masks rows at w) where
@@ -48,6 +61,16 @@ module _ {nodes : List Slot} {g : Setting} {masks : List ℕ} {rows : List (List
   setting-small p e =
       le-trans (le-of-eq (ap (λ (D : ℕ). denominator p D (g .variables)) (sym (ready .fixed .sums))))
       (subst (λ (p : PathFormula). denominator p (ready .chain .D) (g .variables) ≤ sizeLimit) e (ready .small))
+
+  -- its nodes stand at the places from `at` on, and the variables that they name are those that occur in it
+  path-starts : {r : ℕ} → r ≡ ready .end → at ≤ r
+  path-starts ends = let h = path-forward nodes (ready .path) at (ready .end) (ready .stands) in omega (arith, ends)
+
+  path-within : {r : ℕ} → r ≡ ready .end → r ≤ 64
+  path-within ends = let h = path-ends nodes (ready .path) at (ready .end) (ready .stands) in omega (arith, ends)
+
+  path-named : {r : ℕ} (p : PathFormula) → ready .path ≡ p → r ≡ ready .end → namedAt nodes g at r ≡ named p (g .variables)
+  path-named p e ends = those-of nodes g at (ready .few) (ready .path) p (ready .stands) ends e
 
   module _ (e : nodeAt nodes at ≡ Next) where
     -- what the formula of a next asks
@@ -68,40 +91,39 @@ module _ {nodes : List Slot} {g : Setting} {masks : List ℕ} {rows : List (List
           room = subst (λ (p : PathFormula). needFrom p * g .tuples ≤ length w) (it .1) (ready .room);
         }
 
-    -- the denominator's factors
-    pub next-scales : (1 ≤ g .d) × (1 * g .d ^ g .variables ≤ sizeLimit)
-    unfolding denominator
-    next-scales =
-        let it = path-case nodes at Next e (ready .stands) in (
-          ready .fixed .weighed,
-          le-trans (le-of-eq (one-mul (g .d ^ g .variables)))
-              (setting-small (next (it .0)) (it .1)),
-        )
-
-    -- what a joint step asks of the formula's layer
-    pub stepping-ready : {mid : List ℕ} {r : ℕ} → FormulaDone nodes g masks rows (at + 1) mid r →
-        length mid ≡ length w →
-        StepFits rows (g .states) (g .variables) (g .tuples) mid
-    unfolding denominator next-ready
-    stepping-ready {mid} done long =
+    -- what the step of a next asks of the formula's layer
+    pub stepping-ready : {mid : List ℕ} {r : ℕ} → FormulaDone nodes g masks rows (at + 1) mid r → length mid ≡ length w →
+        NextFits nodes g rows at r mid
+    unfolding denominator v next-ready
+    stepping-ready {mid} {r} done long =
         let c = ready .chain in
         let n = g .variables in
         let it = path-case nodes at Next e (ready .stands) in
+        let p = next (it .0) in
         let under = next-ready in
         let h = done .each c (under .formula) (under .end) (under .fixed) (under .stands) (under .fits) in
-        let count = tuple-count (ready .fixed) in
+        let those = path-named p (it .1) (h .0) in
+        let count-tuples = tuple-count (ready .fixed) in
         let weighed = ready .fixed .weighed in
         let room = path-room in
         record {
-          chain = c;
-          holds = ready .fixed .held;
-          weighed = omega arith;
-          sizes = ready .fixed .sizes;
-          room = omega arith;
-          bound = 1;
-          small = λ k l. truth-small (λ t. holds (under .formula) c n t) (h .1) k (omega arith);
-          fits = le-trans (le-of-eq (mul-one (c .D ^ n)))
-              (subst (λ (p : PathFormula). denominator p (c .D) n ≤ sizeLimit) (it .1) (ready .small));
+          forward = path-starts (h .0);
+          within = path-within (h .0);
+          weighed = weighed;
+          step = subst (λ (bs : Some). StepFits rows (g .states) n bs (g .tuples) mid) (sym those) (record {
+            chain = c;
+            holds = ready .fixed .held;
+            weighed = omega (arith, ready .fixed .sums);
+            sizes = ready .fixed .sizes;
+            few = ready .few;
+            each = named-length p n;
+            room = omega arith;
+            bound = 1;
+            small = λ k l. truth-small (λ t. holds (under .formula) c n t) (h .1) k (omega arith);
+            fits = le-trans (le-of-eq (mul-one (c .D ^ v p n)))
+                (subst (λ (p : PathFormula). denominator p (c .D) n ≤ sizeLimit) (it .1) (ready .small));
+          });
+          fits = le-trans (le-of-eq (ap (λ (bs : Some). g .d ^ count bs) those)) (setting-small p (it .1));
         }
 
   module _ (k1 k2 : ℕ) (e : nodeAt nodes at ≡ Until k1 k2) where
@@ -138,20 +160,6 @@ module _ {nodes : List Slot} {g : Setting} {masks : List ℕ} {rows : List (List
         let range = subst (λ (p : PathFormula). RangedFrom (g .variables) p) (it .3) (ready .ranged) in
         (range .0, range .1)
 
-    -- n × k2, the number of the denominator's factors, is at most 240
-    pub until-times : g .variables * k2 ≤ 240
-    until-times = mul-le-mul (ready .few) (window .1)
-
-    -- the denominator's factors
-    pub until-scales : (1 ≤ g .d) × (1 * g .d ^ (g .variables * k2) ≤ sizeLimit)
-    unfolding denominator
-    until-scales =
-        let it = path-case nodes at (Until k1 k2) e (ready .stands) in (
-          ready .fixed .weighed,
-          le-trans (le-of-eq (one-mul (g .d ^ (g .variables * k2))))
-              (setting-small (until k1 k2 (it .0) (it .1)) (it .3)),
-        )
-
     -- room for a third layer
     three-room : g .tuples + g .tuples + g .tuples ≤ length w
     unfolding needFrom
@@ -163,75 +171,87 @@ module _ {nodes : List Slot} {g : Setting} {masks : List ℕ} {rows : List (List
 
     -- what an until asks of the two layers
     pub taking-ready : {mid : List ℕ} {r : ℕ} → FormulasDone nodes g masks rows (at + 1) mid r → length mid ≡ length w →
-        UntilFits rows (g .states) (g .variables) (g .tuples) (g .d) k1 k2 mid
-    unfolding until-ready
-    taking-ready {mid} done long =
+        WindowFits nodes g rows k1 k2 at r mid
+    unfolding denominator v until-ready
+    taking-ready {mid} {r} done long =
         let c = ready .chain in
         let n = g .variables in
+        let it = path-case nodes at (Until k1 k2) e (ready .stands) in
+        let p = until k1 k2 (it .0) (it .1) in
         let u = until-ready in
         let h = done .each c (u .first) (u .second) (u .middle) (u .end) (u .fixed) (u .stands) (u .follows) (u .fits)
         (u .fits′) in
-        let count = tuple-count (ready .fixed) in
+        let those = path-named p (it .3) (h .0) in
+        let count-tuples = tuple-count (ready .fixed) in
         let room = three-room in
         record {
-          chain = c;
-          holds = ready .fixed .held;
-          weighed = ready .fixed .weighed;
-          sums = ready .fixed .sums;
-          sizes = ready .fixed .sizes;
-          room = omega arith;
-          ones = λ k l. le-trans (le-of-eq (sym (getD-drop (g .tuples) mid k 0)))
-              (truth-small (λ t. holds (u .second) c n t) (h .2) k (omega arith));
-          window = window .0;
-          fits = le-trans (le-of-eq (sym (one-mul (g .d ^ (n * k2))))) (until-scales .1);
+          forward = path-starts (h .0);
+          within = path-within (h .0);
+          last = window .1;
+          until = subst (λ (bs : Some). UntilFits rows (g .states) n bs (count bs) (g .tuples) (g .d) k1 k2 mid) (sym those) (record {
+            chain = c;
+            holds = ready .fixed .held;
+            weighed = ready .fixed .weighed;
+            sums = ready .fixed .sums;
+            sizes = ready .fixed .sizes;
+            room = omega arith;
+            ones = λ k l. le-trans (le-of-eq (sym (getD-drop (g .tuples) mid k 0)))
+                (truth-small (λ t. holds (u .second) c n t) (h .2) k (omega arith));
+            window = window .0;
+            few = ready .few;
+            each = named-length p n;
+            counted = refl;
+            fits = setting-small p (it .3);
+          });
         }
 
 -- ---- what is left, by the node at the place
-module _ {nodes : List Slot} {g : Setting} {masks : List ℕ} {rows : List (List ℕ)} {at : ℕ} where
+module _ {nodes : List Slot} {g : Setting} {masks : List ℕ} {rows : List (List ℕ)} {at : ℕ} (few : g .variables ≤ mostVariables) where
   path-done : {after : List ℕ} {r : Valued} (n : Node) → nodeAt nodes at ≡ n →
-      ((c : Chain) (p : PathFormula) (q : ℕ) → Fixed c masks rows g → PathCase nodes at n p q →
+      ((c : Chain) (p : PathFormula) (q : ℕ) → Fixed c masks rows g → PathAt nodes at p q → PathCase nodes at n p q →
       exceedsFrom p (c .D) (g .variables) ≡ false →
       (r .next ≡ q) × (r .bottom ≡ denominator p (c .D) (g .variables)) × Layer (c .N) (g .variables)
       (numerator p c (g .variables)) after) →
       PathDone nodes g masks rows at after r
-  path-done n e h = record { each = λ c p q fixed stands fits. h c p q fixed (path-case nodes at n e stands) fits }
+  path-done n e h = record { each = λ c p q fixed stands fits. h c p q fixed stands (path-case nodes at n e stands) fits }
 
   -- next
   pub next-done : nodeAt nodes at ≡ Next → {mid after : List ℕ} {r b : ℕ} →
-      FormulaDone nodes g masks rows (at + 1) mid r →
-      Stepped rows (g .states) (g .variables) (g .tuples) mid after → b ≡ 1 * g .d ^ g .variables →
+      FormulaDone nodes g masks rows (at + 1) mid r → NextTaken nodes g rows at r mid after b →
       PathDone nodes g masks rows at after (record { next = r; bottom = b })
-  unfolding exceedsFrom denominator
-  next-done e {after = after} done stepped scaled = path-done Next e
-      (λ c p q fixed it fits.
+  unfolding exceedsFrom denominator v
+  next-done e {after = after} done taken = path-done Next e
+      (λ c p q fixed stands it fits.
       let n = g .variables in
       let h = done .each c (it .0) q fixed (it .2)
-      (subst (λ (p : PathFormula). exceedsFrom p (c .D) n ≡ false) (it .1) fits) in (
+      (subst (λ (p : PathFormula). exceedsFrom p (c .D) n ≡ false) (it .1) fits) in
+      let those = those-of nodes g at few p (next (it .0)) stands (h .0) (it .1) in (
         h .0,
-        scaled ∙ one-mul (g .d ^ n) ∙ ap (λ (D : ℕ). D ^ n) (sym (fixed .sums)) ∙
+        taken .bottom ∙ ap₂ (λ (D : ℕ) (bs : Some). D ^ count bs) (sym (fixed .sums)) those ∙
             ap (λ (p : PathFormula). denominator p (c .D) n) (sym (it .1)),
         subst (λ (p : PathFormula). Layer (c .N) n (numerator p c n) after) (sym (it .1))
-            (to-chain fixed (next-layer (fixed .held) (it .0) (to-setting fixed (h .1)) stepped)),
+            (to-chain fixed (next-layer (fixed .held) (it .0) (to-setting fixed (h .1))
+            (stepped-by those (taken .stepped)))),
       ))
 
   -- until
   pub until-done : (k1 k2 : ℕ) → nodeAt nodes at ≡ Until k1 k2 → {mid after : List ℕ} {r b : ℕ} →
-      FormulasDone nodes g masks rows (at + 1) mid r →
-      UntilTaken rows (g .states) (g .variables) (g .tuples) (g .d) k1 k2 mid after →
-      b ≡ 1 * g .d ^ (g .variables * k2) →
+      FormulasDone nodes g masks rows (at + 1) mid r → WindowTaken nodes g rows k1 k2 at r mid after b →
       PathDone nodes g masks rows at after (record { next = r; bottom = b })
-  unfolding exceedsFrom denominator
-  until-done k1 k2 e {after = after} done taken scaled = path-done (Until k1 k2) e
-      (λ c p q fixed it fits.
+  unfolding exceedsFrom denominator v
+  until-done k1 k2 e {after = after} done taken = path-done (Until k1 k2) e
+      (λ c p q fixed stands it fits.
       let n = g .variables in
       let small = subst (λ (p : PathFormula). exceedsFrom p (c .D) n ≡ false) (it .3) fits in
       let h = done .each c (it .0) (it .1) (it .2) q fixed (it .4) (it .5)
       (or-left (exceeds (it .0) (c .D) n) (exceeds (it .1) (c .D) n) small)
-      (or-right (exceeds (it .0) (c .D) n) (exceeds (it .1) (c .D) n) small) in (
+      (or-right (exceeds (it .0) (c .D) n) (exceeds (it .1) (c .D) n) small) in
+      let those = those-of nodes g at few p (until k1 k2 (it .0) (it .1)) stands (h .0) (it .3) in (
         h .0,
-        scaled ∙ one-mul (g .d ^ (n * k2)) ∙ ap (λ (D : ℕ). D ^ (n * k2)) (sym (fixed .sums)) ∙
+        taken .bottom ∙ ap₂ (λ (D : ℕ) (bs : Some). D ^ (count bs * k2)) (sym (fixed .sums)) those ∙
             ap (λ (p : PathFormula). denominator p (c .D) n) (sym (it .3)),
         subst (λ (p : PathFormula). Layer (c .N) n (numerator p c n) after) (sym (it .3))
             (to-chain fixed (until-layer (fixed .held) (it .0) (to-setting fixed (h .1)) (it .1)
-            (to-setting fixed (h .2)) (fixed .sums) taken)),
+            (to-setting fixed (h .2)) (fixed .sums)
+            (taken-by those (taken .taken)))),
       ))

@@ -2,21 +2,25 @@
 --
 -- What evaluating a tree's nodes asks and leaves: the front layer of the work area holds, at every tuple, the meaning's
 -- own function of the tree that stands at the place.
-use Prim.Native.Nat.{ℕ, _*_, _≤_, _<_}
+use Prim.Native.Nat.{ℕ, _*_, _^_, _≤_, _<_}
 use mathlib.Core.Bool.{false}
 use mathlib.Core.List.{List}
 use mathlib.Core.Path.{_≡_}
 use lib.Dec.{eqb}
-use lib.ListN.{length, drop}
+use lib.ListN.{length, take, drop}
 use Rattle.sentence.specs.declared.Slot.{Slot}
 use Rattle.meaning.specs.Chain.{Chain}
 use Rattle.meaning.specs.Tree.{Formula, Expression, PathFormula}
+use Rattle.meaning.specs.Named.{Some, count}
 use Rattle.meaning.specs.Meaning.{holds, numerator, denominator}
 use Rattle.meaning.specs.Size.{sizeLimit, size, exceeds, exceedsIn, exceedsFrom}
 use Rattle.layers.specs.Layers.{Layer, truth, bitAt}
 use Rattle.layers.specs.Held.{mostVariables, Holds, LayerSizes}
 use Rattle.fractions.specs.Values.{numeratorCodes, expressionOf}
 use Rattle.fractions.specs.declared.Operation.{Operation}
+use Rattle.steps.specs.Steps.{StepFits, Stepped}
+use Rattle.untils.specs.Untils.{UntilFits, UntilTaken}
+use Rattle.names.specs.Names.{namesBetween}
 use Rattle.trees.specs.Need.{paired, need, needIn, needFrom}
 use Rattle.trees.specs.Ranged.{Ranged, RangedIn, RangedFrom}
 use Rattle.trees.specs.Standing.{FormulaAt, ExpressionAt, PathAt}
@@ -142,6 +146,38 @@ module _ (nodes : List Slot) (g : Setting) (masks : List ℕ) (rows : List (List
         (r .next ≡ q) × (r .first ≡ size a (c .D) (g .variables) .d) × (r .second ≡ size b (c .D) (g .variables) .d) ×
         Layer (c .N) (g .variables) (numeratorCodes a c (g .variables)) after ×
         Layer (c .N) (g .variables) (numeratorCodes b c (g .variables)) (drop (g .tuples) after)
+
+-- ---- the path that stands at the places at..end, from the truth of its formulas
+
+-- the variables that step: those that its nodes name
+abbrev pub namedAt : List Slot → Setting → (at end : ℕ) → Some
+namedAt nodes g at end = take (g .variables) (namesBetween nodes at end)
+
+module _ (nodes : List Slot) (g : Setting) (rows : List (List ℕ)) where
+  -- what a next asks: its denominator is at most 2^62
+  pub record NextFits (at end : ℕ) (w : List ℕ) : Type 0 where
+    pub forward : at ≤ end
+    pub within : end ≤ 64
+    pub weighed : 1 ≤ g .d
+    pub step : StepFits rows (g .states) (g .variables) (namedAt nodes g at end) (g .tuples) w
+    pub fits : g .d ^ count (namedAt nodes g at end) ≤ sizeLimit
+
+  -- what it leaves and returns
+  pub record NextTaken (at end : ℕ) (before after : List ℕ) (r : ℕ) : Type 0 where
+    pub stepped : Stepped rows (g .states) (g .variables) (namedAt nodes g at end) (g .tuples) before after
+    pub bottom : r ≡ g .d ^ count (namedAt nodes g at end)
+
+  -- the same of until
+  pub record WindowFits (k1 k2 at end : ℕ) (w : List ℕ) : Type 0 where
+    pub forward : at ≤ end
+    pub within : end ≤ 64
+    pub last : k2 ≤ 60
+    pub until : UntilFits rows (g .states) (g .variables) (namedAt nodes g at end) (count (namedAt nodes g at end)) (g .tuples) (g .d)
+        k1 k2 w
+
+  pub record WindowTaken (k1 k2 at end : ℕ) (before after : List ℕ) (r : ℕ) : Type 0 where
+    pub taken : UntilTaken rows (g .states) (g .variables) (namedAt nodes g at end) (g .tuples) (g .d) k1 k2 before after
+    pub bottom : r ≡ g .d ^ (count (namedAt nodes g at end) * k2)
 
 -- ---- two expressions and what an operation makes of them
 

@@ -7,6 +7,7 @@ ghost use Rattle.evaluate.specs.Evaluation.{FormulaDone, ExpressionDone,
 use crate::Setting;
 use crate::Valued;
 use crate::ValuedTwo;
+use crate::plain::next_within;
 use crate::plain::relation_of;
 use crate::plain::until_within;
 use fractions::Operation;
@@ -19,10 +20,8 @@ use layers::plain::both;
 use layers::plain::label;
 use layers::plain::negated;
 use layers::plain::swap;
-use layers::power::scaled;
 use sentence::Node;
 use sentence::Slot;
-use steps::joint_step;
 use surveys::order_of;
 
 // A state formula: its truth at all tuples. Unspecified for other nodes.
@@ -200,19 +199,13 @@ pub fn path(
     match node {
         Node::Next => {
             let next = state_formula(nodes, g, masks, rows, at + 1, work);
-            joint_step(rows, g.states, g.variables, g.tuples, work);
-            Valued {
-                next: next,
-                bottom: scaled(1, g.d, g.variables),
-            }
+            let bottom = next_within(nodes, g, rows, at, next, work);
+            Valued { next, bottom }
         }
         Node::Until { from, to } => {
             let next = two_formulas(nodes, g, masks, rows, at + 1, work);
-            until_within(g, rows, from, to, work);
-            Valued {
-                next: next,
-                bottom: scaled(1, g.d, g.variables * (to as usize)),
-            }
+            let bottom = until_within(nodes, g, rows, from, to, at, next, work);
+            Valued { next, bottom }
         }
         _ => nothing(at),
     }

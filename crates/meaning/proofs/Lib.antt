@@ -3,6 +3,7 @@ pub mod Sums
 pub mod Tests
 pub mod Numbers
 pub mod Runs
+pub mod Named
 pub mod Steps
 pub mod Single
 pub mod Until

@@ -19,12 +19,15 @@ use Rattle.meaning.specs.Chain.{Chain, Sound, Tuple, Inside}
 use Rattle.meaning.specs.Tree.{Formula, always, labelled, negation, both, compare}
 use Rattle.meaning.specs.Tree.{Expression, probability, constant, sum, difference, product}
 use Rattle.meaning.specs.Tree.{PathFormula, next, until, Letter, forAll, exists}
+use Rattle.meaning.specs.Named.{named, v, chosen, placed}
+use Rattle.meaning.specs.Meaning.{nextTakes, untilTakes, takenWeight, beside}
 use Rattle.meaning.specs.Meaning.{denominator, hasLabel, addF, subF, mulF, compared, holds, value, numerator}
 use Rattle.meaning.specs.Meaning.{ranges, ranged, verdict}
 use Rattle.meaning.specs.Merging.{weightInto, Grouping, Stable, Merged, member, merged}
 use Rattle.meaning.proofs.Sums.{total-same, total-le, total-member, total-zero}
 use Rattle.meaning.proofs.Sums.{total-scale, total-scale-right, total-swap, total-below}
 use Rattle.meaning.proofs.Tests.{every-means, thereIs-found, thereIs-from, below-member, below-has}
+use Rattle.meaning.proofs.Named.{chosen-map, placed-map, long-named, named-inside, named-placed}
 use Rattle.meaning.proofs.Steps.{step, step-same, step-none, step-first, next-step}
 use Rattle.meaning.proofs.Until.{table, until-table}
 
@@ -161,6 +164,45 @@ module _ (c : Chain) (group : ℕ → ℕ) (m : Chain) (merge : Merged c group m
     table-merged (suc k1) (suc k2) {s} i =
         λ j. cond (same-first s i j) (step-agree _ (table m n first′ second′ k1 k2) (λ t w. table-merged k1 k2 w) i j) 0
 
+  -- the runs that a path takes, by tests that agree
+  module _ (p : PathFormula) (n : ℕ) {s : Tuple} (i : Inside (c .N) n s) where
+    -- a test beside the other variables' states
+    beside-merged : (test test′ : Tuple → Bool) → ((t : Tuple) → Inside (c .N) n t → test t ≡ test′ (map group t)) →
+        (t : Tuple) → Inside (c .N) (v p n) t → beside (named p n) s test t ≡ beside (named p n) (map group s) test′ (map group t)
+    unfolding v
+    beside-merged test test′ same t w =
+        same (placed (named p n) s t) (named-placed p i w) ∙
+        ap test′ (sym (placed-map (c .N) group (named p n) (long-named p i) w))
+
+    -- where the named variables start
+    start-merged : map group (chosen (named p n) s) ≡ chosen (named p n) (map group s)
+    start-merged = sym (chosen-map (c .N) group (named p n) (long-named p i))
+
+    next-merged : (test test′ : Tuple → Bool) → ((t : Tuple) → Inside (c .N) n t → test t ≡ test′ (map group t)) →
+        takenWeight c (v p n) 1 (nextTakes (beside (named p n) s test)) (chosen (named p n) s) ≡
+        takenWeight m (v p n) 1 (nextTakes (beside (named p n) (map group s) test′)) (chosen (named p n) (map group s))
+    next-merged test test′ same =
+        let there = beside (named p n) (map group s) test′ in
+        next-step (beside (named p n) s test) c (v p n) (chosen (named p n) s) ∙
+        step-agree _ (λ t. cond (there t) 1 0) (λ t w. ap (λ b. cond b 1 0) (beside-merged test test′ same t w)) (named-inside p i) ∙
+        sym (next-step there m (v p n) (map group (chosen (named p n) s))) ∙
+        ap (λ x. takenWeight m (v p n) 1 (nextTakes there) x) start-merged
+
+    until-merged : Sound c → (k1 k2 : ℕ) (first first′ second second′ : Tuple → Bool) →
+        ((t : Tuple) → Inside (c .N) n t → first t ≡ first′ (map group t)) →
+        ((t : Tuple) → Inside (c .N) n t → second t ≡ second′ (map group t)) →
+        takenWeight c (v p n) k2 (untilTakes (beside (named p n) s first) (beside (named p n) s second) k1 k2) (chosen (named p n) s) ≡
+        takenWeight m (v p n) k2
+        (untilTakes (beside (named p n) (map group s) first′) (beside (named p n) (map group s) second′) k1 k2)
+        (chosen (named p n) (map group s))
+    until-merged sound k1 k2 first first′ second second′ one two =
+        let there = beside (named p n) (map group s) in
+        until-table c sound (v p n) (beside (named p n) s first) (beside (named p n) s second) k1 k2 (named-inside p i) ∙
+        table-merged (v p n) _ _ (there first′) (there second′) (beside-merged first first′ one) (beside-merged second second′ two) k1 k2
+        (named-inside p i) ∙
+        sym (until-table m (sound-merged sound) (v p n) (there first′) (there second′) k1 k2 (groups-inside (named-inside p i))) ∙
+        ap (λ x. takenWeight m (v p n) k2 (untilTakes (there first′) (there second′) k1 k2) x) start-merged
+
   -- labels
   label-merged : {n : ℕ} (l i : ℕ) {s : Tuple} → Inside (c .N) n s → hasLabel c l i s ≡ hasLabel m l i (map group s)
   unfolding hasLabel
@@ -182,7 +224,7 @@ module _ (c : Chain) (group : ℕ → ℕ) (m : Chain) (merge : Merged c group m
       pub holds-merged : (f : Formula) (n : ℕ) {s : Tuple} → Inside (c .N) n s →
           holds f c n s ≡ holds f m n (map group s)
       holds-merged always n i = refl
-      holds-merged (labelled l v) n i = label-merged l v i
+      holds-merged (labelled l x) n i = label-merged l x i
       holds-merged (negation f) n i = ap not (holds-merged f n i)
       holds-merged (both f g) n i = ap₂ _&&_ (holds-merged f n i) (holds-merged g n i)
       holds-merged (compare r a b) n i = ap₂ (compared r) (value-merged a n i) (value-merged b n i)
@@ -198,15 +240,12 @@ module _ (c : Chain) (group : ℕ → ℕ) (m : Chain) (merge : Merged c group m
 
       pub numerator-merged : (p : PathFormula) (n : ℕ) {s : Tuple} → Inside (c .N) n s →
           numerator p c n s ≡ numerator p m n (map group s)
-      numerator-merged (next f) n {s} i =
-          next-step (λ t. holds f c n t) c n s ∙
-          step-agree _ (λ t. cond (holds f m n t) 1 0) (λ t w. ap (λ b. cond b 1 0) (holds-merged f n w)) i ∙
-          sym (next-step (λ t. holds f m n t) m n (map group s))
-      numerator-merged (until k1 k2 f g) n {s} i =
-          until-table c sound n (λ t. holds f c n t) (λ t. holds g c n t) k1 k2 i ∙
-          table-merged n _ _ (λ t. holds f m n t) (λ t. holds g m n t)
-          (λ t w. holds-merged f n w) (λ t w. holds-merged g n w) k1 k2 i ∙
-          sym (until-table m (sound-merged sound) n (λ t. holds f m n t) (λ t. holds g m n t) k1 k2 (groups-inside i))
+      numerator-merged (next f) n i =
+          next-merged (next f) n i (λ t. holds f c n t) (λ t. holds f m n t) (λ t w. holds-merged f n w)
+      numerator-merged (until k1 k2 f g) n i =
+          until-merged (until k1 k2 f g) n i sound k1 k2
+          (λ t. holds f c n t) (λ t. holds f m n t) (λ t. holds g c n t) (λ t. holds g m n t)
+          (λ t w. holds-merged f n w) (λ t w. holds-merged g n w)
 
   -- a test of all states, and of all groups
   every-merged : (p q : ℕ → Bool) → ((s : ℕ) → s < c .N → p s ≡ q (group s)) →

@@ -1,5 +1,6 @@
--- A joint step is a step of one variable after another: n × N products a tuple and not T.
+-- A joint step of some variables is a step of one after another: v × N products a tuple and not N^v.
 use Prim.Native.Nat.{ℕ, zero, suc, _*_, _<_}
+use mathlib.Core.Bool.{true, false}
 use mathlib.Core.List.{[], _∷_}
 use mathlib.Core.Path.{_≡_, refl, sym, ap, _∙_, fun-ext}
 use native.Mathlib.Nat.{not-suc-le-zero}
@@ -7,8 +8,9 @@ use native.Mathlib.Omega.{arith}
 use lib.ListN.{length, getD, set}
 use Rattle.meaning.specs.Lists.{below, total, nothing, further}
 use Rattle.meaning.specs.Chain.{Chain, Tuple, Inside}
+use Rattle.meaning.specs.Named.{Some, count, chosen, placed}
 use Rattle.meaning.proofs.Sums.{total-same}
-use Rattle.meaning.proofs.Steps.{step, step-none, step-first}
+use Rattle.meaning.proofs.Steps.{steps, step-none, step-first}
 
 -- a step of the variable in place i, counted from 0: the others stay
 unfoldable pub stepOne : Chain → ℕ → (Tuple → ℕ) → Tuple → ℕ
@@ -16,10 +18,11 @@ stepOne c i f [] = f []
 stepOne c zero f (s ∷ ss) = total (λ t. c .weight s t * f (t ∷ ss)) (below (c .N))
 stepOne c (suc i) f (s ∷ ss) = stepOne c i (λ ts. f (s ∷ ts)) ss
 
--- a step of each of the m variables in places i, i + 1, .., that in the last place first
-unfoldable pub stepFrom : Chain → (i m : ℕ) → (Tuple → ℕ) → Tuple → ℕ
-stepFrom c i zero f s = f s
-stepFrom c i (suc m) f s = stepOne c i (λ t. stepFrom c (suc i) m f t) s
+-- a step of some of the variables in places i, i + 1, .., that in the last place first
+unfoldable pub stepFrom : Chain → (i : ℕ) → Some → (Tuple → ℕ) → Tuple → ℕ
+stepFrom c i [] f s = f s
+stepFrom c i (true ∷ bs) f s = stepOne c i (λ t. stepFrom c (suc i) bs f t) s
+stepFrom c i (false ∷ bs) f s = stepFrom c (suc i) bs f s
 
 module _ (c : Chain) where
   -- what it is at a tuple: over all states t, the weight from the variable's state to t times the function where the
@@ -37,18 +40,22 @@ module _ (c : Chain) where
   stepOne-same i f g h s = ap (λ x. stepOne c i x s) (fun-ext h)
 
   -- steps of later variables do not see the first
-  stepFrom-later : (i m : ℕ) (f : Tuple → ℕ) (s : ℕ) (ss : Tuple) →
-      stepFrom c (suc i) m f (s ∷ ss) ≡ stepFrom c i m (λ ts. f (s ∷ ts)) ss
+  stepFrom-later : (i : ℕ) (bs : Some) (f : Tuple → ℕ) (s : ℕ) (ss : Tuple) →
+      stepFrom c (suc i) bs f (s ∷ ss) ≡ stepFrom c i bs (λ ts. f (s ∷ ts)) ss
   unfolding stepFrom stepOne
-  stepFrom-later i zero f s ss = refl
-  stepFrom-later i (suc m) f s ss = stepOne-same i _ _ (λ ts. stepFrom-later (suc i) m f s ts) ss
+  stepFrom-later i [] f s ss = refl
+  stepFrom-later i (true ∷ bs) f s ss = stepOne-same i _ _ (λ ts. stepFrom-later (suc i) bs f s ts) ss
+  stepFrom-later i (false ∷ bs) f s ss = stepFrom-later (suc i) bs f s ss
 
-  -- a step of each of the n variables is the joint step
-  pub stepFrom-joint : {n : ℕ} {s : Tuple} → Inside (c .N) n s → (f : Tuple → ℕ) → stepFrom c 0 n f s ≡ step c n f s
-  unfolding stepFrom stepOne
-  stepFrom-joint nothing f = sym (step-none c f)
-  stepFrom-joint (further {n = n} {x = s} {xs = ss} h i) f =
+  -- a step of each of some variables is their joint step
+  pub stepFrom-joint : (bs : Some) {s : Tuple} → Inside (c .N) (length bs) s → (f : Tuple → ℕ) →
+      stepFrom c 0 bs f s ≡ steps c bs f s
+  unfolding stepFrom stepOne steps count chosen placed
+  stepFrom-joint [] nothing f = sym (step-none c (λ t. f []))
+  stepFrom-joint (true ∷ bs) (further {x = s} {xs = ss} h i) f =
       total-same _ _ (below (c .N))
       (λ t m.
-      ap (λ (x : ℕ). c .weight s t * x) (stepFrom-later 0 n f t ss ∙ stepFrom-joint i (λ ts. f (t ∷ ts)))) ∙
-      sym (step-first c n f s ss)
+      ap (λ (x : ℕ). c .weight s t * x) (stepFrom-later 0 bs f t ss ∙ stepFrom-joint bs i (λ ts. f (t ∷ ts)))) ∙
+      sym (step-first c (count bs) (λ ts. f (placed (true ∷ bs) (s ∷ ss) ts)) s (chosen bs ss))
+  stepFrom-joint (false ∷ bs) (further {x = s} {xs = ss} h i) f =
+      stepFrom-later 0 bs f s ss ∙ stepFrom-joint bs i (λ ts. f (s ∷ ts))

@@ -11,14 +11,20 @@ use lib.Pow.{pow-add}
 use Rattle.meaning.specs.Lists.{below, total, lists, nothing, further}
 use Rattle.meaning.specs.Chain.{Chain, Sound, Tuple, Inside, tuples, joint, Run, runWeight, runs}
 use Rattle.meaning.specs.Tree.{PathFormula, next, until}
-use Rattle.meaning.specs.Meaning.{position, nextTakes, takenWeight, denominator, holds, numerator}
+use Rattle.meaning.specs.Named.{Some, count, v, chosen, placed}
+use Rattle.meaning.specs.Meaning.{position, nextTakes, takenWeight, stepsOf, denominator, numerator}
 use Rattle.meaning.proofs.Sums.{total-same, total-le, total-map, total-lists, total-lists-zero, total-scale}
 use Rattle.meaning.proofs.Sums.{total-scale-right, cond-scale}
 use Rattle.meaning.proofs.Runs.{tuples-inside}
+use Rattle.meaning.proofs.Named.{named-inside}
 
 -- one joint step of a function on tuples: the total, over all tuples, of the joint weight times the function there
 unfoldable pub step : Chain → ℕ → (Tuple → ℕ) → Tuple → ℕ
 step c n f s = total (λ t. joint c s t * f t) (tuples c n)
+
+-- a step of some variables: the others stay
+unfoldable pub steps : Chain → Some → (Tuple → ℕ) → Tuple → ℕ
+steps c those f s = step c (count those) (λ t. f (placed those s t)) (chosen those s)
 
 -- a step of no variables
 pub step-none : (c : Chain) (f : Tuple → ℕ) → step c 0 f [] ≡ f []
@@ -115,14 +121,21 @@ takenWeight-le c sound n k takes {s} i =
     (total-le _ (runWeight c) (runs c n k s) (λ r m. taken-le (takes r) (runWeight c r)))
     (le-of-eq (runs-total c sound n k i))
 
+-- a path's denominator, by its steps
+pub denominator-steps : (p : PathFormula) (D n : ℕ) → denominator p D n ≡ D ^ (v p n * stepsOf p)
+unfolding denominator
+denominator-steps (next f) D n = ap (λ (x : ℕ). D ^ x) (sym (mul-one (v (next f) n)))
+denominator-steps (until k1 k2 f g) D n = refl
+
 -- a path's numerator is at most its denominator
 pub numerator-le : (p : PathFormula) (c : Chain) → Sound c → (n : ℕ) {s : Tuple} → Inside (c .N) n s →
     numerator p c n s ≤ denominator p (c .D) n
 unfolding numerator denominator
 numerator-le (next f) c sound n {s} i =
-    subst (λ (x : ℕ). numerator (next f) c n s ≤ c .D ^ x) (mul-one n)
-    (takenWeight-le c sound n 1 (nextTakes (λ t. holds f c n t)) i)
-numerator-le (until k1 k2 f g) c sound n i = takenWeight-le c sound n k2 _ i
+    subst (λ (x : ℕ). numerator (next f) c n s ≤ c .D ^ x) (mul-one (v (next f) n))
+    (takenWeight-le c sound (v (next f) n) 1 _ (named-inside (next f) i))
+numerator-le (until k1 k2 f g) c sound n i =
+    takenWeight-le c sound (v (until k1 k2 f g) n) k2 _ (named-inside (until k1 k2 f g) i)
 
 -- a next is one step
 pub next-step : (meets : Tuple → Bool) (c : Chain) (n : ℕ) (s : Tuple) →

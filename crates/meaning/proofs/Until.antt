@@ -3,18 +3,21 @@ use Prim.Native.Nat.{ℕ, zero, suc, _*_, _-_, _^_, _≤_, _<_}
 use mathlib.Core.Bool.{Bool, true, false, cond, _&&_, _||_, and-true, or-false}
 use mathlib.Core.List.{[], _∷_}
 use mathlib.Core.Logic.{_↔_}
-use mathlib.Core.Path.{_≡_, refl, sym, ap, ap₂, _∙_}
+use mathlib.Core.Path.{_≡_, refl, sym, ap, ap₂, _∙_, fun-ext}
 use native.Mathlib.Nat.{mul-zero}
 use native.Mathlib.Omega.{arith}
 use borrow.Author.Tests.{leb-true, le-leb, lt-leb}
 use lib.Dec.{leb, leb·zero, leb·suc-zero, leb·suc-suc}
+use lib.ListN.{length}
 use Rattle.counting.proofs.Laws.{left-of, right-of, and-true as both-met}
 use Rattle.meaning.specs.Lists.{below, every, thereIs, total}
 use Rattle.meaning.specs.Chain.{Chain, Sound, Tuple, Inside, joint, Run, runWeight, runs}
 use Rattle.meaning.specs.Tree.{Formula, next, until}
-use Rattle.meaning.specs.Meaning.{position, untilTakes, takenWeight, holds, numerator}
+use Rattle.meaning.specs.Named.{Some, count, named, v, chosen, placed}
+use Rattle.meaning.specs.Meaning.{position, untilTakes, takenWeight, beside, holds, numerator}
 use Rattle.meaning.proofs.Sums.{cond-scale, total-zero}
-use Rattle.meaning.proofs.Steps.{step, step-same, step-constant, step-denominator, total-runs-zero}
+use Rattle.meaning.proofs.Named.{chosen-inside, placed-inside, chosen-placed, placed-placed, placed-chosen, long-named}
+use Rattle.meaning.proofs.Steps.{step, steps, step-same, step-constant, step-denominator, total-runs-zero}
 use Rattle.meaning.proofs.Steps.{total-runs-step, runs-total, next-step}
 use Rattle.meaning.proofs.Tests.{and-front}
 use Rattle.meaning.proofs.Tests.{every-means, every-below, thereIs-found}
@@ -157,64 +160,92 @@ module _ (c : Chain) (sound : Sound c) (n : ℕ) where
         (λ t r. ap (λ b. cond b (runWeight c (s ∷ (t ∷ r))) 0) (until-shut first second k1 k2 s (t ∷ r))) ∙
         ap (λ x. cond (first s) x 0) (step-same c n _ _ (λ t m. until-table k1 k2 m) s)
 
--- The same, layer by layer as it is filled: layer l has l steps left, so k2 − l steps are gone, and the window is open
--- if those are k1 or more. Layer 0 asks the second formula; layer k2 is the numerator.
-unfoldable pub layer : Chain → ℕ → (first second : Tuple → Bool) → (k1 k2 : ℕ) → ℕ → Tuple → ℕ
-layer c n first second k1 k2 zero s = cond (leb k1 k2 && second s) 1 0
-layer c n first second k1 k2 (suc l) s =
+-- The same, layer by layer as it is filled, at tuples of all n variables of which some step: layer l has l steps left, so k2 − l steps
+-- are gone, and the window is open if those are k1 or more. Layer 0 asks the second formula; layer k2 is the numerator.
+unfoldable pub layer : Chain → Some → (first second : Tuple → Bool) → (k1 k2 : ℕ) → ℕ → Tuple → ℕ
+layer c those first second k1 k2 zero s = cond (leb k1 k2 && second s) 1 0
+layer c those first second k1 k2 (suc l) s =
     cond (leb k1 (k2 - suc l) && second s)
-    (c .D ^ (n * suc l))
-    (cond (first s) (step c n (λ t. layer c n first second k1 k2 l t) s) 0)
+    (c .D ^ (count those * suc l))
+    (cond (first s) (steps c those (λ t. layer c those first second k1 k2 l t) s) 0)
 
-module _ (c : Chain) (n : ℕ) (first second : Tuple → Bool) (k1 k2 : ℕ) where
-  -- a step of a layer that is the table for k more steps until the window opens
-  step-layer : (l k : ℕ) → k1 - (k2 - l) ≡ k →
-      ((t : Tuple) → layer c n first second k1 k2 l t ≡ table c n first second (k1 - (k2 - l)) l t) → (s : Tuple) →
-      step c n (λ t. layer c n first second k1 k2 l t) s ≡ step c n (λ t. table c n first second k l t) s
-  step-layer l k e below-it s =
-      step-same c n _ _ (λ t m. below-it t ∙ ap (λ x. table c n first second x l t) e) s
+module _ (c : Chain) (those : Some) (first second : Tuple → Bool) (k1 k2 : ℕ) where
+  -- the table for k steps until the window opens and l until it closes, from the states that those variables have in a tuple
+  tableAt : (k l : ℕ) → Tuple → ℕ
+  tableAt k l s = table c (count those) (beside those s first) (beside those s second) k l (chosen those s)
 
-  -- one layer from the table of the layer after it
-  above-layer : (l : ℕ) → suc l ≤ k2 → (s : Tuple) → (k : ℕ) → k1 - (k2 - suc l) ≡ k →
-      ((t : Tuple) → layer c n first second k1 k2 l t ≡ table c n first second (k1 - (k2 - l)) l t) →
-      layer c n first second k1 k2 (suc l) s ≡ table c n first second k (suc l) s
-  unfolding layer table
-  above-layer l h s zero e below-it =
-      ap₂ (λ b x. cond (b && second s) (c .D ^ (n * suc l)) (cond (first s) x 0))
-      (le-leb k1 (k2 - suc l) (omega arith))
-      (step-layer l 0 (omega arith) below-it s)
-  above-layer l h s (suc k) e below-it =
-      ap₂ (λ b x. cond (b && second s) (c .D ^ (n * suc l)) (cond (first s) x 0))
-      (lt-leb k1 (k2 - suc l) (omega arith))
-      (step-layer l k (omega arith) below-it s)
+  module _ {s : Tuple} (i : Inside (c .N) (length those) s) where
+    -- a test is asked at the tuple itself
+    here : (meets : Tuple → Bool) → meets s ≡ beside those s meets (chosen those s)
+    here meets = ap meets (sym (placed-chosen (c .N) those i))
 
-  lowest-layer : (s : Tuple) (k : ℕ) → k1 - k2 ≡ k → layer c n first second k1 k2 0 s ≡ table c n first second k 0 s
-  unfolding layer table
-  lowest-layer s zero e = ap (λ b. cond (b && second s) 1 0) (le-leb k1 k2 (omega arith))
-  lowest-layer s (suc k) e = ap (λ b. cond (b && second s) 1 0) (lt-leb k1 k2 (omega arith))
+    -- a table at a tuple in which those variables have the states t
+    table-placed : (k l : ℕ) {t : Tuple} → Inside (c .N) (count those) t →
+        tableAt k l (placed those s t) ≡ table c (count those) (beside those s first) (beside those s second) k l t
+    unfolding tableAt
+    table-placed k l {t} j =
+        let same : (meets : Tuple → Bool) → beside those (placed those s t) meets ≡ beside those s meets = λ meets.
+        fun-ext (λ r. ap meets (placed-placed (c .N) those i j r)) in
+        λ x. table c (count those) (same first x) (same second x) k l (chosen-placed (c .N) those i j x)
+
+    -- a step of a layer that is the table for k more steps until the window opens
+    step-layer : (l k : ℕ) → k1 - (k2 - l) ≡ k →
+        ((t : Tuple) → Inside (c .N) (length those) t → layer c those first second k1 k2 l t ≡ tableAt (k1 - (k2 - l)) l t) →
+        steps c those (λ t. layer c those first second k1 k2 l t) s ≡
+        step c (count those) (λ t. table c (count those) (beside those s first) (beside those s second) k l t) (chosen those s)
+    unfolding steps
+    step-layer l k e below-it =
+        step-same c (count those) _ _
+        (λ t j.
+        below-it (placed those s t) (placed-inside (c .N) those i j) ∙ ap (λ x. tableAt x l (placed those s t)) e ∙ table-placed k l j)
+        (chosen those s)
+
+    -- one layer from the table of the layer after it
+    above-layer : (l : ℕ) → suc l ≤ k2 → (k : ℕ) → k1 - (k2 - suc l) ≡ k →
+        ((t : Tuple) → Inside (c .N) (length those) t → layer c those first second k1 k2 l t ≡ tableAt (k1 - (k2 - l)) l t) →
+        layer c those first second k1 k2 (suc l) s ≡ tableAt k (suc l) s
+    unfolding layer table tableAt
+    above-layer l h zero e below-it =
+        (λ x. cond (le-leb k1 (k2 - suc l) (omega arith) x && here second x) (c .D ^ (count those * suc l))
+        (cond (here first x) (step-layer l 0 (omega arith) below-it x) 0))
+    above-layer l h (suc k) e below-it =
+        (λ x. cond (lt-leb k1 (k2 - suc l) (omega arith) x && second s) (c .D ^ (count those * suc l))
+        (cond (here first x) (step-layer l k (omega arith) below-it x) 0))
+
+    lowest-layer : (k : ℕ) → k1 - k2 ≡ k → layer c those first second k1 k2 0 s ≡ tableAt k 0 s
+    unfolding layer table tableAt
+    lowest-layer zero e = ap₂ (λ a b. cond (a && b) 1 0) (le-leb k1 k2 (omega arith)) (here second)
+    lowest-layer (suc k) e = ap (λ b. cond (b && second s) 1 0) (lt-leb k1 k2 (omega arith))
 
   -- a layer is the table for the steps that are left
-  layer-table : (l : ℕ) → l ≤ k2 → (s : Tuple) →
-      layer c n first second k1 k2 l s ≡ table c n first second (k1 - (k2 - l)) l s
-  layer-table zero h s = lowest-layer s (k1 - (k2 - 0)) (omega arith)
-  layer-table (suc l) h s = above-layer l h s (k1 - (k2 - suc l)) refl (λ t. layer-table l (omega arith) t)
+  layer-table : (l : ℕ) → l ≤ k2 → (s : Tuple) → Inside (c .N) (length those) s →
+      layer c those first second k1 k2 l s ≡ tableAt (k1 - (k2 - l)) l s
+  layer-table zero h s i = lowest-layer i (k1 - (k2 - 0)) (omega arith)
+  layer-table (suc l) h s i = above-layer i l h (k1 - (k2 - suc l)) refl (λ t j. layer-table l (omega arith) t j)
 
   -- the numerator of an until is the last layer
-  pub until-layer : Sound c → {s : Tuple} → Inside (c .N) n s →
-      takenWeight c n k2 (untilTakes first second k1 k2) s ≡ layer c n first second k1 k2 k2 s
+  pub until-layer : Sound c → {s : Tuple} → Inside (c .N) (length those) s →
+      takenWeight c (count those) k2 (untilTakes (beside those s first) (beside those s second) k1 k2) (chosen those s) ≡
+      layer c those first second k1 k2 k2 s
+  unfolding tableAt
   until-layer sound {s} i =
-      until-table c sound n first second k1 k2 i ∙
-      ap (λ k. table c n first second k k2 s) (omega arith) ∙
-      sym (layer-table k2 (omega arith) s)
+      until-table c sound (count those) (beside those s first) (beside those s second) k1 k2 (chosen-inside (c .N) those i) ∙
+      ap (λ k. tableAt k k2 s) (omega arith) ∙
+      sym (layer-table k2 (omega arith) s i)
 
--- the numerator of next, as it is computed: one step
+-- the numerator of next, as it is computed: one step of the named variables
 pub numerator-next : (f : Formula) (c : Chain) (n : ℕ) (s : Tuple) →
-    numerator (next f) c n s ≡ step c n (λ t. cond (holds f c n t) 1 0) s
-unfolding numerator
-numerator-next f c n s = next-step (λ t. holds f c n t) c n s
+    numerator (next f) c n s ≡ steps c (named (next f) n) (λ t. cond (holds f c n t) 1 0) s
+unfolding numerator steps v
+numerator-next f c n s =
+    let those = named (next f) n in
+    next-step (beside those s (λ t. holds f c n t)) c (count those) (chosen those s)
 
 -- and that of until: k2 layers
 pub numerator-until : (k1 k2 : ℕ) (f g : Formula) (c : Chain) → Sound c → (n : ℕ) {s : Tuple} → Inside (c .N) n s →
-    numerator (until k1 k2 f g) c n s ≡ layer c n (λ t. holds f c n t) (λ t. holds g c n t) k1 k2 k2 s
-unfolding numerator
-numerator-until k1 k2 f g c sound n i = until-layer c n (λ t. holds f c n t) (λ t. holds g c n t) k1 k2 sound i
+    numerator (until k1 k2 f g) c n s ≡
+    layer c (named (until k1 k2 f g) n) (λ t. holds f c n t) (λ t. holds g c n t) k1 k2 k2 s
+unfolding numerator v
+numerator-until k1 k2 f g c sound n i =
+    let p = until k1 k2 f g in
+    until-layer c (named p n) (λ t. holds f c n t) (λ t. holds g c n t) k1 k2 sound (long-named p i)

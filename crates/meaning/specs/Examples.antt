@@ -1,6 +1,6 @@
--- Document 01, 'Examples on both sides': M1, M2 and the lines marked *, in one table. What a line claims of the definitions of this
--- crate is `met`; what it claims of files and of texts stands in specs/Examples of `merge` and of `demands`, which has the one
--- statement over the whole table.
+-- Document 01, 'Examples on both sides': M1, M2 and the lines marked *, with the numbers that they have by T-02, and T-02's own, in one
+-- table. What a line claims of the definitions of this crate is `met`; what it claims of files and of texts stands in specs/Examples of
+-- `merge` and of `demands`, which has the one statement over the whole table.
 use Prim.Native.Nat.{ℕ}
 use Prim.Native.String.{String}
 use mathlib.Core.Bool.{Bool, true, false, _&&_, Bool·beq}
@@ -11,7 +11,7 @@ use lib.ListN.{getD, length}
 use Rattle.counting.specs.Entries.{cell, bitOf}
 use Rattle.meaning.specs.Lists.{below, every}
 use Rattle.meaning.specs.Chain.{Chain, Tuple}
-use Rattle.meaning.specs.Tree.{atMost, equal}
+use Rattle.meaning.specs.Tree.{atMost, equal, greater}
 use Rattle.meaning.specs.Tree.{Formula, always, labelled, negation, both, compare}
 use Rattle.meaning.specs.Tree.{Expression, probability, constant, difference}
 use Rattle.meaning.specs.Tree.{PathFormula, next, until, Letter, forAll, exists}
@@ -129,4 +129,9 @@ lines =
     refusedWith M2 (0 ∷ 0 ∷ 1 ∷ []) 13 ∷
     refusedWith M2 (0 ∷ 2 ∷ 2 ∷ []) 12 ∷
     merges M2 (0 ∷ 1 ∷ 2 ∷ []) M2 ∷
+    -- T-02: `PXa1`, n = 2: 1/4 at (0,0); a nested path names variables too; where none is named, 1/1 or 0/1
+    fraction M1 "PXa1" (next a1) (0 ∷ 0 ∷ []) 1 4 ∷
+    fraction M1 "PX&a1>PXa2#0/1;" (next (both a1 (compare greater Xa2 (constant 0 1)))) (0 ∷ 0 ∷ []) 4 16 ∷
+    fraction M1 "PU0,2:TT" (until 0 2 always always) (0 ∷ 0 ∷ []) 1 1 ∷
+    fraction M1 "PX!T" (next (negation always)) (0 ∷ 0 ∷ []) 0 1 ∷
     []

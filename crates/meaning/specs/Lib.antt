@@ -1,7 +1,8 @@
--- Document 01's 'Meaning', in the order in which it is read.
+-- Document 01's 'Meaning', with T-02 of document 02, in the order in which it is read.
 pub mod Lists
 pub mod Chain
 pub mod Tree
+pub mod Named
 pub mod Meaning
 pub mod Size
 pub mod Merging

@@ -1,5 +1,5 @@
 -- What a path takes, its numerator and denominator, the value of an expression, when a formula is met at a tuple and
--- when a sentence holds: document 01, 'Meaning', and source document 000, section 2.2.
+-- when a sentence holds: document 01, 'Meaning', with T-02 of document 02, and source document 000, section 2.2.
 use Prim.Native.Nat.{ℕ, zero, suc, _*_, _^_}
 use mathlib.Core.Bool.{Bool, true, false, cond, not, _&&_}
 use mathlib.Core.List.{List, [], _∷_}
@@ -13,6 +13,7 @@ use Rattle.meaning.specs.Tree.{Relation, less, atMost, equal, atLeast, g
 use Rattle.meaning.specs.Tree.{Formula, always, labelled, negation, both, compare}
 use Rattle.meaning.specs.Tree.{Expression, probability, constant, sum, difference, product}
 use Rattle.meaning.specs.Tree.{PathFormula, next, until, Letter, forAll, exists}
+use Rattle.meaning.specs.Named.{Some, named, v, chosen, placed}
 
 -- position j of a run, counted from 0
 unfoldable pub position : Run → ℕ → Tuple
@@ -34,10 +35,19 @@ untilTakes first second k1 k2 r =
 unfoldable pub takenWeight : Chain → ℕ → ℕ → (Run → Bool) → Tuple → ℕ
 takenWeight c n k takes s = total (λ r. cond (takes r) (runWeight c r) 0) (runs c n k s)
 
--- the denominator of a path: D^n for next, D^(n × k2) for until; all n variables step, used or not
+-- the steps of the runs that a path speaks of: one for next, k2 for until
+abbrev pub stepsOf : PathFormula → ℕ
+stepsOf (next f) = 1
+stepsOf (until k1 k2 f g) = k2
+
+-- a test of all variables' states, asked where some have the states t and the others those that they have in the tuple s
+abbrev pub beside : Some → (s : Tuple) → (Tuple → Bool) → (t : Tuple) → Bool
+beside those s meets t = meets (placed those s t)
+
+-- the denominator of a path: D^v for next, D^(v × k2) for until; only the variables that occur in it step
 unfoldable pub denominator : PathFormula → (D n : ℕ) → ℕ
-denominator (next f) D n = D ^ n
-denominator (until k1 k2 f g) D n = D ^ (n * k2)
+denominator (next f) D n = D ^ v (next f) n
+denominator (until k1 k2 f g) D n = D ^ (v (until k1 k2 f g) n * k2)
 
 -- the state of variable i has label l; variables are numbered from 1, and a variable that the tuple lacks has none
 unfoldable pub hasLabel : Chain → ℕ → ℕ → Tuple → Bool
@@ -93,11 +103,18 @@ unfoldable mutual
   value (difference a b) c n s = subF (value a c n s) (value b c n s)
   value (product a b) c n s = mulF (value a c n s) (value b c n s)
 
-  -- the numerator of a path there: the total weight of the runs taken that start at the tuple
+  -- the numerator of a path there: the total weight of the runs taken of its v variables, which start where these are in the tuple
   pub numerator : PathFormula → Chain → ℕ → Tuple → ℕ
-  numerator (next f) c n s = takenWeight c n 1 (nextTakes (λ t. holds f c n t)) s
+  numerator (next f) c n s =
+      takenWeight c (v (next f) n) 1
+      (nextTakes (beside (named (next f) n) s (λ t. holds f c n t)))
+      (chosen (named (next f) n) s)
   numerator (until k1 k2 f g) c n s =
-      takenWeight c n k2 (untilTakes (λ t. holds f c n t) (λ t. holds g c n t) k1 k2) s
+      takenWeight c (v (until k1 k2 f g) n) k2
+      (untilTakes
+      (beside (named (until k1 k2 f g) n) s (λ t. holds f c n t))
+      (beside (named (until k1 k2 f g) n) s (λ t. holds g c n t)) k1 k2)
+      (chosen (named (until k1 k2 f g) n) s)
 
 -- `A`: all of the states meet the test; `E`: some do
 unfoldable pub ranges : Letter → (ℕ → Bool) → List ℕ → Bool

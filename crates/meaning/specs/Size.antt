@@ -1,4 +1,4 @@
--- The size rule: document 01, 'Meaning', last paragraph. It speaks of n, D and the tree alone.
+-- The size rule: document 01, 'Meaning', last paragraph, by the denominators of T-02. It speaks of n, D and the tree alone.
 use Prim.Native.Nat.{ℕ, _+_, _*_, _^_}
 use mathlib.Core.Bool.{Bool, false, _||_}
 use lib.Dec.{ltb}

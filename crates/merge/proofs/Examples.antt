@@ -106,7 +106,7 @@ merging-modelM2 grouping result grouped alike e = (
   file-of modelM2 fields-modelM2 adds-modelM2 long-modelM2 grouping ∙ ap fileOf e,
 )
 
--- what the table claims of merging agrees with the definitions: four of the last six lines speak of it, and none before
+-- what the table claims of merging agrees with the definitions: four lines speak of it, the sixteenth first
 pub examples : Each MergeMet (length lines) lines
 unfolding MergeMet lines
 examples =
@@ -116,4 +116,5 @@ examples =
     (further tt (further tt
     (further (number-modelM2 (0 ∷ 0 ∷ 1 ∷ []) ∙ groups-13 modelM2 (0 ∷ 0 ∷ 1 ∷ []) 3072 grouped-0-0-1 unlike-0-0-1)
     (further (number-modelM2 (0 ∷ 2 ∷ 2 ∷ []) ∙ groups-12 modelM2 (0 ∷ 2 ∷ 2 ∷ []) 3072 unused-0-2-2)
-    (further (merging-modelM2 (0 ∷ 1 ∷ 2 ∷ []) M2 grouped-0-1-2 alike-0-1-2 merged-0-1-2) nothing))))))))))))))))))))
+    (further (merging-modelM2 (0 ∷ 1 ∷ 2 ∷ []) M2 grouped-0-1-2 alike-0-1-2 merged-0-1-2)
+    (further tt (further tt (further tt (further tt nothing))))))))))))))))))))))))

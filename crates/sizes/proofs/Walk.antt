@@ -6,7 +6,7 @@ use mathlib.Core.Logic.{inl, inr}
 use mathlib.Core.Path.{_≡_, refl, sym, ap, ap₂, subst, _∙_}
 use native.Mathlib.Omega.{arith}
 use lib.Dec.{T}
-use lib.ListN.{getD}
+use lib.ListN.{getD, take}
 use mir.Val.{hasKey}
 use types.Run.{OneOf, miss}
 use denote.Enum.Declared.{tagOf}
@@ -17,17 +17,21 @@ use Rattle.sentence.specs.declared.Node.{Node}
 use Rattle.sentence.specs.declared.Node.the-variants.{True, Label, Not, And, Compare, Probability, Constant}
 use Rattle.sentence.specs.declared.Node.the-variants.{Sum, Difference, Product, Next, Until}
 use Rattle.meaning.specs.Tree.{Formula, Expression, PathFormula, sum, difference, product}
-use Rattle.meaning.specs.Meaning.{denominator}
+use Rattle.meaning.specs.Named.{Some, count, v}
+use Rattle.meaning.specs.Meaning.{stepsOf, denominator}
+use Rattle.meaning.proofs.Steps.{denominator-steps}
 use Rattle.meaning.specs.Size.{size, addS, mulS, tooLarge, largeSize, largeCross, exceeds, exceedsIn, exceedsFrom}
 use Rattle.sentence.specs.Grammar.{wantsOf}
 use Rattle.trees.specs.Wanted.{operandCount}
-use Rattle.trees.specs.Standing.{nodeAt, FormulaAt, ExpressionAt}
+use Rattle.trees.specs.Standing.{nodeAt, FormulaAt, ExpressionAt, PathAt}
 use Rattle.trees.proofs.Cases.{FormulaCase, ExpressionCase, PathCase, formula-case, expression-case, path-case}
 use Rattle.trees.proofs.Cases.{formula-place, expression-place, path-place}
 use Rattle.sizes.specs.declared.Measure.{Measure}
 use Rattle.sizes.specs.declared.MeasureTwo.{MeasureTwo}
-use Rattle.sizes.specs.Sizing.{unmeasured, measured, ofPath, ofSum, ofProduct, ofComparison, ofProbability}
+use Rattle.sizes.specs.Sizing.{unmeasured, measured, ofPath, ofSum, ofProduct, ofComparison, pathDenominator, ofProbability}
 use Rattle.capped.specs.Capping.{capped}
+use Rattle.names.specs.Names.{namesBetween}
+use Rattle.names.proofs.Labels.{path-names}
 use Rattle.sizes.specs.Sizing.{Sizes, SizesTwo}
 use Rattle.capped.proofs.Capped.{capped-times, capped-plus, capped-too}
 
@@ -63,9 +67,7 @@ module _ (slots : List Slot) (at D n : ℕ) where
       (r .next ≡ q) × (r .over ≡ exceedsIn a D n) × (r .d ≡ capped (size a D n .d)) × (r .m ≡ capped (size a D n .m))
 
   abbrev OfPath : Measure → PathFormula → ℕ → Type 0
-  OfPath r w q =
-      (r .next ≡ q) × (r .over ≡ exceedsFrom w D n) × (r .d ≡ capped (denominator w D n)) ×
-      (r .m ≡ capped (denominator w D n))
+  OfPath r w q = (r .next ≡ q) × (r .over ≡ exceedsFrom w D n) × (r .steps ≡ stepsOf w)
 
   -- by the node at the place
   by-node : (r : Measure) (x : Node) → nodeAt slots at ≡ x → at ≤ r .next → r .next ≤ 64 →
@@ -126,29 +128,41 @@ module _ (slots : List Slot) (at D n : ℕ) where
           (h .0, h .1 ∙ ap (λ (f : Formula). exceeds f D n) (sym (w .1)), h .2, h .3))
           (λ a q w. absurd w) (λ a q w. absurd w)
 
-      pub sized-probability : nodeAt slots at ≡ Probability → Sizes slots at D n (ofProbability t)
+      -- the denominator of the path that stands there
+      path-d : n ≤ 4 → (w : PathFormula) (q : ℕ) → PathAt slots (at + 1) w q → t .next ≡ q → t .steps ≡ stepsOf w →
+          pathDenominator slots (at + 1) t D n ≡ capped (denominator w D n)
+      unfolding v
+      path-d few w q h ends steps =
+          ap₂ (λ (k x : ℕ). capped (D ^ (count (take n (namesBetween slots (at + 1) k)) * x))) ends steps ∙
+          ap (λ (bs : Some). capped (D ^ (count bs * stepsOf w))) (path-names slots w (at + 1) q n h few) ∙
+          ap capped (sym (denominator-steps w D n))
+
+      pub sized-probability : n ≤ 4 → nodeAt slots at ≡ Probability → Sizes slots at D n (ofProbability slots (at + 1) t D n)
       unfolding exceedsIn size largeSize
-      sized-probability x =
-          by-node (ofProbability t) Probability x (omega arith) (omega arith) (λ f q w. absurd w)
+      sized-probability few x =
+          by-node (ofProbability slots (at + 1) t D n) Probability x (omega arith) (omega arith) (λ f q w. absurd w)
           (λ c q w.
           let h = s .path (w .0) q (w .2) in
-          let v = denominator (w .0) D n in (
+          let d = denominator (w .0) D n in
+          let e = path-d few (w .0) q (w .2) (h .0) (h .2) in (
             h .0,
-            tested v v (h .1) (h .2) (h .3) ∙ ap (λ (c : Expression). exceedsIn c D n) (sym (w .1)),
-            h .2 ∙ ap (λ (c : Expression). capped (size c D n .d)) (sym (w .1)),
-            h .3 ∙ ap (λ (c : Expression). capped (size c D n .m)) (sym (w .1)),
+            tested d d (h .1) e e ∙ ap (λ (c : Expression). exceedsIn c D n) (sym (w .1)),
+            e ∙ ap (λ (c : Expression). capped (size c D n .d)) (sym (w .1)),
+            e ∙ ap (λ (c : Expression). capped (size c D n .m)) (sym (w .1)),
           ))
           (λ a q w. absurd w)
 
-      pub sized-next : nodeAt slots at ≡ Next → Sizes slots at D n (ofPath (t .next) (capped (D ^ n)) (t .over))
-      unfolding exceedsFrom denominator
+      pub sized-next : nodeAt slots at ≡ Next → Sizes slots at D n (ofPath (t .next) 1 (t .over))
+      unfolding exceedsFrom
       sized-next x =
-          by-node (ofPath (t .next) (capped (D ^ n)) (t .over)) Next x (omega arith) (omega arith)
+          by-node (ofPath (t .next) 1 (t .over)) Next x (omega arith) (omega arith)
           (λ f q w. absurd w) (λ a q w. absurd w)
           (λ c q w.
-          let h = s .formula (w .0) q (w .2) in
-          let d = ap (λ (c : PathFormula). capped (denominator c D n)) (sym (w .1)) in
-          (h .0, h .1 ∙ ap (λ (c : PathFormula). exceedsFrom c D n) (sym (w .1)), d, d))
+          let h = s .formula (w .0) q (w .2) in (
+            h .0,
+            h .1 ∙ ap (λ (c : PathFormula). exceedsFrom c D n) (sym (w .1)),
+            ap (λ (c : PathFormula). stepsOf c) (sym (w .1)),
+          ))
 
     module _ (t : MeasureTwo) (s : SizesTwo slots (at + 1) D n t) where
       pub sized-and : nodeAt slots at ≡ And → Sizes slots at D n (unmeasured (t .next) (t .over))
@@ -175,16 +189,17 @@ module _ (slots : List Slot) (at D n : ℕ) where
           ))
           (λ a q w. absurd w) (λ a q w. absurd w)
 
-      pub sized-until : (k1 k2 : ℕ) → nodeAt slots at ≡ Until k1 k2 →
-          Sizes slots at D n (ofPath (t .next) (capped (D ^ (n * k2))) (t .over))
-      unfolding exceedsFrom denominator
+      pub sized-until : (k1 k2 : ℕ) → nodeAt slots at ≡ Until k1 k2 → Sizes slots at D n (ofPath (t .next) k2 (t .over))
+      unfolding exceedsFrom
       sized-until k1 k2 x =
-          by-node (ofPath (t .next) (capped (D ^ (n * k2))) (t .over)) (Until k1 k2) x (omega arith) (omega arith)
+          by-node (ofPath (t .next) k2 (t .over)) (Until k1 k2) x (omega arith) (omega arith)
           (λ f q w. absurd w) (λ a q w. absurd w)
           (λ c q w.
-          let h = s .formulas (w .0) (w .1) (w .2) q (w .4) (w .5) in
-          let d = ap (λ (c : PathFormula). capped (denominator c D n)) (sym (w .3)) in
-          (h .0, h .1 ∙ ap (λ (c : PathFormula). exceedsFrom c D n) (sym (w .3)), d, d))
+          let h = s .formulas (w .0) (w .1) (w .2) q (w .4) (w .5) in (
+            h .0,
+            h .1 ∙ ap (λ (c : PathFormula). exceedsFrom c D n) (sym (w .3)),
+            ap (λ (c : PathFormula). stepsOf c) (sym (w .3)),
+          ))
 
       -- what is found of an expression that is made of two others, from its d and m
       made-of-two : (d m : ℕ) (make : Expression → Expression → Expression) →

@@ -13,18 +13,21 @@ use capped::plus;
 use capped::power;
 use capped::times;
 use capped::too_large;
+use names::how_many;
+use names::names;
 use sentence::Node;
 use sentence::Sentence;
 use sentence::Slot;
 use sentence::Wants;
 use sentence::wants_of;
 
-// What is found of a tree: where its nodes end; an expression's d and m (a path's denominator as both, 0 for a formula),
-// capped; and whether some number of the size rule is above 2^62.
+// What is found of a tree: where its nodes end; an expression's d and m, capped; a path's steps; and whether some number of the size
+// rule is above 2^62. What a tree of its kind does not have is 0.
 struct Measure {
     next: usize,
     d: u64,
     m: u64,
+    steps: u32,
     over: bool,
 }
 
@@ -38,7 +41,7 @@ struct MeasureTwo {
     over: bool,
 }
 
-// A formula, which has no d and no m: both are 0.
+// A formula, which has no d, no m and no steps.
 fn plain(next: usize, over: bool) -> Measure
     ensures { λ r. ⌜ r ≡ unmeasured next over ⌝ }
 {
@@ -46,6 +49,7 @@ fn plain(next: usize, over: bool) -> Measure
         next,
         d: 0,
         m: 0,
+        steps: 0,
         over,
     }
 }
@@ -55,7 +59,13 @@ fn judged(next: usize, d: u64, m: u64, over: bool) -> Measure
     ensures { λ r. ⌜ r ≡ measured next d m over ⌝ }
 {
     let over = over | too_large(d) | too_large(m);
-    Measure { next, d, m, over }
+    Measure {
+        next,
+        d,
+        m,
+        steps: 0,
+        over,
+    }
 }
 
 // A sum or a difference: d1 × d2 and m1 × d2 + m2 × d1.
@@ -85,14 +95,15 @@ fn crossed(t: MeasureTwo) -> Measure
     plain(t.next, t.over | too_large(first) | too_large(second))
 }
 
-// A path of a denominator; `over` is what was found of its formulas.
-fn stepped(next: usize, d: u64, over: bool) -> Measure
-    ensures { λ r. ⌜ r ≡ ofPath next d over ⌝ }
+// A path of so many steps; `over` is what was found of its formulas.
+fn stepped(next: usize, steps: u32, over: bool) -> Measure
+    ensures { λ r. ⌜ r ≡ ofPath next steps over ⌝ }
 {
     Measure {
         next,
-        d,
-        m: d,
+        d: 0,
+        m: 0,
+        steps,
         over,
     }
 }
@@ -111,23 +122,26 @@ fn constant(next: usize, top: u32, bottom: u32) -> Measure
     judged(next, bottom as u64, top as u64, false)
 }
 
-// The probability of a path: its d and m are the path's.
-fn probable(w: Measure) -> Measure
-    ensures { λ r. ⌜ r ≡ ofProbability w ⌝ }
+// The denominator of a path of so many steps in which v variables occur.
+fn denominator(base: u64, v: usize, steps: u32) -> u64
+    requires { ⌜ v ≤ 4 ⌝ }
+    ensures { λ r. ⌜ r ≡ capped (base ^ (v * steps)) ⌝ }
 {
-    judged(w.next, w.d, w.m, w.over)
+    power(base, (v as u64) * (steps as u64))
 }
 
-// The denominator of an until with a window that ends at `to`.
-fn until_denominator(base: u64, n: u64, to: u32) -> u64
-    requires { ⌜ n ≤ 4 ⌝ }
-    ensures { λ r. ⌜ r ≡ capped (base ^ (n * to)) ⌝ }
+// The probability of the path at a place: its d and m are the path's denominator, for the variables that its nodes name.
+fn probable(nodes: [Slot; 64], at: usize, w: Measure, base: u64, n: usize) -> Measure
+    requires { ⌜ (at ≤ w .next) × (w .next ≤ 64) × (n ≤ 4) ⌝ }
+    ensures { λ r. ⌜ r ≡ ofProbability nodes at w base n ⌝ }
 {
-    power(base, n * (to as u64))
+    let v = how_many(names(nodes, at, w.next), n);
+    let d = denominator(base, v, w.steps);
+    judged(w.next, d, d, w.over)
 }
 
 // What is found of two trees, one after another.
-fn operands(nodes: [Slot; 64], at: usize, base: u64, n: u64) -> MeasureTwo
+fn operands(nodes: [Slot; 64], at: usize, base: u64, n: usize) -> MeasureTwo
     requires { ⌜ (at ≤ 64) × (n ≤ 4) ⌝ }
     ensures { λ r. ⌜ SizesTwo nodes at base n r ⌝ }
 {
@@ -159,22 +173,22 @@ fn of_none(node: Node, at: usize) -> Measure
     }
 }
 
-// What is found of a node that wants one thing, from what is found of that. Unspecified for other nodes.
-fn of_one(node: Node, t: Measure, base: u64, n: u64) -> Measure
-    ensures { λ r. ⌜ OfOne node t base n r ⌝ }
+// What is found of the node at a place that wants one thing, from what is found of that. Unspecified for other nodes.
+fn of_one(nodes: [Slot; 64], at: usize, node: Node, t: Measure, base: u64, n: usize) -> Measure
+    requires { ⌜ (at + 1 ≤ t .next) × (t .next ≤ 64) × (n ≤ 4) ⌝ }
+    ensures { λ r. ⌜ OfOne nodes at node t base n r ⌝ }
 {
     match node {
         Node::Not => t,
-        Node::Probability => probable(t),
-        Node::Next => stepped(t.next, power(base, n), t.over),
+        Node::Probability => probable(nodes, at + 1, t, base, n),
+        Node::Next => stepped(t.next, 1, t.over),
         _ => t,
     }
 }
 
 // What is found of a node that wants two things, from what is found of both. Unspecified for other nodes.
-fn of_two(node: Node, t: MeasureTwo, base: u64, n: u64) -> Measure
-    requires { ⌜ n ≤ 4 ⌝ }
-    ensures { λ r. ⌜ OfTwo node t base n r ⌝ }
+fn of_two(node: Node, t: MeasureTwo) -> Measure
+    ensures { λ r. ⌜ OfTwo node t r ⌝ }
 {
     match node {
         Node::And => joined(t),
@@ -182,14 +196,14 @@ fn of_two(node: Node, t: MeasureTwo, base: u64, n: u64) -> Measure
         Node::Sum => added(t),
         Node::Difference => added(t),
         Node::Product => multiplied(t),
-        Node::Until { from: _, to } => stepped(t.next, until_denominator(base, n, to), t.over),
+        Node::Until { from: _, to } => stepped(t.next, to, t.over),
         _ => joined(t),
     }
 }
 
 // What is found of the tree at a place, for D = `base` and n variables, by what its node wants. Where no tree stands only the
 // bounds of `next` hold.
-fn size_at(nodes: [Slot; 64], at: usize, base: u64, n: u64) -> Measure
+fn size_at(nodes: [Slot; 64], at: usize, base: u64, n: usize) -> Measure
     requires { ⌜ (at ≤ 64) × (n ≤ 4) ⌝ }
     ensures { λ r. ⌜ Sizes nodes at base n r ⌝ }
 {
@@ -201,8 +215,11 @@ fn size_at(nodes: [Slot; 64], at: usize, base: u64, n: u64) -> Measure
     let wants = wants_of(node);
     match wants {
         Wants::Nothing => of_none(node, at),
-        Wants::One(_) => of_one(node, size_at(nodes, at + 1, base, n), base, n),
-        Wants::Two(_) => of_two(node, operands(nodes, at + 1, base, n), base, n),
+        Wants::One(_) => {
+            let t = size_at(nodes, at + 1, base, n);
+            of_one(nodes, at, node, t, base, n)
+        }
+        Wants::Two(_) => of_two(node, operands(nodes, at + 1, base, n)),
     }
 }
 
@@ -213,6 +230,6 @@ pub fn exceeds(s: Sentence, d: u64, n: usize) -> bool
     ensures { λ r. ⌜ ((f : Formula) (q : ℕ) → FormulaAt (s .nodes) 0 f q → r ≡ exceedsRule f d n) ⌝ }
 {
     let nodes = s.nodes;
-    let found = size_at(nodes, 0, d, n as u64);
+    let found = size_at(nodes, 0, d, n);
     found.over
 }

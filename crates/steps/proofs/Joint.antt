@@ -1,20 +1,23 @@
--- A step of one variable means `stepOne`, and one variable after another, the last first, is the joint step.
-use Prim.Native.Nat.{ℕ, suc, _+_, _*_, _-_, _/_, _%_, _^_, _≤_, _<_}
-use mathlib.Core.List.{List}
+-- A step of one variable means `stepOne`, and one of those that move after another, the last first, is their joint step.
+use Prim.Native.Nat.{ℕ, zero, suc, _+_, _*_, _-_, _/_, _%_, _^_, _≤_, _<_}
+use mathlib.Core.Bool.{Bool, true, false}
+use mathlib.Core.List.{List, [], _∷_}
 use mathlib.Core.Path.{_≡_, refl, sym, ap, ap₂, subst, _∙_}
-use native.Mathlib.Nat.{mod-lt, pow-suc, pow-succ', pow-zero, pow-le-pow-right, mul-le-mul-right}
+use native.Mathlib.Nat.{mod-lt, pow-suc, pow-succ', pow-zero, pow-le-pow-right, mul-le-mul-right, le-refl}
 use native.Mathlib.Numerals.{add-one}
 use native.Mathlib.Omega.{arith}
-use lib.ListN.{length, getD, set}
+use lib.ListN.{length, getD, set, take, drop, drop-of-length-le}
+use lib.Seq.{drop-cons, getD-take}
 use Rattle.counting.specs.Below.{sumBelow}
 use Rattle.counting.proofs.Laws.{sum-same}
 use Rattle.meaning.specs.Lists.{below, total}
 use Rattle.meaning.specs.Chain.{Chain, Sound, Tuple, Inside}
+use Rattle.meaning.specs.Named.{Some, count}
 use Rattle.meaning.proofs.Single.{stepOne, stepFrom, stepOne-at, stepFrom-joint}
 use Rattle.meaning.proofs.Numbers.{tupleOf, tuple-inside, each-length}
 use Rattle.layers.specs.Layers.{Layer, RestKept}
 use Rattle.counting.specs.Entries.{cell}
-use Rattle.steps.specs.Columns.{start, LayerFits, LayerStepped}
+use Rattle.steps.specs.Columns.{start, LayerFits, LayerStepped, LayerMoved}
 use Rattle.layers.specs.Held.{Holds, LayerSizes}
 use Rattle.steps.specs.Steps.{StepFits, Stepped}
 use Rattle.steps.proofs.Columns.{columnOf, start-split, start-column, place-below, column-below}
@@ -90,39 +93,71 @@ scaled D m bound =
     let e : D ^ suc m * bound ≡ D * D ^ m * bound = ap (λ (x : ℕ). x * bound) (pow-succ' D m) in
     omega arith
 
--- the last m variables have stepped
-pub record Stepping (rows : List (List ℕ)) (N n T : ℕ) (before : List ℕ) (m stride : ℕ) (after : List ℕ) : Type 0 where
+-- whether the variable with m after it is one of the first n that move
+pub is-moving : {n m : ℕ} (moving : Some) → m < n → getD (take n moving) (n - suc m) false ≡ getD moving (n - suc m) false
+is-moving {n} {m} moving less = getD-take n moving (n - suc m) false (omega arith)
+
+-- no more of the last variables than of all
+count-drop : (bs : Some) (k : ℕ) → count (drop k bs) ≤ count bs
+unfolding count
+count-drop bs zero = le-refl (count bs)
+count-drop [] (suc k) = le-refl 0
+count-drop (true ∷ bs) (suc k) = let r = count-drop bs k in omega arith
+count-drop (false ∷ bs) (suc k) = count-drop bs k
+
+-- those of the last m variables that move have stepped
+pub record Stepping (rows : List (List ℕ)) (N n : ℕ) (those : Some) (T : ℕ) (before : List ℕ) (m stride : ℕ) (after : List ℕ) : Type 0 where
   pub upTo : m ≤ n
   pub strided : stride ≡ N ^ m
   pub each : (c : Chain) → Holds c rows N → (f : Tuple → ℕ) → Layer N n f before →
-      Layer N n (λ s. stepFrom c (n - m) m f s) after
+      Layer N n (λ s. stepFrom c (n - m) (drop (n - m) those) f s) after
   pub small : (D bound : ℕ) → ((s : ℕ) → s < N → sumBelow N (cell rows s) ≡ D) →
-      ((k : ℕ) → k < T → getD before k 0 ≤ bound) → (k : ℕ) → k < T → getD after k 0 ≤ D ^ m * bound
+      ((k : ℕ) → k < T → getD before k 0 ≤ bound) → (k : ℕ) → k < T → getD after k 0 ≤ D ^ count (drop (n - m) those) * bound
   pub kept : RestKept T before after
 
-module _ {rows : List (List ℕ)} {N n T : ℕ} {before : List ℕ} where
+module _ {rows : List (List ℕ)} {N n T : ℕ} {those : Some} {before : List ℕ} where
   -- before the first turn
-  pub stepping-none : Stepping rows N n T before 0 1 before
-  unfolding stepFrom
-  stepping-none = record {
+  pub stepping-none : length those ≡ n → Stepping rows N n those T before 0 1 before
+  unfolding stepFrom count
+  stepping-none every = record {
     upTo = omega arith;
     strided = sym (pow-zero N);
-    each = λ c h f layer. record { at = layer .at };
+    each = λ c h f layer. record {
+      at = λ k l. layer .at k l ∙ ap (λ (bs : Some). stepFrom c (n - 0) bs f (tupleOf N n k)) (sym none);
+    };
     small = λ D bound sums small k l.
-        let e : D ^ 0 * bound ≡ bound = ap (λ (x : ℕ). x * bound) (pow-zero D) ∙ omega arith in
+        let e : D ^ count (drop (n - 0) those) * bound ≡ bound =
+        ap (λ (bs : Some). D ^ count bs * bound) none ∙ ap (λ (x : ℕ). x * bound) (pow-zero D) ∙ omega arith in
         omega (arith, small k l);
     kept = record { long = refl; rest = refl };
   }
+    where
+      none : drop (n - 0) those ≡ []
+      none = drop-of-length-le those {i = n - 0} (omega (arith, every))
 
-  module _ (fits : StepFits rows N n T before) {m stride : ℕ} {after : List ℕ}
-      (h : Stepping rows N n T before m stride after) (less : m < n) where
+  module _ (fits : StepFits rows N n those T before) {m stride : ℕ} {after : List ℕ}
+      (h : Stepping rows N n those T before m stride after) (less : m < n) where
     -- the variable in this place has the stride
     at-stride : stride ≡ N ^ (n - suc (n - suc m))
     at-stride = h .strided ∙ ap (λ (x : ℕ). N ^ x) (omega arith)
 
+    -- the next variable, and those after it
+    and-after : (b : Bool) → getD those (n - suc m) false ≡ b → drop (n - suc m) those ≡ b ∷ drop (n - m) those
+    and-after b e =
+        let after-it : suc (n - suc m) ≡ n - m = omega arith in
+        drop-cons those (n - suc m) false (omega (arith, fits .each)) ∙
+        ap₂ (λ (x : Bool) (k : ℕ). x ∷ drop k those) e after-it
+
+    -- one factor more, if it moves
+    more-power : (D bound : ℕ) → getD those (n - suc m) false ≡ true →
+        D * (D ^ count (drop (n - m) those) * bound) ≡ D ^ count (drop (n - suc m) those) * bound
+    unfolding count
+    more-power D bound e =
+        scaled D (count (drop (n - m) those)) bound ∙ ap (λ (bs : Some). D ^ count bs * bound) (sym (and-after true e))
+
     -- what a step of one variable asks
-    pub layer-fits : LayerFits rows N stride T after
-    layer-fits = record {
+    pub layer-fits : getD those (n - suc m) false ≡ true → LayerFits rows N stride T after
+    layer-fits e = record {
       some = fits .sizes .some;
       states = fits .sizes .states;
       apart = subst (λ (x : ℕ). 1 ≤ x) (sym (h .strided)) (pow-some N m (fits .sizes .some));
@@ -133,13 +168,13 @@ module _ {rows : List (List ℕ)} {N n T : ℕ} {before : List ℕ} where
           ap (λ (x : ℕ). N ^ (n - suc m) * N * x) (sym at-stride);
       few = fits .sizes .few;
       room = omega (arith, fits .room, h .kept .long);
-      bound = fits .chain .D ^ m * fits .bound;
+      bound = fits .chain .D ^ count (drop (n - m) those) * fits .bound;
       small = h .small (fits .chain .D) (fits .bound) (row-sum (fits .holds)) (fits .small);
       fits = λ s l.
           let D = fits .chain .D in
-          let e = ap (λ (x : ℕ). x * (D ^ m * fits .bound)) (row-sum (fits .holds) s l) in
-          let p = scaled D m (fits .bound) in
-          let q = mul-le-mul-right (fits .bound) (pow-le-pow-right (fits .weighed) {i = suc m} {j = n} less) in
+          let f = ap (λ (x : ℕ). x * (D ^ count (drop (n - m) those) * fits .bound)) (row-sum (fits .holds) s l) in
+          let p = more-power D (fits .bound) e in
+          let q = mul-le-mul-right (fits .bound) (pow-le-pow-right (fits .weighed) (count-drop those (n - suc m))) in
           omega (arith, fits .fits);
     }
 
@@ -149,47 +184,84 @@ module _ {rows : List (List ℕ)} {N n T : ℕ} {before : List ℕ} where
         let e : stride * N ≡ N ^ suc m = ap (λ (x : ℕ). x * N) (h .strided) ∙ sym (pow-suc N m) in
         omega (arith, fits .sizes .whole, pow-le-pow-right (fits .sizes .some) {i = suc m} {j = n} less)
 
-    -- one variable more
-    pub stepping-next : {now : List ℕ} → LayerStepped rows N stride T after now →
-        Stepping rows N n T before (m + 1) (stride * N) now
-    unfolding stepFrom
-    stepping-next {now} one = record {
+    -- the stride after this one
+    strided-next : stride * N ≡ N ^ (m + 1)
+    strided-next = ap (λ (x : ℕ). x * N) (h .strided) ∙ sym (pow-suc N m) ∙ ap (λ (x : ℕ). N ^ x) (sym (add-one m))
+
+    -- one variable more, from what the layer and its numbers are with it
+    one-more : {now : List ℕ} (b : Bool) → getD those (n - suc m) false ≡ b →
+        ((c : Chain) → Holds c rows N → (f : Tuple → ℕ) → Layer N n f before →
+        Layer N n (λ s. stepFrom c (n - suc m) (b ∷ drop (n - m) those) f s) now) →
+        ((D bound : ℕ) → ((s : ℕ) → s < N → sumBelow N (cell rows s) ≡ D) → ((k : ℕ) → k < T → getD before k 0 ≤ bound) →
+        (k : ℕ) → k < T → getD now k 0 ≤ D ^ count (b ∷ drop (n - m) those) * bound) →
+        RestKept T after now → Stepping rows N n those T before (m + 1) (stride * N) now
+    one-more {now} b e each small kept = record {
       upTo = omega arith;
-      strided = ap (λ (x : ℕ). x * N) (h .strided) ∙ sym (pow-suc N m) ∙ ap (λ (x : ℕ). N ^ x) (sym (add-one m));
+      strided = strided-next;
       each = λ c held f layer.
-          subst (λ (x : ℕ). Layer N n (λ s. stepFrom c (n - x) x f s) now) (sym (add-one m))
-          (subst (λ (x : ℕ). Layer N n (stepOne c (n - suc m) (λ s. stepFrom c x m f s)) now) (omega arith)
-          (one-layer n (n - suc m) (fits .sizes .some) (fits .sizes .whole) (omega arith) placed c held
-          (λ s. stepFrom c (n - m) m f s) (h .each c held f layer)));
-      small = λ D bound sums small k l.
-          let p = scaled D m bound in
-          let e : D ^ (m + 1) * bound ≡ D ^ suc m * bound = ap (λ (x : ℕ). D ^ x * bound) (add-one m) in
-          omega (
-            arith,
-            one-small n (n - suc m) (fits .sizes .some) (fits .sizes .whole) (omega arith) placed D (D ^ m * bound) sums
-                (h .small D bound sums small) k l,
-          );
+          subst (λ (x : ℕ). Layer N n (λ s. stepFrom c (n - x) (drop (n - x) those) f s) now) (sym (add-one m))
+          (subst (λ (bs : Some). Layer N n (λ s. stepFrom c (n - suc m) bs f s) now) (sym (and-after b e)) (each c held f layer));
+      small = λ D bound sums few k l.
+          subst (λ (x : ℕ). getD now k 0 ≤ D ^ count (drop (n - x) those) * bound) (sym (add-one m))
+          (subst (λ (bs : Some). getD now k 0 ≤ D ^ count bs * bound) (sym (and-after b e)) (small D bound sums few k l));
       kept = record {
-        long = one .kept .long ∙ h .kept .long;
-        rest = one .kept .rest ∙ h .kept .rest;
+        long = kept .long ∙ h .kept .long;
+        rest = kept .rest ∙ h .kept .rest;
       };
     }
+
+    -- the variable moves
+    stepping-moved : {now : List ℕ} → getD those (n - suc m) false ≡ true → LayerStepped rows N stride T after now →
+        Stepping rows N n those T before (m + 1) (stride * N) now
+    unfolding stepFrom count
+    stepping-moved {now} e one =
+        one-more true e
+        (λ c held f layer.
+        subst (λ (x : ℕ). Layer N n (stepOne c (n - suc m) (λ s. stepFrom c x (drop (n - m) those) f s)) now) (omega arith)
+        (one-layer n (n - suc m) (fits .sizes .some) (fits .sizes .whole) (omega arith) placed c held
+        (λ s. stepFrom c (n - m) (drop (n - m) those) f s) (h .each c held f layer)))
+        (λ D bound sums small k l.
+        let p = scaled D (count (drop (n - m) those)) bound in
+        omega (
+          arith,
+          one-small n (n - suc m) (fits .sizes .some) (fits .sizes .whole) (omega arith) placed D
+              (D ^ count (drop (n - m) those) * bound) sums (h .small D bound sums small) k l,
+        ))
+        (one .kept)
       where
         placed : LayerStepped rows N (N ^ (n - suc (n - suc m))) T after now
         placed = subst (λ (x : ℕ). LayerStepped rows N x T after now) at-stride one
 
+    -- it stays
+    stepping-stayed : {now : List ℕ} → getD those (n - suc m) false ≡ false → now ≡ after →
+        Stepping rows N n those T before (m + 1) (stride * N) now
+    unfolding stepFrom count
+    stepping-stayed {now} e same =
+        subst (λ (l : List ℕ). Stepping rows N n those T before (m + 1) (stride * N) l) (sym same)
+        (one-more false e
+        (λ c held f layer.
+        subst (λ (x : ℕ). Layer N n (λ s. stepFrom c x (drop (n - m) those) f s) after) (omega arith) (h .each c held f layer))
+        (λ D bound sums small k l. h .small D bound sums small k l)
+        (record { long = refl; rest = refl }))
+
+    -- one variable more
+    pub stepping-next : {now : List ℕ} {b : Bool} → b ≡ getD those (n - suc m) false → LayerMoved b rows N stride T after now →
+        Stepping rows N n those T before (m + 1) (stride * N) now
+    stepping-next {b = true} e one = stepping-moved (sym e) (one .moved refl)
+    stepping-next {b = false} e one = stepping-stayed (sym e) (one .stayed refl)
+
   -- after the last turn the joint step has been made
-  pub stepping-all : {m stride : ℕ} {after : List ℕ} → LayerSizes N n T → Stepping rows N n T before m stride after → n ≤ m →
-      Stepped rows N n T before after
-  stepping-all {m} sizes h done = record {
+  pub stepping-all : {m stride : ℕ} {after : List ℕ} → LayerSizes N n T → length those ≡ n →
+      Stepping rows N n those T before m stride after → n ≤ m → Stepped rows N n those T before after
+  stepping-all {m} sizes every h done = record {
     each = λ c held f layer. record {
       at = λ k l.
-          let e : m ≡ n = omega arith in
-          let e′ : n - m ≡ 0 = omega arith in
+          let e : n - m ≡ 0 = omega arith in
           h .each c held f layer .at k l ∙
-          ap₂ (λ (x y : ℕ). stepFrom c x y f (tupleOf N n k)) e′ e ∙
-          stepFrom-joint c
-          (subst (λ (x : ℕ). Inside x n (tupleOf N n k)) (sym (held .states)) (tuple-inside N n k l)) f;
+          ap (λ (x : ℕ). stepFrom c x (drop x those) f (tupleOf N n k)) e ∙
+          stepFrom-joint c those
+          (subst (λ (x : ℕ). Inside x (length those) (tupleOf N n k)) (sym (held .states))
+          (subst (λ (x : ℕ). Inside N x (tupleOf N n k)) (sym every) (tuple-inside N n k l))) f;
     };
     kept = h .kept;
   }

@@ -3,6 +3,7 @@
 -- One variable's step at list level: the numbers of the tuples that differ in that variable alone are a column, N
 -- places `stride` apart.
 use Prim.Native.Nat.{ℕ, _+_, _*_, _/_, _%_, _≤_, _<_}
+use mathlib.Core.Bool.{Bool, true, false}
 use mathlib.Core.List.{List}
 use mathlib.Core.Path.{_≡_}
 use lib.ListN.{length, getD}
@@ -61,3 +62,8 @@ pub record LayerFits (rows : List (List ℕ)) (N stride T : ℕ) (w : List ℕ) 
 pub record LayerStepped (rows : List (List ℕ)) (N stride T : ℕ) (before after : List ℕ) : Type 0 where
   pub each : (k : ℕ) → k < T → getD after k 0 ≡ stepped rows N stride before (start N stride k) (k / stride % N)
   pub kept : RestKept T before after
+
+-- every column has been stepped, if the variable moves; else nothing has changed
+pub record LayerMoved (moves : Bool) (rows : List (List ℕ)) (N stride T : ℕ) (before after : List ℕ) : Type 0 where
+  pub moved : moves ≡ true → LayerStepped rows N stride T before after
+  pub stayed : moves ≡ false → after ≡ before

@@ -1,13 +1,14 @@
-// A joint step of a layer in place, one variable after another: n × N products a tuple, or n times as many as a row has
-// weights that are not 0, where each has few.
+// A joint step of some variables of a layer in place, one after another: for v of them v × N products a tuple, or v times as many
+// as a row has weights that are not 0, where each has few. The other variables stay.
 pub mod sparse;
 
 ghost use mathlib.Core.Path.{_≡_};
-ghost use Prim.Native.Nat.{_*_, _<_};
-ghost use lib.ListN.{length};
-ghost use Rattle.layers.specs.Held.{mostStates};
+ghost use mathlib.Core.Bool.{true, false};
+ghost use Prim.Native.Nat.{suc, _*_, _-_, _≤_, _<_};
+ghost use lib.ListN.{length, getD, take};
+ghost use Rattle.layers.specs.Held.{mostStates, mostVariables};
 ghost use Rattle.steps.specs.Sparse.{RowsNamed};
-ghost use Rattle.steps.specs.Columns.{ColumnIn, ColumnRead, ColumnFits, ColumnStepped, LayerFits, LayerStepped};
+ghost use Rattle.steps.specs.Columns.{ColumnIn, ColumnRead, ColumnFits, ColumnStepped, LayerFits, LayerStepped, LayerMoved};
 ghost use Rattle.steps.specs.Steps.{StepFits, Stepped};
 use layers::STATES;
 use sparse::PLACES;
@@ -83,41 +84,72 @@ fn step_variable(
     }
 }
 
-// A joint step by the places that name the rows' weights: all n variables step, the last first.
+// Steps one variable, if it moves.
+fn step_if(
+    moves: bool,
+    rows: &[[u16; STATES]; STATES],
+    places: &[[u8; PLACES]; STATES],
+    most: usize,
+    states: usize,
+    stride: usize,
+    tuples: usize,
+    layer: &mut [u64],
+)
+    requires { ⌜ (moves ≡ true → LayerFits (now rows) states stride tuples (now layer)) × RowsNamed (now rows) states most (now places) ⌝ }
+    ensures { λ r. ⌜ LayerMoved moves (now (rows .entry)) states stride tuples (now (layer .entry)) (now (layer .exit)) ⌝ }
+{
+    if moves {
+        step_variable(rows, places, most, states, stride, tuples, layer);
+    }
+}
+
+// Whether the variable that has m variables after it moves.
+fn moves(moving: [bool; 4], variables: usize, m: usize) -> bool
+    requires { ⌜ (m < variables) × (variables ≤ mostVariables) ⌝ }
+    ensures { λ r. ⌜ r ≡ getD moving (variables - suc m) false ⌝ }
+{
+    moving[variables - m - 1]
+}
+
+// A joint step by the places that name the rows' weights: the variables that move step, the last first.
 pub fn joint_named(
     rows: &[[u16; STATES]; STATES],
     places: &[[u8; PLACES]; STATES],
     most: usize,
     states: usize,
+    moving: [bool; 4],
     variables: usize,
     tuples: usize,
     work: &mut [u64],
 )
-    requires { ⌜ StepFits (now rows) states variables tuples (now work) × RowsNamed (now rows) states most (now places) ⌝ }
-    ensures { λ r. ⌜ Stepped (now (rows .entry)) states variables tuples (now (work .entry)) (now (work .exit)) ⌝ }
+    requires { ⌜ StepFits (now rows) states variables (take variables moving) tuples (now work) ×
+        RowsNamed (now rows) states most (now places) ⌝ }
+    ensures { λ r. ⌜ Stepped (now (rows .entry)) states variables (take variables moving) tuples (now (work .entry)) (now (work .exit)) ⌝ }
 {
     let mut stride: usize = 1;
     let mut m: usize = 0;
     while m < variables {
-        step_variable(rows, places, most, states, stride, tuples, work);
+        let steps = moves(moving, variables, m);
+        step_if(steps, rows, places, most, states, stride, tuples, work);
         stride = stride * states;
         m += 1;
     }
 }
 
-// A joint step. The layer of a function becomes the layer of its step; from a formula's truth it is the numerator of
-// next.
+// A joint step of the variables that move. The layer of a function becomes the layer of its step; from a formula's truth it is the
+// numerator of next.
 pub fn joint_step(
     rows: &[[u16; STATES]; STATES],
     states: usize,
+    moving: [bool; 4],
     variables: usize,
     tuples: usize,
     work: &mut [u64],
 )
-    requires { ⌜ StepFits (now rows) states variables tuples (now work) ⌝ }
-    ensures { λ r. ⌜ Stepped (now (rows .entry)) states variables tuples (now (work .entry)) (now (work .exit)) ⌝ }
+    requires { ⌜ StepFits (now rows) states variables (take variables moving) tuples (now work) ⌝ }
+    ensures { λ r. ⌜ Stepped (now (rows .entry)) states variables (take variables moving) tuples (now (work .entry)) (now (work .exit)) ⌝ }
 {
     let mut places = [[0u8; PLACES]; STATES];
     let most = sparse::name_rows(rows, states, &mut places);
-    joint_named(rows, &places, most, states, variables, tuples, work);
+    joint_named(rows, &places, most, states, moving, variables, tuples, work);
 }

@@ -3,6 +3,7 @@ pub mod Exists
 pub mod Once
 pub mod Stretch
 pub mod Cases
+pub mod Parts
 pub mod Numbered
 pub mod Ranges
 pub mod Needs

@@ -8,6 +8,7 @@ use native.Mathlib.Omega.{arith}
 use lib.ListN.{getD, drop}
 use Rattle.meaning.specs.Chain.{Chain, Tuple}
 use Rattle.meaning.specs.Tree.{Formula, next, until}
+use Rattle.meaning.specs.Named.{named, v}
 use Rattle.meaning.specs.Meaning.{holds, numerator}
 use Rattle.meaning.proofs.Numbers.{tupleOf}
 use Rattle.meaning.proofs.Until.{numerator-next}
@@ -27,8 +28,8 @@ truth-small {N} {n} p h k l = le-trans (le-of-eq (h .at k l)) (small (p (tupleOf
 
 module _ {rows : List (List ℕ)} {N n T : ℕ} {before after : List ℕ} {c : Chain} (held : Holds c rows N) (f : Formula)
     (one : Layer N n (truth (λ t. holds f c n t)) before) where
-  -- the numerator of next is a joint step of its formula's truth
-  pub next-layer : Stepped rows N n T before after → Layer N n (numerator (next f) c n) after
+  -- the numerator of next is a step of its formula's truth by the variables that it names
+  pub next-layer : Stepped rows N n (named (next f) n) T before after → Layer N n (numerator (next f) c n) after
   next-layer stepped = record {
     at = λ k l.
         stepped .each c held (truth (λ t. holds f c n t)) one .at k l ∙ sym (numerator-next f c n (tupleOf N n k));
@@ -36,6 +37,6 @@ module _ {rows : List (List ℕ)} {N n T : ℕ} {before after : List ℕ} {c : C
 
   -- the numerator of until
   pub until-layer : {d k1 k2 : ℕ} (g : Formula) → Layer N n (truth (λ t. holds g c n t)) (drop T before) → c .D ≡ d →
-      UntilTaken rows N n T d k1 k2 before after → Layer N n (numerator (until k1 k2 f g) c n) after
-  unfolding numerator
+      UntilTaken rows N n (named (until k1 k2 f g) n) T d k1 k2 before after → Layer N n (numerator (until k1 k2 f g) c n) after
+  unfolding numerator v
   until-layer g two sums taken = taken .each c held sums (λ t. holds f c n t) (λ t. holds g c n t) one two

@@ -8,12 +8,13 @@ use mathlib.Core.Path.{_≡_}
 use lib.Dec.{eqb}
 use lib.ListN.{length, getD, drop}
 use Rattle.meaning.specs.Chain.{Chain, Tuple}
-use Rattle.meaning.specs.Meaning.{untilTakes, takenWeight}
+use Rattle.meaning.specs.Named.{Some, count, chosen}
+use Rattle.meaning.specs.Meaning.{untilTakes, takenWeight, beside}
 use Rattle.meaning.proofs.Numbers.{tupleOf}
-use Rattle.meaning.proofs.Steps.{step}
+use Rattle.meaning.proofs.Steps.{steps}
 use Rattle.meaning.specs.Size.{sizeLimit}
 use Rattle.layers.specs.Layers.{Layer, truth, RestKept}
-use Rattle.layers.specs.Held.{Holds, LayerSizes}
+use Rattle.layers.specs.Held.{mostVariables, Holds, LayerSizes}
 use Rattle.steps.specs.Steps.{StepFits}
 
 -- all runs where the window is open and the second formula is met; else the number that stands, where the first is met
@@ -25,23 +26,23 @@ abbrev pub choiceAt : (opened : Bool) → (all T : ℕ) → List ℕ → ℕ →
 choiceAt opened all T w k = choice opened all (getD w k 0) (getD w (T + k) 0) (getD w (T + T + k) 0)
 
 -- there are three layers, and the third can be stepped
-pub record TurnFits (rows : List (List ℕ)) (N n T : ℕ) (w : List ℕ) : Type 0 where
+pub record TurnFits (rows : List (List ℕ)) (N n : ℕ) (those : Some) (T : ℕ) (w : List ℕ) : Type 0 where
   pub room : T + T + T ≤ length w
-  pub step : StepFits rows N n T (drop (T + T) w)
+  pub step : StepFits rows N n those T (drop (T + T) w)
 
 -- the third layer has been stepped, and then the choice made by the first two; no other number has changed
-pub record Turned (rows : List (List ℕ)) (N n T : ℕ) (opened : Bool) (all : ℕ) (before after : List ℕ) : Type 0 where
+pub record Turned (rows : List (List ℕ)) (N n : ℕ) (those : Some) (T : ℕ) (opened : Bool) (all : ℕ) (before after : List ℕ) : Type 0 where
   pub long : length after ≡ length before
   pub low : (k : ℕ) → k < T + T → getD after k 0 ≡ getD before k 0
   pub high : (k : ℕ) → T + T + T ≤ k → getD after k 0 ≡ getD before k 0
   pub each : (c : Chain) → Holds c rows N → (f : Tuple → ℕ) → Layer N n f (drop (T + T) before) →
       (k : ℕ) → k < N ^ n →
       getD after (T + T + k) 0 ≡
-      choice opened all (getD before k 0) (getD before (T + k) 0) (step c n f (tupleOf N n k))
+      choice opened all (getD before k 0) (getD before (T + k) 0) (steps c those f (tupleOf N n k))
 
--- the matrix holds a chain with this D, there are three layers, the second holds ones and zeros, and the denominator is
--- at most 2^62
-pub record UntilFits (rows : List (List ℕ)) (N n T d k1 k2 : ℕ) (w : List ℕ) : Type 0 where
+-- the matrix holds a chain with this D, v of the n variables move, there are three layers, the second holds ones and zeros, and the
+-- denominator is at most 2^62
+pub record UntilFits (rows : List (List ℕ)) (N n : ℕ) (those : Some) (v T d k1 k2 : ℕ) (w : List ℕ) : Type 0 where
   pub chain : Chain
   pub holds : Holds chain rows N
   pub weighed : 1 ≤ d
@@ -50,12 +51,16 @@ pub record UntilFits (rows : List (List ℕ)) (N n T d k1 k2 : ℕ) (w : List �
   pub room : T + T + T ≤ length w
   pub ones : (k : ℕ) → k < T → getD w (T + k) 0 ≤ 1
   pub window : k1 ≤ k2
-  pub fits : d ^ (n * k2) ≤ sizeLimit
+  pub few : n ≤ mostVariables
+  pub each : length those ≡ n
+  pub counted : v ≡ count those
+  pub fits : d ^ (count those * k2) ≤ sizeLimit
 
--- where the two layers held the truth of two formulas, the front layer holds the total weight of the runs that their
+-- where the two layers held the truth of two formulas, the front layer holds the total weight of the runs of those variables that their
 -- until takes; the second and the third may have changed, and what lies past them has stayed
-pub record UntilTaken (rows : List (List ℕ)) (N n T d k1 k2 : ℕ) (before after : List ℕ) : Type 0 where
+pub record UntilTaken (rows : List (List ℕ)) (N n : ℕ) (those : Some) (T d k1 k2 : ℕ) (before after : List ℕ) : Type 0 where
   pub each : (c : Chain) → Holds c rows N → c .D ≡ d → (first second : Tuple → Bool) →
       Layer N n (truth first) before → Layer N n (truth second) (drop T before) →
-      Layer N n (takenWeight c n k2 (untilTakes first second k1 k2)) after
+      Layer N n
+      (λ s. takenWeight c (count those) k2 (untilTakes (beside those s first) (beside those s second) k1 k2) (chosen those s)) after
   pub kept : RestKept (T + T + T) before after

@@ -2,7 +2,7 @@
 ghost use mathlib.Core.Path.{_≡_};
 ghost use mathlib.Core.Logic.{_⊎_};
 ghost use Prim.Native.Nat.{_+_, _≤_, _<_};
-ghost use lib.ListN.{length, getD};
+ghost use lib.ListN.{length, getD, take};
 ghost use Rattle.layers.specs.Layers.{WrittenAt};
 ghost use Rattle.steps.specs.Sparse.{RowsNamed};
 ghost use Rattle.untils.specs.Untils.{choice, choiceAt, TurnFits, Turned, UntilFits, UntilTaken};
@@ -63,14 +63,17 @@ fn turn(
     places: &[[u8; PLACES]; STATES],
     most: usize,
     states: usize,
+    moving: [bool; 4],
     variables: usize,
     opened: bool,
     all: u64,
     tuples: usize,
     work: &mut [u64],
 )
-    requires { ⌜ TurnFits (now rows) states variables tuples (now work) × RowsNamed (now rows) states most (now places) ⌝ }
-    ensures { λ r. ⌜ Turned (now (rows .entry)) states variables tuples opened all (now (work .entry)) (now (work .exit)) ⌝ }
+    requires { ⌜ TurnFits (now rows) states variables (take variables moving) tuples (now work) ×
+        RowsNamed (now rows) states most (now places) ⌝ }
+    ensures { λ r. ⌜ Turned (now (rows .entry)) states variables (take variables moving) tuples opened all
+        (now (work .entry)) (now (work .exit)) ⌝ }
 {
     let from = tuples + tuples;
     joint_named(
@@ -78,6 +81,7 @@ fn turn(
         places,
         most,
         states,
+        moving,
         variables,
         tuples,
         &mut work[from..],
@@ -85,21 +89,24 @@ fn turn(
     choose(opened, all, tuples, work);
 }
 
-// The numerator of until with window k1..k2 at all tuples. The front layer holds the truth of the first formula, the
-// second that of the second. The third counts, by steps left, the weight of the runs taken: with none left, where the
-// second formula is met; with one more, by a joint step and the choice. At last it is copied to the front.
+// The numerator of until with window k1..k2 at all tuples, by runs of the variables that move, `count` of them. The front layer holds
+// the truth of the first formula, the second that of the second. The third counts, by steps left, the weight of the runs taken: with
+// none left, where the second formula is met; with one more, by a joint step and the choice. At last it is copied to the front.
 pub fn until(
     rows: &[[u16; STATES]; STATES],
     states: usize,
+    moving: [bool; 4],
     variables: usize,
+    count: usize,
     d: u64,
     k1: usize,
     k2: usize,
     tuples: usize,
     work: &mut [u64],
 )
-    requires { ⌜ UntilFits (now rows) states variables tuples d k1 k2 (now work) ⌝ }
-    ensures { λ r. ⌜ UntilTaken (now (rows .entry)) states variables tuples d k1 k2 (now (work .entry)) (now (work .exit)) ⌝ }
+    requires { ⌜ UntilFits (now rows) states variables (take variables moving) count tuples d k1 k2 (now work) ⌝ }
+    ensures { λ r. ⌜ UntilTaken (now (rows .entry)) states variables (take variables moving) tuples d k1 k2
+        (now (work .entry)) (now (work .exit)) ⌝ }
 {
     let mut places = [[0u8; PLACES]; STATES];
     let most = name_rows(rows, states, &mut places);
@@ -108,12 +115,13 @@ pub fn until(
     let mut left: usize = 0;
     while left < k2 {
         let next = left + 1;
-        all = scaled(all, d, variables);
+        all = scaled(all, d, count);
         turn(
             rows,
             &places,
             most,
             states,
+            moving,
             variables,
             k1 <= k2 - next,
             all,

@@ -1,4 +1,4 @@
-//! The document's examples on both sides, with the numbers that it gives.
+//! The document's examples on both sides, with the numbers that it gives, or T-02 where only some variables are named.
 
 use super::{agree, shown_text, Library, Models, Questions};
 use crate::inputs::model::file_of;
@@ -66,7 +66,8 @@ fn numerator_lines<L: Questions>(lib: &L) {
     fraction(lib, &m1(), "PU0,31:Ta1", &[1], (1 << 62, 1 << 62));
     fraction(lib, &m1(), "PU0,31:Ta1", &[0], ((1 << 62) - 3u64.pow(31), 1 << 62));
     fraction(lib, &still(2, 1), "PU0,60:TT", &[1], (1, 1));
-    fraction(lib, &still(32, 4), "PXT", &[31, 31], (16, 16));
+    fraction(lib, &still(32, 4), "PX!&a1a2", &[31, 31], (16, 16));
+    fraction(lib, &still(32, 4), "PXT", &[31, 31], (1, 1));
 }
 
 /// One numerator of the first path at the tuple of zeros, or a refusal.
@@ -78,13 +79,13 @@ fn asked<L: Questions>(lib: &L, model: &Model, text: &str, expected: Result<(u64
 
 /// The lines that give a verdict or a limit, by numerator: a sentence without a path is refused by 15.
 fn limit_numerators<L: Questions>(lib: &L) {
-    asked(lib, &m1(), "AA.=PXa1PXa2", Ok((4, 16)));
+    asked(lib, &m1(), "AA.=PXa1PXa2", Ok((1, 4)));
     asked(lib, &m1(), "A.L-#1/4;PXa1#0/1;", Ok((1, 4)));
     asked(lib, &m1(), "A.=PU0,0:TT#1/1;", Ok((1, 1)));
     asked(lib, &m1(), "A.GPU0,32:Ta1#0/1;", Err(10));
     asked(lib, &m1(), "A.GPU0,31:Ta1#0/2;", Err(10));
     asked(lib, &still(32, 4), "AA.T", Err(15));
-    asked(lib, &still(32, 4), "AA.=PXTPXT", Ok((16, 16)));
+    asked(lib, &still(32, 4), "AA.=PX!a1PX!a2", Ok((4, 4)));
     asked(lib, &still(11, 4), "AAA.T", Err(11));
     asked(lib, &m1(), "A.a2", Err(7));
     asked(lib, &m1(), "A.a5", Err(6));

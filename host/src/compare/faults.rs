@@ -4,6 +4,7 @@
 
 use super::*;
 use crate::inputs::extreme::Kind;
+use crate::inputs::naming::end_of;
 use crate::second::meaning::Way;
 use crate::second::sentence::{read_sentence, spelled, Node, Relation};
 use std::panic::{catch_unwind, AssertUnwindSafe};
@@ -146,23 +147,6 @@ impl Faulty {
             _ => {}
         }
     }
-}
-
-/// The end of the node that begins a list, with all that it contains.
-fn end_of(list: &[Node]) -> usize {
-    let mut open = 1;
-    for (place, node) in list.iter().enumerate() {
-        open -= 1;
-        open += match node {
-            Node::True | Node::Label { .. } | Node::Constant { .. } => 0,
-            Node::Not | Node::Probability | Node::Next => 1,
-            _ => 2,
-        };
-        if open == 0 {
-            return place + 1;
-        }
-    }
-    panic!("the list does not nest")
 }
 
 /// A list as a fault takes it.

@@ -41,7 +41,7 @@ pub(super) fn any_verdict<L: Questions>(lib: &L, rng: &mut Rng, tally: &mut Tall
 }
 
 /// A pair for a report.
-fn shown(pair: &Pair) -> String {
+pub(super) fn shown(pair: &Pair) -> String {
     shown_text(&pair.text) + &shown_file(&pair.file)
 }
 
@@ -98,6 +98,7 @@ pub(super) fn any_numerator<L: Questions>(lib: &L, rng: &mut Rng, tally: &mut Ta
     odd_case(lib, rng, tally, &pair);
     if let Ok(found) = answer(&pair.file, &pair.text, Way::Fitting) {
         tally.reach.model(&read_model(&pair.file).expect("a pair that is answered"));
+        tally.reach.named.count(&read_sentence(&pair.text).expect("a pair that is answered"));
         ask_all(lib, rng, tally, &Found { pair: &pair, found: &found }, PRODUCTS);
     }
 }
@@ -194,9 +195,9 @@ fn odd_case<L: Questions>(lib: &L, rng: &mut Rng, tally: &mut Tally, pair: &Pair
 }
 
 /// A pair that is answered, with what the second program answers.
-struct Found<'a> {
-    pair: &'a Pair,
-    found: &'a Answer,
+pub(super) struct Found<'a> {
+    pub(super) pair: &'a Pair,
+    pub(super) found: &'a Answer,
 }
 
 impl Found<'_> {
@@ -219,7 +220,13 @@ impl Found<'_> {
 }
 
 /// Every path at every tuple if that takes at most so many products, a sample otherwise.
-fn ask_all<L: Questions>(lib: &L, rng: &mut Rng, tally: &mut Tally, pair: &Found, products: usize) {
+pub(super) fn ask_all<L: Questions>(
+    lib: &L,
+    rng: &mut Rng,
+    tally: &mut Tally,
+    pair: &Found,
+    products: usize,
+) {
     let paths = &pair.found.paths;
     let tuples = paths.first().map_or(0, |fractions| fractions.tops.len());
     let all = paths.len() * tuples;

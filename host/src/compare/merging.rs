@@ -4,9 +4,9 @@ use super::meaning::members;
 use super::{agree, output, output_after, shown_file, shown_text, Merges, Questions, Tally};
 use crate::inputs::grouping::{self, Merging};
 use crate::inputs::model::file_of;
-use crate::inputs::{question, Rng};
+use crate::inputs::{naming, question, Rng};
 use crate::second::meaning::{answer, Answer, Way, WORK};
-use crate::second::{self, read_model};
+use crate::second::{self, read_model, read_sentence};
 
 /// Compares merging on `cases` random models, groupings and outputs.
 pub fn compare_merge<L: Merges>(lib: &L, cases: usize, seed: u64) -> Tally {
@@ -155,7 +155,10 @@ fn both<'a>(rng: &mut Rng, merging: &'a Merging, small: &'a [u8]) -> Both<'a> {
     let fits = |&letters: &usize| (full.n as usize).pow(letters as u32) <= most;
     let letters = (1..=rng.between(1, 4)).rev().find(fits).unwrap_or(1);
     let size = rng.between(3, 16);
-    let text = question::fitting_sentence(rng, &full, letters, size).text();
+    let text = match rng.chance(1, 6) {
+        true => naming::text(rng, &full, letters, naming::Kind::Any),
+        false => question::fitting_sentence(rng, &full, letters, size).text(),
+    };
     Both { merging, small, text, letters }
 }
 
@@ -180,6 +183,7 @@ fn keeps<L: Questions>(lib: &L, rng: &mut Rng, tally: &mut Tally, merging: &Merg
             tally.reach.fraction(expected.0, expected.1);
         }
     }
+    tally.reach.named.count(&read_sentence(&both.text).expect("a sentence that is answered"));
     tally.reach.letters[both.letters] += 1;
     tally.reach.every += u64::from(all > 0);
 }

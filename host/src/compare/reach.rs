@@ -1,5 +1,6 @@
 //! What the answered cases of an area had, so that a generator that stops reaching something is noticed.
 
+use super::naming::Named;
 use crate::inputs::question::Pair;
 use crate::second::{read_model, read_sentence, Model, Node};
 use std::fmt::{self, Formatter};
@@ -37,6 +38,8 @@ pub struct Reach {
     pub version_1: [u64; 4],
     /// Merges with an empty row and a written one in a group: those accepted, and those refused by 13.
     pub mixed: [u64; 2],
+    /// What the paths named.
+    pub named: Named,
 }
 
 impl Reach {
@@ -53,6 +56,7 @@ impl Reach {
         self.window_60 += u64::from(sentence.nodes[..sentence.count].iter().any(long));
         self.nodes_60 += u64::from(sentence.count >= 60);
         self.model(&read_model(&pair.file).expect("a pair that is answered"));
+        self.named.count(&sentence);
     }
 
     /// Counts a model by its version and its empty rows.
@@ -126,5 +130,6 @@ impl Reach {
         self.version_0 += other.version_0;
         self.version_1.iter_mut().zip(other.version_1).for_each(|(sum, count)| *sum += count);
         self.mixed.iter_mut().zip(other.mixed).for_each(|(sum, count)| *sum += count);
+        self.named.add(&other.named);
     }
 }

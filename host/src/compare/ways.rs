@@ -2,10 +2,11 @@
 
 use super::{agree, shown_text, Tally};
 use crate::inputs::model::file_of;
+use crate::inputs::naming::namings;
 use crate::inputs::question::{chain, fitting_sentence};
 use crate::inputs::Rng;
 use crate::second::meaning::{answer, Way};
-use crate::second::{read_sentence, Model, Node};
+use crate::second::{read_sentence, Model};
 
 /// The most runs that are listed for one path of a pair.
 const RUNS: u64 = 20_000;
@@ -40,13 +41,11 @@ pub fn compare_ways(cases: u64, seed: u64) -> Tally {
 }
 
 /// Whether listing the runs of every path stays within some thousands.
-fn few_runs(model: &Model, text: &[u8]) -> bool {
+pub(super) fn few_runs(model: &Model, text: &[u8]) -> bool {
     let Ok(sentence) = read_sentence(text) else {
         return false;
     };
-    let tuples = u64::from(model.n).pow(sentence.letters as u32);
-    sentence.nodes[..sentence.count].iter().all(|node| match node {
-        Node::Until { to, .. } => tuples.checked_pow(*to + 1).is_some_and(|runs| runs <= RUNS),
-        _ => true,
-    })
+    // All runs of v variables from all tuples: N^n × N^(v × steps).
+    let runs = |v: usize, steps: usize| u64::from(model.n).checked_pow((sentence.letters + v * steps) as u32);
+    namings(&sentence).iter().all(|path| runs(path.v(), path.steps).is_some_and(|runs| runs <= RUNS))
 }

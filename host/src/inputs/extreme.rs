@@ -2,6 +2,7 @@
 //! tuples, as long windows, as great numbers and as deep nesting as there can be.
 
 use super::model::{any_with, file_of, model_with};
+use super::naming::named_by;
 use super::question::{fitting_sentence, widest_window, Pair};
 use super::Rng;
 use crate::second::meaning::{answer, Way};
@@ -112,19 +113,21 @@ fn beyond(rng: &mut Rng) -> Pair {
     asked.pair(rng, &body)
 }
 
-/// A pair with a window that ends between 50 and 60: D is 1, or 2 under one letter.
+/// A pair with a window that ends between 50 and 60: D is 1, or 2 where the path names one variable.
 fn long_window(rng: &mut Rng) -> Pair {
     let letters = rng.pick(&[1, 1, 1, 2, 2, 3, 4]);
     let most = if rng.chance(1, 30) { 1_024 } else { 100 };
     let n = (1..=32usize).rev().find(|&n| n.pow(letters as u32) <= most).unwrap_or(1);
     let n = rng.between(1, n) as u32;
-    let d = if letters == 1 { rng.between(1, 2) as u32 } else { 1 };
+    let d = rng.between(1, 2) as u32;
     // Runs of so many steps mostly end in an empty row where there is one.
     let model = if rng.chance(1, 4) { any_with(rng, n, 2, d) } else { model_with(rng, n, 2, d) };
     let asked = Asked { model, letters, window: 60 };
     let to = rng.pick(&[60, 60, 59, 50]);
     let from = rng.pick(&[0, 1, to / 2, to - 1, to]);
-    let until = format!("PU{from},{to}:{}{}", asked.atom(rng), asked.atom(rng));
+    let (first, second) = (asked.atom(rng), asked.atom(rng));
+    let first = if d == 1 { first } else { second.replace('a', "b") };
+    let until = format!("PU{from},{to}:{first}{second}");
     let body = match rng.below(3) {
         0 => format!("{}{until}#1/2;", relation(rng)),
         1 => format!("{}#1/1;{until}", relation(rng)),
@@ -133,8 +136,8 @@ fn long_window(rng: &mut Rng) -> Pair {
     asked.pair(rng, &body)
 }
 
-/// Bodies with a number at 2^62, or above it with the second of the values: D, the letters, the body with
-/// a gap, and the two values of the gap. `f` and `s` are put for the first and the second formula.
+/// Bodies with a number at 2^62, or above it with the second of the values: D, how many variables each path names, the body
+/// with a gap, and the two values of the gap. `f` and `s` are put for a formula that names nothing and one that names so many.
 const ENDS: [(u32, usize, &str, [&str; 2]); 19] = [
     (4, 1, "GPU0,%:fs#0/1;", ["31", "32"]),
     (4, 1, "LPU3,31:fs#0/%;", ["1", "2"]),
@@ -160,12 +163,13 @@ const ENDS: [(u32, usize, &str, [&str; 2]); 19] = [
 /// A pair with a number at 2^62 (or as near to it as D allows), or just above it.
 fn end(rng: &mut Rng, above: bool) -> Pair {
     loop {
-        let (d, letters, body, gap) = rng.pick(&ENDS);
+        let (d, v, body, gap) = rng.pick(&ENDS);
+        let letters = rng.between(v, 4);
         let n = rng.between(1, if letters > 2 { 3 } else { 5 }) as u32;
         let asked = Asked { model: any_with(rng, n, 2, d), letters, window: 0 };
-        let (first, second) = (rng.pick(&["T", "T", "a1", "!b1"]), rng.pick(&["a1", "b1", "T", "!a1"]));
+        let (first, second) = (rng.pick(&["T", "T", "!T"]), named_by(rng, letters, v));
         let filled = body.replace('%', gap[usize::from(above)]);
-        let body = filled.replace('f', first).replace('s', second);
+        let body = filled.replace('f', first).replace('s', &second);
         let pair = asked.pair(rng, &body);
         let refused = answer(&pair.file, &pair.text, Way::Table).err();
         if refused == above.then_some(10) {
@@ -218,16 +222,14 @@ impl Asked {
             (n, letters) = rng.pick(&FULL);
         }
         let d = match (kind, letters) {
-            (Kind::LeftSum | Kind::RightSum, 1) => rng.pick(&[1, 2, 3, 4, 5, 8, 13]),
-            (Kind::LeftSum | Kind::RightSum, 2) => rng.pick(&[1, 2, 2, 3, 3]),
-            (Kind::LeftSum | Kind::RightSum, 3) => rng.pick(&[1, 2, 2]),
-            (Kind::LeftSum | Kind::RightSum, _) => 1,
+            // Each of the probabilities names one variable at most.
+            (Kind::LeftSum | Kind::RightSum, _) => rng.pick(&[1, 2, 3, 4, 5, 8, 13]),
             (_, 1) => rng.pick(&[1, 2, 3, 4, 10, 100]),
             _ => rng.pick(&[1, 2, 2, 3, 4, 7]),
         };
         let model = any_with(rng, n, 2, d);
-        // Two probabilities are multiplied in a comparison, and products of them.
-        let window = widest_window(d, letters * 4).clamp(1, 4);
+        // Two probabilities of one or two variables are multiplied in a comparison, and products of them.
+        let window = widest_window(d, letters.min(2) * 4).clamp(1, 4);
         Asked { model, letters, window }
     }
 

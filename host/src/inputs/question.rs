@@ -2,6 +2,7 @@
 //! each row of a verdict refuses, and such as stand at an end of the size rule.
 
 use super::model::{self, any_with, file_of, unfill};
+use super::naming::{self, named_by, namings};
 use super::sentence::{self, Lean, Loose, Taste};
 use super::Rng;
 use crate::second::meaning::{answer, too_large, Way, TUPLES, WORK};
@@ -29,6 +30,9 @@ pub fn pair(rng: &mut Rng) -> Pair {
         11 => near(rng),
         12 => several(rng),
         13..=20 => tight(rng),
+        21 => naming::pair(rng, naming::Kind::Any),
+        22 => naming::pair(rng, naming::Kind::Inside),
+        23 => naming::pair(rng, naming::Kind::Wide),
         _ => fitting(rng),
     }
 }
@@ -69,19 +73,21 @@ pub fn chain(rng: &mut Rng, tuples: usize) -> (Model, usize) {
     (any_with(rng, n as u32, a, d), letters)
 }
 
-/// The greatest k up to 60 with D to the power letters × k at most 2^62.
-pub fn widest_window(d: u32, letters: usize) -> usize {
-    let fits = |k: &usize| {
-        let end = 1u128 << 62;
-        (0..letters * k).try_fold(1u128, |x, _| Some(x * u128::from(d)).filter(|&x| x <= end)).is_some()
-    };
-    (0..=60).take_while(fits).last().unwrap_or(0)
+/// Whether D to a power is at most 2^62.
+pub fn fits(d: u32, power: usize) -> bool {
+    let end = 1u128 << 62;
+    (0..power).try_fold(1u128, |x, _| Some(x * u128::from(d)).filter(|&x| x <= end)).is_some()
+}
+
+/// The greatest k up to 60 with D to the power v × k at most 2^62, for v named variables.
+pub fn widest_window(d: u32, v: usize) -> usize {
+    (0..=60).take_while(|k| fits(d, v * k)).last().unwrap_or(0)
 }
 
 /// A sentence of about the given size that the size rule allows on a model, if
 /// a few attempts find one.
 pub fn fitting_sentence(rng: &mut Rng, model: &Model, letters: usize, size: usize) -> Loose {
-    let widest = widest_window(model.d, letters);
+    let widest = widest_window(model.d, rng.between(1, letters));
     let lean = rng.pick(&[Lean::Any, Lean::Any, Lean::Left, Lean::Right, Lean::Even]);
     let work = if rng.chance(1, 100) { 3_000_000 } else { 30_000 };
     let mut found = None;
@@ -101,16 +107,11 @@ pub fn fitting_sentence(rng: &mut Rng, model: &Model, letters: usize, size: usiz
     found.expect("there is an attempt")
 }
 
-/// About how many products the steps of a sentence's paths take on a model.
+/// About how many products the steps of a sentence's paths take on a model; a step of no variable counts as one a tuple.
 pub fn cost(model: &Model, sentence: &Sentence) -> usize {
     let n = model.n as usize;
     let tuples = n.pow(sentence.letters as u32);
-    let steps = sentence.nodes[..sentence.count].iter().map(|node| match node {
-        Node::Next => 1,
-        Node::Until { to, .. } => *to as usize,
-        _ => 0,
-    });
-    steps.sum::<usize>() * n * tuples * sentence.letters
+    namings(sentence).iter().map(|path| path.steps * (path.v() * n).max(1) * tuples).sum()
 }
 
 /// A pair whose body compares a path's probability with a constant that is its
@@ -209,15 +210,17 @@ fn several(rng: &mut Rng) -> Pair {
 pub fn at_size_limit(rng: &mut Rng) -> Pair {
     let any = rng.between(2, 65_535) as u32;
     let d = rng.pick(&[1, 2, 2, 3, 4, 5, 7, 10, 16, 255, 256, 46_340, 65_535, any]);
-    let letters = rng.between(1, 3);
+    let letters = rng.between(1, 4);
     let n = rng.between(1, 3) as u32;
     let model = any_with(rng, n, 1, d);
-    let widest = widest_window(d, letters);
+    let v = rng.between(1, letters);
+    let widest = widest_window(d, v);
     let window = rng.pick(&[widest, widest, widest + 1, rng.clone().below(widest + 1)]);
-    let steps = (letters * window) as u32;
+    let steps = (v * window) as u32;
     let left = (1u128 << 62) / u128::from(d).checked_pow(steps).unwrap_or(1 << 62).max(1);
     let end = (left + rng.below(3) as u128).saturating_sub(1).min(65_536);
-    let until = format!("PU{},{window}:Ta1", rng.below(2).min(window));
+    let named = named_by(rng, letters, v);
+    let until = format!("PU{},{window}:T{named}", rng.below(2).min(window));
     let half = window / 2;
     let body = match rng.below(11) {
         0 => format!("G{until}#0/1;"),
@@ -227,10 +230,10 @@ pub fn at_size_limit(rng: &mut Rng) -> Pair {
         4 => format!("=*{until}#{end}/1;#1/1;"),
         5 => format!("=*#1/{end};{until}#0/1;"),
         6 => format!("<+{until}#{end}/1;#1/1;"),
-        7 => format!("<-PU0,{half}:a1TPU0,{}:Ta1#{end}/1;", window - half),
-        8 => format!(">+PU0,{half}:Ta1PU0,{}:a1a1#1/{end};", window - half),
+        7 => format!("<-PU0,{half}:{named}TPU0,{}:T{named}#{end}/1;", window - half),
+        8 => format!(">+PU0,{half}:T{named}PU0,{}:{named}{named}#1/{end};", window - half),
         9 => format!("GPX>{until}#{end}/1;#1/1;"),
-        _ => format!("=PU0,1:a1!<#1/{end};{until}#1/1;"),
+        _ => format!("=PU0,1:T!<#1/{end};{until}#1/1;"),
     };
     let text = format!("{}.{body}", &"AEAE"[..letters]);
     Pair { file: file_of(&model), text: text.into_bytes() }
@@ -247,5 +250,6 @@ mod tests {
         assert_eq!(widest_window(2, 1), 60);
         assert_eq!(widest_window(3, 1), 39);
         assert_eq!(widest_window(65_535, 4), 0);
+        assert_eq!(widest_window(65_535, 0), 60);
     }
 }

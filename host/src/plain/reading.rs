@@ -123,6 +123,10 @@ pub struct Text {
     pub count: usize,
     /// The greatest label, counted from 1; 0 if there is none.
     pub labels: u8,
+    /// At the place of a path's node, the variables that occur in the path: bit i for variable i + 1.
+    pub named: [u8; 64],
+    /// The variables that occurred so far in the path that is being read.
+    occurred: u8,
     /// Whether row 7 applies.
     out_of_range: bool,
 }
@@ -131,7 +135,17 @@ impl Text {
     /// A sentence to read into.
     pub fn empty() -> Text {
         let nodes = [Node::True; 64];
-        Text { letters: 0, exists: [false; 4], nodes, count: 0, labels: 0, out_of_range: false }
+        let named = [0; 64];
+        Text {
+            letters: 0,
+            exists: [false; 4],
+            nodes,
+            count: 0,
+            labels: 0,
+            named,
+            occurred: 0,
+            out_of_range: false,
+        }
     }
 
     /// Puts down a node.
@@ -148,7 +162,7 @@ pub fn read_sentence(text: &[u8], into: &mut Text) -> Result<(), u8> {
     if text.len() > 400 {
         return Err(6);
     }
-    (into.count, into.labels, into.out_of_range) = (0, 0, false);
+    (into.count, into.labels, into.occurred, into.out_of_range) = (0, 0, 0, false);
     let letters = text.iter().take_while(|&&byte| byte == b'A' || byte == b'E').count();
     if !(1..=4).contains(&letters) || text.get(letters) != Some(&b'.') {
         return Err(6);
@@ -199,6 +213,7 @@ fn label<'a>(label: u8, text: &'a [u8], into: &mut Text) -> Option<&'a [u8]> {
     }
     let variable = digit - b'0';
     into.labels = into.labels.max(label + 1);
+    into.occurred |= 1 << (variable - 1);
     into.out_of_range |= usize::from(variable) > into.letters;
     into.put(Node::Label { label, variable });
     Some(rest)
@@ -228,23 +243,29 @@ fn expression<'a>(text: &'a [u8], into: &mut Text) -> Option<&'a [u8]> {
     expression(expression(rest, into)?, into)
 }
 
-/// Reads a path; gives what is left.
+/// Reads a path and puts down which variables occur in it; gives what is left.
 fn path<'a>(text: &'a [u8], into: &mut Text) -> Option<&'a [u8]> {
     let (&first, rest) = text.split_first()?;
-    match first {
+    let (place, before) = (into.count, std::mem::take(&mut into.occurred));
+    let rest = match first {
         b'X' => {
             into.put(Node::Next);
-            formula(rest, into)
+            formula(rest, into)?
         }
         b'U' => {
             let (from, rest) = number(rest, b',')?;
             let (to, rest) = number(rest, b':')?;
             into.out_of_range |= from > to || to > 60;
             into.put(Node::Until { from, to });
-            formula(formula(rest, into)?, into)
+            formula(formula(rest, into)?, into)?
         }
-        _ => None,
+        _ => return None,
+    };
+    if let Some(named) = into.named.get_mut(place) {
+        *named = into.occurred;
     }
+    into.occurred |= before;
+    Some(rest)
 }
 
 /// Reads a number that a byte follows, and that byte.

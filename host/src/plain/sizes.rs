@@ -8,23 +8,21 @@ const END: u128 = 1 << 62;
 
 /// Refusal 10.
 pub fn allowed(text: &Text, d: u32) -> Result<(), u8> {
-    let mut walk = Walk { nodes: &text.nodes[..text.count], d, letters: text.letters as u32 };
-    walk.formula().ok_or(10)
+    Walk { text, at: 0, d }.formula().ok_or(10)
 }
 
-/// The nodes that are left.
+/// A sentence, and the place of its next node.
 struct Walk<'a> {
-    nodes: &'a [Node],
+    text: &'a Text,
+    at: usize,
     d: u32,
-    letters: u32,
 }
 
 impl Walk<'_> {
     /// Takes the next node.
     fn node(&mut self) -> Node {
-        let node = self.nodes[0];
-        self.nodes = &self.nodes[1..];
-        node
+        self.at += 1;
+        self.text.nodes[self.at - 1]
     }
 
     /// Walks a state formula; nothing if the rule refuses it.
@@ -63,6 +61,7 @@ impl Walk<'_> {
 
     /// The denominator of a path; nothing if the rule refuses it.
     fn path(&mut self) -> Option<u128> {
+        let named = self.text.named[self.at].count_ones();
         let steps = match self.node() {
             Node::Until { to, .. } => {
                 self.formula()?;
@@ -72,6 +71,6 @@ impl Walk<'_> {
         };
         self.formula()?;
         let within = |&product: &u128| product <= END;
-        (0..self.letters * steps).try_fold(1, |product, _| Some(product * u128::from(self.d)).filter(within))
+        (0..named * steps).try_fold(1, |product, _| Some(product * u128::from(self.d)).filter(within))
     }
 }

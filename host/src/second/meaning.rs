@@ -1,13 +1,19 @@
 //! The meaning of a sentence on a model: verdicts and numerators
-//! (document 01, 'Meaning'; document 02, T-05; refusals 1 to 11 and 15).
+//! (document 01, 'Meaning'; document 02, T-02 and T-05; refusals 1 to 11 and 15).
+//!
+//! The runs of a path are runs of the variables that occur in it. The others stay
+//! as they are at the start; no formula of the path looks at them.
 //!
 //! A path's numerators are found in two ways. [`Way::Runs`] lists every run and
 //! asks of each whether the path takes it, in the words of the definition.
 //! [`Way::Table`] works backwards over the window and serves where the runs are
 //! too many to list.
+//!
+//! What a sentence meant before T-02, when all n variables stepped, is
+//! [`base_answer`], to be compared with.
 
 use super::model::{read_model, Model};
-use super::sentence::{read_sentence, Node, Relation, Sentence};
+use super::sentence::{read_sentence, Node, Relation, Sentence, LETTERS};
 
 /// The numbers of 64 bits that a work area must have.
 pub const WORK: usize = 8_192;
@@ -87,17 +93,49 @@ pub fn numerator(
 
 /// Everything that a sentence means on a model, found in the given way. Refusals 2 to 11.
 pub fn answer(file: &[u8], text: &[u8], way: Way) -> Result<Answer, u8> {
-    Ok(Question::of(file, text)?.answer(way))
+    answer_by(named, file, text, way)
+}
+
+/// Everything that a sentence meant before T-02: all n variables step in every
+/// path, and the size rule goes by their denominators. Refusals 2 to 11.
+pub fn base_answer(file: &[u8], text: &[u8], way: Way) -> Result<Answer, u8> {
+    answer_by(all_variables, file, text, way)
+}
+
+/// Everything that a sentence means if these variables step. Refusals 2 to 11.
+pub fn answer_by(stepping: Stepping, file: &[u8], text: &[u8], way: Way) -> Result<Answer, u8> {
+    Ok(Question::on_rows(read_model(file)?.filled(), text, stepping)?.answer(way))
 }
 
 /// Everything that a sentence means on a record's rows as they are given. Refusals 6 to 11.
 pub fn answer_on_rows(model: Model, text: &[u8], way: Way) -> Result<Answer, u8> {
-    Ok(Question::on_rows(model, text)?.answer(way))
+    Ok(Question::on_rows(model, text, named)?.answer(way))
 }
 
 /// Whether the size rule refuses a sentence that can be read, for a given D.
 pub fn too_large(sentence: &Sentence, d: u32) -> bool {
-    size_of_formula(&body_of(sentence), Sizes { d, letters: sentence.letters }).is_none()
+    too_large_by(named, sentence, d)
+}
+
+/// Whether the size rule would refuse it if these variables stepped.
+pub fn too_large_by(stepping: Stepping, sentence: &Sentence, d: u32) -> bool {
+    size_of_formula(&body_of(sentence, stepping), d).is_none()
+}
+
+/// Which variables step in the runs of a path of a sentence, 1 for the first,
+/// ascending. The path is given by its nodes, those of paths inside it included.
+pub type Stepping = fn(&Sentence, &[Node]) -> Vec<usize>;
+
+/// The different variables that occur in a path, paths inside it included.
+pub fn named(_: &Sentence, path: &[Node]) -> Vec<usize> {
+    let is_of =
+        |node: &Node, v: usize| matches!(node, Node::Label { variable, .. } if usize::from(*variable) == v);
+    (1..=LETTERS).filter(|&v| path.iter().any(|node| is_of(node, v))).collect()
+}
+
+/// All n variables, whatever a path names.
+pub fn all_variables(sentence: &Sentence, _: &[Node]) -> Vec<usize> {
+    (1..=sentence.letters).collect()
 }
 
 /// A state formula, with what it contains.
@@ -118,9 +156,11 @@ enum Expression {
     Product(Box<Expression>, Box<Expression>),
 }
 
-/// A path, with what it contains, and its number among the path formulas.
+/// A path, with what it contains, its number among the path formulas, and the
+/// variables that step in its runs.
 struct Path {
     number: usize,
+    stepping: Vec<usize>,
     kind: PathKind,
 }
 
@@ -131,14 +171,15 @@ enum PathKind {
 }
 
 /// The body of a sentence that can be read, as a formula.
-fn body_of(sentence: &Sentence) -> Formula {
-    let mut growing = Growing { list: &sentence.nodes[..sentence.count], at: 0, paths: 0 };
+fn body_of(sentence: &Sentence, stepping: Stepping) -> Formula {
+    let mut growing = Growing { sentence, stepping, at: 0, paths: 0 };
     growing.formula()
 }
 
-/// A list of nodes on its way to becoming a formula.
+/// A sentence's list of nodes on its way to becoming a formula.
 struct Growing<'a> {
-    list: &'a [Node],
+    sentence: &'a Sentence,
+    stepping: Stepping,
     at: usize,
     paths: usize,
 }
@@ -147,7 +188,7 @@ impl Growing<'_> {
     /// Takes the next node.
     fn node(&mut self) -> Node {
         self.at += 1;
-        self.list[self.at - 1]
+        self.sentence.nodes[self.at - 1]
     }
 
     /// Takes one state formula.
@@ -188,7 +229,7 @@ impl Growing<'_> {
 
     /// Takes one path; path formulas are numbered by where they begin.
     fn path(&mut self) -> Path {
-        let number = self.paths;
+        let (number, begin) = (self.paths, self.at);
         self.paths += 1;
         let kind = match self.node() {
             Node::Next => PathKind::Next(self.formula()),
@@ -198,15 +239,9 @@ impl Growing<'_> {
             }
             other => panic!("{other:?} is no path"),
         };
-        Path { number, kind }
+        let stepping = (self.stepping)(self.sentence, &self.sentence.nodes[begin..self.at]);
+        Path { number, stepping, kind }
     }
-}
-
-/// What the size rule looks at besides the sentence: D and the number of letters.
-#[derive(Clone, Copy)]
-struct Sizes {
-    d: u32,
-    letters: usize,
 }
 
 /// A number that the size rule allows.
@@ -215,17 +250,17 @@ fn allowed(number: u128) -> Option<u128> {
 }
 
 /// Walks a state formula by the size rule; nothing if the rule refuses it.
-fn size_of_formula(formula: &Formula, sizes: Sizes) -> Option<()> {
+fn size_of_formula(formula: &Formula, d: u32) -> Option<()> {
     match formula {
         Formula::True | Formula::Label { .. } => Some(()),
-        Formula::Not(inner) => size_of_formula(inner, sizes),
+        Formula::Not(inner) => size_of_formula(inner, d),
         Formula::And(left, right) => {
-            size_of_formula(left, sizes)?;
-            size_of_formula(right, sizes)
+            size_of_formula(left, d)?;
+            size_of_formula(right, d)
         }
         Formula::Compare(_, left, right) => {
-            let (d1, m1) = size_of_expression(left, sizes)?;
-            let (d2, m2) = size_of_expression(right, sizes)?;
+            let (d1, m1) = size_of_expression(left, d)?;
+            let (d2, m2) = size_of_expression(right, d)?;
             allowed(m1 * d2)?;
             allowed(m2 * d1)?;
             Some(())
@@ -234,36 +269,36 @@ fn size_of_formula(formula: &Formula, sizes: Sizes) -> Option<()> {
 }
 
 /// The denominator d and the bound m of an expression; nothing if the rule refuses it.
-fn size_of_expression(expression: &Expression, sizes: Sizes) -> Option<(u128, u128)> {
-    let (d, m) = match expression {
+fn size_of_expression(expression: &Expression, d: u32) -> Option<(u128, u128)> {
+    let (bottom, bound) = match expression {
         Expression::Probability(path) => {
             let steps = match &path.kind {
                 PathKind::Next(inner) => {
-                    size_of_formula(inner, sizes)?;
+                    size_of_formula(inner, d)?;
                     1
                 }
                 PathKind::Until { to, first, second, .. } => {
-                    size_of_formula(first, sizes)?;
-                    size_of_formula(second, sizes)?;
+                    size_of_formula(first, d)?;
+                    size_of_formula(second, d)?;
                     *to
                 }
             };
-            let d = power(sizes.d, sizes.letters * steps)?;
-            (d, d)
+            let bottom = power(d, path.stepping.len() * steps)?;
+            (bottom, bottom)
         }
         Expression::Constant { top, bottom } => (u128::from(*bottom), u128::from(*top)),
         Expression::Sum(left, right) | Expression::Difference(left, right) => {
-            let (d1, m1) = size_of_expression(left, sizes)?;
-            let (d2, m2) = size_of_expression(right, sizes)?;
+            let (d1, m1) = size_of_expression(left, d)?;
+            let (d2, m2) = size_of_expression(right, d)?;
             (d1 * d2, m1 * d2 + m2 * d1)
         }
         Expression::Product(left, right) => {
-            let (d1, m1) = size_of_expression(left, sizes)?;
-            let (d2, m2) = size_of_expression(right, sizes)?;
+            let (d1, m1) = size_of_expression(left, d)?;
+            let (d2, m2) = size_of_expression(right, d)?;
             (d1 * d2, m1 * m2)
         }
     };
-    Some((allowed(d)?, allowed(m)?))
+    Some((allowed(bottom)?, allowed(bound)?))
 }
 
 /// D to a power; nothing if that is above the end of the size rule.
@@ -277,10 +312,11 @@ fn names_a_label_beyond(sentence: &Sentence, a: u32) -> bool {
     list.iter().any(|node| matches!(node, Node::Label { label, .. } if u32::from(*label) >= a))
 }
 
-/// A filled model and a sentence that no row from 2 to 11 refuses.
+/// A filled model and a sentence that no row from 2 to 11 refuses, and which variables step.
 struct Question {
     model: Model,
     sentence: Sentence,
+    stepping: Stepping,
     tuples: usize,
 }
 
@@ -293,23 +329,23 @@ struct Values {
 impl Question {
     /// Rows 2 to 11, in their order. The model's rows are those after filling.
     fn of(file: &[u8], text: &[u8]) -> Result<Question, u8> {
-        Question::on_rows(read_model(file)?.filled(), text)
+        Question::on_rows(read_model(file)?.filled(), text, named)
     }
 
     /// Rows 6 to 11, in their order.
-    fn on_rows(model: Model, text: &[u8]) -> Result<Question, u8> {
+    fn on_rows(model: Model, text: &[u8], stepping: Stepping) -> Result<Question, u8> {
         let sentence = read_sentence(text)?;
         if names_a_label_beyond(&sentence, model.a) {
             return Err(9);
         }
-        if too_large(&sentence, model.d) {
+        if too_large_by(stepping, &sentence, model.d) {
             return Err(10);
         }
         let tuples = (model.n as usize).pow(sentence.letters as u32);
         if tuples > TUPLES {
             return Err(11);
         }
-        Ok(Question { model, sentence, tuples })
+        Ok(Question { model, sentence, stepping, tuples })
     }
 
     /// The verdict and the fractions of every path formula.
@@ -320,7 +356,7 @@ impl Question {
             .count();
         let paths = vec![Fractions { tops: Vec::new(), bottom: 0 }; count];
         let mut found = Answer { holds: false, below_zero: false, paths };
-        let truth = self.formula(&body_of(&self.sentence), way, &mut found);
+        let truth = self.formula(&body_of(&self.sentence, self.stepping), way, &mut found);
         let prefix = &self.sentence.exists[..self.sentence.letters];
         found.holds = self.prefix(prefix, &truth);
         found
@@ -410,64 +446,99 @@ impl Question {
 
     /// The fractions of a path formula.
     fn path(&self, path: &Path, way: Way, found: &mut Answer) -> Fractions {
+        let stepping = &path.stepping;
         match &path.kind {
             PathKind::Next(inner) => {
                 let truth = self.formula(inner, way, found);
-                let tops = match self.resolved(way, 1) {
-                    Way::Runs => self.by_runs(1, &|run| truth[run[1]]),
-                    _ => self.step(truth.iter().map(|&truth| u64::from(truth)).collect()),
+                let tops = match self.resolved(way, stepping, 1) {
+                    Way::Runs => self.by_runs(stepping, 1, &|run| truth[run[1]]),
+                    _ => self.step(stepping, truth.iter().map(|&truth| u64::from(truth)).collect()),
                 };
-                Fractions { tops, bottom: self.joint_power(1) }
+                Fractions { tops, bottom: self.joint_power(stepping, 1) }
             }
             PathKind::Until { from, to, first, second } => {
                 let first = self.formula(first, way, found);
                 let second = self.formula(second, way, found);
-                let tops = match self.resolved(way, *to) {
-                    Way::Runs => self.by_runs(*to, &|run| until_takes(run, *from, *to, &first, &second)),
-                    _ => self.until_table(*from, *to, &first, &second),
+                let takes = |run: &[usize]| until_takes(run, *from, *to, &first, &second);
+                let tops = match self.resolved(way, stepping, *to) {
+                    Way::Runs => self.by_runs(stepping, *to, &takes),
+                    _ => self.until_table(stepping, (*from, *to), &first, &second),
                 };
-                Fractions { tops, bottom: self.joint_power(*to) }
+                Fractions { tops, bottom: self.joint_power(stepping, *to) }
             }
         }
     }
 
+    /// How many tuples the stepping variables have by themselves.
+    fn small_tuples(&self, stepping: &[usize]) -> usize {
+        (self.model.n as usize).pow(stepping.len() as u32)
+    }
+
     /// The way for runs of so many steps: listing only where there are few.
-    fn resolved(&self, way: Way, steps: usize) -> Way {
-        let few = || (self.tuples as u64).checked_pow(steps as u32 + 1).is_some_and(|runs| runs <= RUNS);
+    fn resolved(&self, way: Way, stepping: &[usize], steps: usize) -> Way {
+        let from_one = (self.small_tuples(stepping) as u64).checked_pow(steps as u32);
+        let all = from_one.and_then(|runs| runs.checked_mul(self.tuples as u64));
         match way {
-            Way::Fitting if few() => Way::Runs,
+            Way::Fitting if all.is_some_and(|runs| runs <= RUNS) => Way::Runs,
             Way::Fitting => Way::Table,
             other => other,
         }
     }
 
-    /// D to the power n × steps: the weight of all runs of so many steps from a tuple.
-    fn joint_power(&self, steps: usize) -> u64 {
-        u64::from(self.model.d).pow((self.sentence.letters * steps) as u32)
+    /// D to the power v × steps: the weight of all runs of so many steps from a tuple.
+    fn joint_power(&self, stepping: &[usize], steps: usize) -> u64 {
+        u64::from(self.model.d).pow((stepping.len() * steps) as u32)
     }
 
-    /// The joint weight from one tuple to another.
-    fn joint_weight(&self, from: usize, to: usize) -> u64 {
-        let letters = 1..=self.sentence.letters;
-        letters.map(|v| u64::from(self.model.weights[self.member(from, v)][self.member(to, v)])).product()
+    /// The states of the stepping variables in a tuple of their own, given by its number.
+    fn states(&self, stepping: &[usize], mut number: usize) -> [usize; LETTERS] {
+        let n_states = self.model.n as usize;
+        let mut states = [0; LETTERS];
+        for state in states[..stepping.len()].iter_mut().rev() {
+            *state = number % n_states;
+            number /= n_states;
+        }
+        states
+    }
+
+    /// The joint weight between two tuples of the stepping variables.
+    fn joint_weight(&self, stepping: &[usize], from: usize, to: usize) -> u64 {
+        let (from, to) = (self.states(stepping, from), self.states(stepping, to));
+        (0..stepping.len()).map(|i| u64::from(self.model.weights[from[i]][to[i]])).product()
+    }
+
+    /// The tuple of n states in which the stepping variables have the states of
+    /// their own tuple `number`, and the others those of `start`.
+    fn placed(&self, start: usize, stepping: &[usize], number: usize) -> usize {
+        let states = self.states(stepping, number);
+        (1..=self.sentence.letters).fold(0, |tuple, variable| {
+            let place = stepping.iter().position(|&other| other == variable);
+            let state = place.map_or(self.member(start, variable), |place| states[place]);
+            tuple * self.model.n as usize + state
+        })
     }
 
     /// At each tuple, the total weight of the runs taken that start there.
-    fn by_runs(&self, steps: usize, takes: &dyn Fn(&[usize]) -> bool) -> Vec<u64> {
-        let all = 0..self.tuples;
-        // Runs of no steps have no joint weights.
-        let table = if steps == 0 { 0..0 } else { all.clone() };
-        let weights: Vec<Vec<u64>> =
-            table.map(|s| all.clone().map(|t| self.joint_weight(s, t)).collect()).collect();
-        all.map(|start| listed(&weights, &mut vec![start], steps, 1, takes)).collect()
+    fn by_runs(&self, stepping: &[usize], steps: usize, takes: &dyn Fn(&[usize]) -> bool) -> Vec<u64> {
+        // Runs of no steps go nowhere.
+        let small = if steps == 0 { 0 } else { self.small_tuples(stepping) };
+        let row = |s: usize| (0..small).map(|t| self.joint_weight(stepping, s, t)).collect();
+        let weights: Vec<Vec<u64>> = (0..small).map(row).collect();
+        let taken = |start: usize| {
+            let places = (0..small).map(|number| self.placed(start, stepping, number)).collect();
+            let here = stepping.iter().fold(0, |at, &v| at * self.model.n as usize + self.member(start, v));
+            Runs { weights: &weights, places, takes }.taken(&mut vec![start], here, steps, 1)
+        };
+        (0..self.tuples).map(taken).collect()
     }
 
-    /// One step back, one variable at a time: at each tuple, the sum over all
-    /// tuples of the joint weight to it times its value.
-    fn step(&self, mut values: Vec<u64>) -> Vec<u64> {
+    /// One step back, one variable at a time: at each tuple, the sum over the
+    /// tuples that differ from it in stepping variables alone of the joint weight
+    /// to it times its value.
+    fn step(&self, stepping: &[usize], mut values: Vec<u64>) -> Vec<u64> {
         let n_states = self.model.n as usize;
-        let mut stride = 1;
-        for _ in 0..self.sentence.letters {
+        for &variable in stepping {
+            let stride = n_states.pow((self.sentence.letters - variable) as u32);
             let mut stepped = vec![0; values.len()];
             for (tuple, sum) in stepped.iter_mut().enumerate() {
                 let state = tuple / stride % n_states;
@@ -477,7 +548,6 @@ impl Question {
                 }
             }
             values = stepped;
-            stride *= n_states;
         }
         values
     }
@@ -486,11 +556,17 @@ impl Question {
     /// first of the run. The table at moment i holds, for each tuple, the weight
     /// of the rest of the runs taken that stand there at i, no earlier position
     /// having decided.
-    fn until_table(&self, from: usize, to: usize, first: &[bool], second: &[bool]) -> Vec<u64> {
+    fn until_table(
+        &self,
+        stepping: &[usize],
+        (from, to): (usize, usize),
+        first: &[bool],
+        second: &[bool],
+    ) -> Vec<u64> {
         let mut later = vec![0; self.tuples];
         for moment in (0..=to).rev() {
-            let stepped = if moment == to { vec![0; self.tuples] } else { self.step(later) };
-            let all = self.joint_power(to - moment);
+            let stepped = if moment == to { vec![0; self.tuples] } else { self.step(stepping, later) };
+            let all = self.joint_power(stepping, to - moment);
             later = (0..self.tuples)
                 .map(|tuple| {
                     if moment >= from && second[tuple] {
@@ -513,26 +589,32 @@ fn until_takes(run: &[usize], from: usize, to: usize, first: &[bool], second: &[
     (from..=to).any(|j| second[run[j]] && run[..j].iter().all(|&position| first[position]))
 }
 
-/// The total weight of the runs taken that begin as `run` does and go on for
-/// `steps` more steps; `weight` is the weight of `run` itself.
-fn listed(
-    weights: &[Vec<u64>],
-    run: &mut Vec<usize>,
-    steps: usize,
-    weight: u64,
-    takes: &dyn Fn(&[usize]) -> bool,
-) -> u64 {
-    if steps == 0 {
-        return if takes(run) { weight } else { 0 };
+/// The runs from one tuple, of the stepping variables alone.
+struct Runs<'a> {
+    /// The joint weights between the tuples of the stepping variables.
+    weights: &'a [Vec<u64>],
+    /// For each of those tuples the tuple of n states: the other variables stay as they are at the start.
+    places: Vec<usize>,
+    /// Whether the path takes a run, of whose positions the tuples of n states are given.
+    takes: &'a dyn Fn(&[usize]) -> bool,
+}
+
+impl Runs<'_> {
+    /// The total weight of the runs taken that begin as `run` does, now stand at
+    /// the tuple `here` of the stepping variables, and go on for `steps` more
+    /// steps; `weight` is the weight of `run` itself.
+    fn taken(&self, run: &mut Vec<usize>, here: usize, steps: usize, weight: u64) -> u64 {
+        if steps == 0 {
+            return if (self.takes)(run) { weight } else { 0 };
+        }
+        let mut total = 0;
+        for (next, &place) in self.places.iter().enumerate() {
+            run.push(place);
+            total += self.taken(run, next, steps - 1, weight * self.weights[here][next]);
+            run.pop();
+        }
+        total
     }
-    let here = run[run.len() - 1];
-    let mut total = 0;
-    for next in 0..weights.len() {
-        run.push(next);
-        total += listed(weights, run, steps - 1, weight * weights[here][next], takes);
-        run.pop();
-    }
-    total
 }
 
 /// Whether two numbers stand in a relation.
@@ -673,14 +755,87 @@ mod tests {
     #[test]
     fn the_size_rule_asks_every_part() {
         let d2 = still(2, 2);
-        assert_eq!(said(&d2, "A.=*PU0,60:TT#4/1;#0/1;"), Ok(false));
-        assert_eq!(said(&d2, "A.=*PU0,60:TT#5/1;#0/1;"), Err(10));
-        assert_eq!(said(&d2, "A.=+PU0,30:TTPU0,31:TT#2/1;"), Ok(true));
-        assert_eq!(said(&d2, "A.=+PU0,31:TTPU0,31:TT#2/1;"), Err(10));
-        assert_eq!(said(&d2, "A.=+PU0,30:TTPU0,31:TT#2/2;"), Err(10));
-        assert_eq!(said(&d2, "A.=PXGPU0,60:TT#0/5;#1/1;"), Err(10));
-        assert_eq!(said(&d2, "A.=PXGPU0,60:TT#0/4;#1/1;"), Ok(true));
-        assert_eq!(said(&d2, "AAA.=PU0,21:TT#1/1;"), Err(10));
-        assert_eq!(said(&d2, "AAA.=PU0,20:TT#1/1;"), Ok(true));
+        assert_eq!(said(&d2, "A.=*PU0,60:T!a1#4/1;#0/1;"), Ok(false));
+        assert_eq!(said(&d2, "A.=*PU0,60:T!a1#5/1;#0/1;"), Err(10));
+        assert_eq!(said(&d2, "A.=+PU0,30:T!a1PU0,31:T!a1#2/1;"), Ok(true));
+        assert_eq!(said(&d2, "A.=+PU0,31:T!a1PU0,31:T!a1#2/1;"), Err(10));
+        assert_eq!(said(&d2, "A.=+PU0,30:T!a1PU0,31:T!a1#2/2;"), Err(10));
+        assert_eq!(said(&d2, "A.=PXGPU0,60:T!a1#0/5;#1/1;"), Err(10));
+        assert_eq!(said(&d2, "A.=PXGPU0,60:T!a1#0/4;#1/1;"), Ok(true));
+        assert_eq!(said(&d2, "AAA.=PU0,21:T!&a1&a2a3#1/1;"), Err(10));
+        assert_eq!(said(&d2, "AAA.=PU0,20:T!&a1&a2a3#1/1;"), Ok(true));
+    }
+
+    /// The variables that step in each path of a text, in written order.
+    fn stepping(text: &str) -> Vec<Vec<usize>> {
+        let sentence = read_sentence(text.as_bytes()).unwrap();
+        let list = &sentence.nodes[..sentence.count];
+        let is_path = |&at: &usize| matches!(list[at], Node::Next | Node::Until { .. });
+        let end = |begin: usize| {
+            let mut growing = Growing { sentence: &sentence, stepping: named, at: begin, paths: 0 };
+            growing.path();
+            growing.at
+        };
+        (0..list.len()).filter(is_path).map(|at| named(&sentence, &list[at..end(at)])).collect()
+    }
+
+    #[test]
+    fn a_path_names_the_different_variables_in_it_and_in_paths_inside() {
+        assert_eq!(stepping("AAAA.=PXa1PXa4"), [[1], [4]]);
+        assert_eq!(stepping("AAAA.&a1GPU0,3:!b2&b2a2PXT"), [vec![2], vec![]]);
+        assert_eq!(stepping("AAA.&a2>PU0,1:b3a1#1/2;"), [[1, 3]]);
+        assert_eq!(stepping("AAAA.=PX>PXa4PX&a2a4PXa1"), [vec![2, 4], vec![4], vec![2, 4], vec![1]]);
+        assert_eq!(stepping("AAA.GPU0,1:a3<PX=PXTPXa1#1/2;#0/1;"), [vec![1, 3], vec![1], vec![], vec![1]]);
+    }
+
+    #[test]
+    fn only_named_variables_step() {
+        assert_eq!(fraction(&m1(), "PXa1", &[0, 0]), (1, 4));
+        assert_eq!(fraction(&m1(), "PXa2", &[0, 1]), (4, 4));
+        assert_eq!(fraction(&m1(), "PXa2", &[1, 0]), (1, 4));
+        assert_eq!(fraction(&m1(), "PU0,2:Ta3", &[1, 1, 0, 1]), (7, 16));
+        assert_eq!(fraction(&m1(), "PU2,2:!a2a2", &[1, 0]), (3, 16));
+        assert_eq!(fraction(&m1(), "PX&a1a3", &[0, 1, 0]), (1, 16));
+        assert_eq!(fraction(&m1(), "PX&a1a3", &[0, 0, 1]), (4, 16));
+        assert_eq!(fraction(&m1(), "PX&a1&a1a1", &[0, 0, 1]), (1, 4));
+    }
+
+    #[test]
+    fn a_variable_named_inside_steps_outside_too() {
+        // PXa2 is above 1/4 just where variable 2 has state 1.
+        assert_eq!(fraction(&m1(), "PX>PXa2#1/4;", &[1, 0]), (1, 4));
+        assert_eq!(fraction(&m1(), "PX&a1>PXa2#1/4;", &[0, 0]), (1, 16));
+        assert_eq!(fraction(&m1(), "PX&a1>PXa2#1/4;", &[1, 0, 1]), (4, 16));
+        assert_eq!(fraction(&m1(), "PU0,2:!a1>PXa3#1/4;", &[0, 1, 0]), (64 + 3 * 12, 256));
+        let text = b"AAA.=PX&a1>PXa2#1/4;#0/1;";
+        assert_eq!(numerator(&file(&m1()), text, &[0, 0, 0], 1, &mut [0; WORK]), Ok((1, 4)));
+    }
+
+    #[test]
+    fn without_a_variable_the_denominator_is_1() {
+        for letters in 1..=4 {
+            let zeros = &[0; 4][..letters];
+            for model in [m1(), still(3, 65_535)] {
+                assert_eq!(fraction(&model, "PXT", zeros), (1, 1));
+                assert_eq!(fraction(&model, "PX!T", zeros), (0, 1));
+                assert_eq!(fraction(&model, "PU0,60:!TT", zeros), (1, 1));
+                assert_eq!(fraction(&model, "PU1,60:!TT", zeros), (0, 1));
+                assert_eq!(fraction(&model, "PU60,60:TT", zeros), (1, 1));
+                assert_eq!(fraction(&model, "PU0,60:T!T", zeros), (0, 1));
+            }
+        }
+        assert_eq!(said(&m1(), "AA.=PXT+PU0,60:T!T*PXTPXT"), Ok(true));
+        assert_eq!(fraction(&m1(), "PX&a2=PU0,60:TT#1/1;", &[0, 0]), (1, 4));
+    }
+
+    #[test]
+    fn all_variables_stepping_gives_the_same_values_over_other_denominators() {
+        let base = |text: &str| base_answer(&file(&m1()), text.as_bytes(), Way::Fitting);
+        let found = base("AA.=PXa1PXT").unwrap();
+        assert_eq!(found.paths[0], Fractions { tops: vec![4, 4, 16, 16], bottom: 16 });
+        assert_eq!(found.paths[1], Fractions { tops: vec![16; 4], bottom: 16 });
+        assert_eq!(base("AA.GPU0,16:Ta1#0/1;"), Err(10));
+        assert_eq!(said(&m1(), "AA.GPU0,16:Ta1#0/1;"), Ok(true));
+        assert_eq!(said(&m1(), "AA.GPU0,16:Ta1PU0,16:Ta2"), Err(10));
     }
 }

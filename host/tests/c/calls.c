@@ -218,6 +218,13 @@ static void verdicts(void) {
     answer = judged("A.GPU0,32:Ta1#0/1;", TWOLSKEN_WORK_AREA);
     IS(TWOLSKEN_REFUSAL_SIZE_RULE, answer);
     IS(TWOLSKEN_REFUSAL_SIZE_RULE, twolsken_verdict_refusal(answer));
+
+    /* 4^31 is 2^62: of two letters those count that the path names, be it one, two or none */
+    IS(TWOLSKEN_HOLDS, judged("AA.GPU0,31:Ta1#0/1;", TWOLSKEN_WORK_AREA));
+    IS(TWOLSKEN_REFUSAL_SIZE_RULE, judged("AA.GPU0,32:Ta1#0/1;", TWOLSKEN_WORK_AREA));
+    IS(TWOLSKEN_HOLDS, judged("AA.GPU0,15:T&a1a2#0/1;", TWOLSKEN_WORK_AREA));
+    IS(TWOLSKEN_REFUSAL_SIZE_RULE, judged("AA.GPU0,16:T&a1a2#0/1;", TWOLSKEN_WORK_AREA));
+    IS(TWOLSKEN_HOLDS, judged("AA.=PU0,60:TT#1/1;", TWOLSKEN_WORK_AREA));
 }
 
 /* Refusal 11 needs a model of 11 states. */
@@ -234,14 +241,14 @@ static void tuples(void) {
        twolsken_verdict(out, 1536, bytes("AAA.T"), 5, work, TWOLSKEN_WORK_AREA));
 }
 
-/* Numerator of both path formulas, at tuples that differ in each member. */
+/* Numerator of path formulas that name variable 1, variable 2, both and none, at tuples that differ in each member. */
 static void numerators(void) {
-    const char *text = "AA.=PU0,2:Ta1PXa2";
+    const char *text = "AA.&=PU0,2:Ta1PXa2<PX&a1a2PU1,3:TT";
     const uint8_t tuple[3] = {0, 1, 3};
     uint64_t value[2] = {9, 9};
     size_t size = strlen(text);
     IS(TWOLSKEN_REFUSAL_TUPLE_OR_PATH,
-       twolsken_numerator(file, length, bytes(text), size, tuple, 2, 2, work, TWOLSKEN_WORK_AREA, value));
+       twolsken_numerator(file, length, bytes(text), size, tuple, 2, 4, work, TWOLSKEN_WORK_AREA, value));
     IS(TWOLSKEN_REFUSAL_TUPLE_OR_PATH,
        twolsken_numerator(file, length, bytes(text), size, tuple, 3, 0, work, TWOLSKEN_WORK_AREA, value));
     IS(TWOLSKEN_REFUSAL_TUPLE_OR_PATH,
@@ -251,14 +258,21 @@ static void numerators(void) {
     IS(9, value[0]);
     IS(9, value[1]);
     IS(0, twolsken_numerator(file, length, bytes(text), size, tuple, 2, 0, work, TWOLSKEN_WORK_AREA, value));
-    IS(12 * 16, value[0]);
-    IS(16 * 16, value[1]);
+    IS(12, value[0]);
+    IS(16, value[1]);
     IS(0, twolsken_numerator(file, length, bytes(text), size, tuple, 2, 1, work, TWOLSKEN_WORK_AREA, value));
-    IS(4 * 4, value[0]);
+    IS(4, value[0]);
+    IS(4, value[1]);
+    IS(0, twolsken_numerator(file, length, bytes(text), size, tuple, 2, 2, work, TWOLSKEN_WORK_AREA, value));
+    IS(2 * 4, value[0]);
     IS(4 * 4, value[1]);
+    IS(0, twolsken_numerator(file, length, bytes(text), size, tuple, 2, 3, work, TWOLSKEN_WORK_AREA, value));
+    IS(1, value[0]);
+    IS(1, value[1]);
     const uint8_t other[2] = {1, 0};
     IS(0, twolsken_numerator(file, length, bytes(text), size, other, 2, 1, work, TWOLSKEN_WORK_AREA, value));
-    IS(2 * 4, value[0]);
+    IS(2, value[0]);
+    IS(4, value[1]);
 }
 
 /*

@@ -83,14 +83,15 @@ size-at-returns-2 t c =
 size-at-returns-3 : (t : ℕ) → size-at-lts.Need-returns-3 (size-at-claims t) (size-at-at t) size-at.Post
 size-at-returns-3 t c =
     let s = c .before .before .before .before .before .before .before in
-    c .of-one .ensures .each (s .args .t1) (s .args .at) (c .before .before .before .before .before .before .if1 .left) refl
+    c .of-one .ensures .each (c .before .before .before .before .before .before .if1 .left) refl
     (ap operandCount (sym (c .before .before .before .before .wants-of .ensures) ∙ c .before .before .enum-told2 .given .1))
     (c .before .size-at .ensures)
 
 size-at-returns-4 : (t : ℕ) → size-at-lts.Need-returns-4 (size-at-claims t) (size-at-at t) size-at.Post
 size-at-returns-4 t c =
     let s = c .before .before .before .before .before .before .before in
-    c .of-two .ensures .each (s .args .t1) (s .args .at) (c .before .before .before .before .before .before .if1 .left) refl
+    c .of-two .ensures .each (s .args .t1) (s .args .at) (s .args .base) (s .args .n)
+    (c .before .before .before .before .before .before .if1 .left) refl
     (ap operandCount (sym (c .before .before .before .before .wants-of .ensures) ∙ c .before .before .enum-told3 .given .1))
     (c .before .operands .ensures)
 

@@ -10,7 +10,7 @@ returns c =
     let args = c .before .before .args in
     ap₂
     (λ (x y : Bool).
-    record { next = args .next; d = args .d; m = args .m; over = args .over || x || y })
+    record { next = args .next; d = args .d; m = args .m; steps = 0; over = args .over || x || y })
     (c .before .too-large .ensures) (c .too-large2 .ensures)
 
 pub judged-spec : {M : Type 1} → statement M

@@ -4,6 +4,7 @@ use Prim.Native.Nat.{ℕ, _+_}
 use mathlib.Core.List.{List}
 use mathlib.Core.Path.{sym, subst}
 use native.Mathlib.Omega.{arith}
+use lib.ListN.{take}
 use Rattle.steps.specs.Steps.{StepFits, Stepped}
 use Rattle.layers.proofs.Tails.{lent-tail, put-back}
 use Rattle.untils.proofs.Untils.{turned-from}
@@ -13,8 +14,9 @@ use Rattle.untils.proofs.turn.Tie as tie
 joint-named-requires : tie.Need-joint-named-requires
 joint-named-requires c κs =
     let start = c .before .before in
-    let args = start .args in (
-      subst (λ (l : List ℕ). StepFits (args .rows .now) (args .states) (args .variables) (args .tuples) l)
+    let args = start .args in
+    let those = take (args .variables) (args .moving) in (
+      subst (λ (l : List ℕ). StepFits (args .rows .now) (args .states) (args .variables) those (args .tuples) l)
           (sym (lent-tail (args .tuples + args .tuples) (args .work .now))) (start .pre .0 .step),
       start .pre .1,
     )
@@ -24,7 +26,7 @@ choose-requires c κs =
     let start = c .before .before .before .before .before .before in
     let T = start .args .tuples in
     let w = start .args .work .now in
-    let tail = c .before .before .before .joint-named .last .1 .1 .1 .1 .1 .1 .0 in
+    let tail = c .before .before .before .joint-named .last .1 .1 .1 .1 .1 .1 .1 .0 in
     let stepped = c .before .before .before .joint-named .ensures in
     let back = put-back (T + T) w tail (omega (arith, start .pre .0 .room)) (stepped .kept .long) in
     omega (arith, back .long, start .pre .0 .room)
@@ -34,13 +36,13 @@ returns c =
     let start = c .before .before .before .before .before .before .before .before .before in
     let T = start .args .tuples in
     let w = start .args .work .now in
-    let tail = c .before .before .before .before .before .before .joint-named .last .1 .1 .1 .1 .1 .1 .0 in
+    let tail = c .before .before .before .before .before .before .joint-named .last .1 .1 .1 .1 .1 .1 .1 .0 in
     let stepped = c .before .before .before .before .before .before .joint-named .ensures in
     let back = put-back (T + T) w tail (omega (arith, start .pre .0 .room)) (stepped .kept .long) in
     let args = start .args in
+    let those = take (args .variables) (args .moving) in
     turned-from (start .pre .0 .step .sizes .whole)
-    (subst (λ (l : List ℕ). Stepped (args .rows .now) (args .states) (args .variables) T l tail) (lent-tail (T + T) w)
-    stepped)
+    (subst (λ (l : List ℕ). Stepped (args .rows .now) (args .states) (args .variables) those T l tail) (lent-tail (T + T) w) stepped)
     back (c .before .before .choose .ensures)
 
 pub turn-spec : {M : Type 1} → statement M

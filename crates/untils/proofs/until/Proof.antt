@@ -4,6 +4,7 @@ use Prim.Native.Nat.{_-_}
 use mathlib.Core.Logic.{inl, inr}
 use mathlib.Core.Path.{refl, _∙_}
 use native.Mathlib.Omega.{arith}
+use lib.ListN.{take}
 use Rattle.untils.proofs.Untils.{Untiling, untiling-none, untiling-next, untiling-all}
 use Rattle.untils.proofs.Untils.{next-power, power-fits, turn-fits}
 use Rattle.untils.proofs.Untils.{copied-fits, copied-same, copied-taken}
@@ -11,11 +12,11 @@ use Rattle.untils.proofs.until.Statement.{statement}
 use Rattle.untils.proofs.until.Tie as tie
 
 abbrev Inv-loop : tie.InvT-loop
-Inv-loop rows states variables d k1 k2 tuples work₀ places most all₀ left₀ work all left =
-    Untiling rows states variables tuples d k1 k2 work₀ all left work
+Inv-loop rows states moving variables count d k1 k2 tuples work₀ places most all₀ left₀ work all left =
+    Untiling rows states variables (take variables moving) tuples d k1 k2 work₀ all left work
 
 abbrev μ-loop : tie.MeasureT-loop
-μ-loop rows states variables d k1 k2 tuples work₀ places most all₀ left₀ work all left = k2 - left
+μ-loop rows states moving variables count d k1 k2 tuples work₀ places most all₀ left₀ work all left = k2 - left
 
 -- where the second layer has been copied to the third, and where the function starts, seen from the loop
 abbrev copy-of : tie.At-loop Inv-loop μ-loop → tie.After-copy Inv-loop μ-loop

@@ -15,10 +15,9 @@ use Rattle.evaluate.proofs.Operands.{forward-first, forward-then, formu
 use Rattle.evaluate.proofs.Operands.{formulas-standing, formulas-exchanged, expressions-inside, expressions-room}
 use Rattle.evaluate.proofs.Operands.{expression-first, expression-then, expressions-standing, expressions-exchanged}
 use Rattle.evaluate.proofs.Others.{no-formula, no-expression, no-path}
-use Rattle.evaluate.proofs.Pathways.{path-inside, next-ready, next-scales, stepping-ready, until-ready}
-use Rattle.evaluate.proofs.Pathways.{until-times, until-scales, taking-ready, next-done, until-done}
+use Rattle.evaluate.proofs.Pathways.{path-inside, next-ready, stepping-ready, until-ready, taking-ready, next-done, until-done}
 use Rattle.evaluate.proofs.Places.{to-operand, to-operands, to-operation, to-each, place-most, next-fits}
-use Rattle.evaluate.proofs.Places.{place-fits, small-fits, times-fit, room-kept, front-kept}
+use Rattle.evaluate.proofs.Places.{place-fits, small-fits, room-kept, front-kept}
 use Prim.Native.Nat.{ℕ, _+_, _-_, _*_, _<_}
 use mir.Syntax.{w64}
 use mir.Val.{Fits}
@@ -60,8 +59,7 @@ use Rattle.fractions.proofs.codes.constant.Reads as constant-reads
 use Rattle.layers.proofs.plain.always.Reads as always-reads
 use Rattle.layers.proofs.plain.both.Reads as both-reads
 use Rattle.layers.proofs.plain.negated.Reads as negated-reads
-use Rattle.steps.proofs.joint_step.Reads as joint-step-reads
-use Rattle.layers.proofs.power.scaled.Reads as scaled-reads
+use Rattle.evaluate.proofs.plain.next_within.Reads as next-within-reads
 use Rattle.evaluate.proofs.nodes.+combined+expression+path+state_formula+two_expressions+two_formulas.{
   statement,
 }
@@ -167,10 +165,8 @@ abbrev path-claims : ℕ → path-lts.Claims
 path-claims t = (
   state-formula-below t,
   state-formula.Post,
-  joint-step-reads.Asked,
-  joint-step-reads.Learnt,
-  scaled-reads.Asked,
-  scaled-reads.Learnt,
+  next-within-reads.Asked,
+  next-within-reads.Learnt,
   two-formulas-below t,
   two-formulas.Post,
   until-within-reads.Asked,
@@ -327,18 +323,12 @@ path-state-formula-requires t c κs =
       next-ready (start .pre .1) (c .before .enum-told .given .1),
     )
 
-path-joint-step-requires : (t : ℕ) → path-lts.Need-joint-step-requires (path-claims t) (path-at t) path.Post
-path-joint-step-requires t c κs =
+path-next-within-requires : (t : ℕ) → path-lts.Need-next-within-requires (path-claims t) (path-at t) path.Post
+path-next-within-requires t c κs =
     let call = c .before .before .before .state-formula in
-    stepping-ready (c .before .before .before .before .before .before .before .before .before .pre .1)
-    (c .before .before .before .before .before .enum-told .given .1) (call .ensures) (call .kept .1 .1 .1 .1 .1 .0)
-
-path-scaled-requires : (t : ℕ) → path-lts.Need-scaled-requires (path-claims t) (path-at t) path.Post
-path-scaled-requires t c κs =
-    let scales = next-scales
-    (c .before .before .before .before .before .before .before .before .before .before .before .before .pre .1)
-    (c .before .before .before .before .before .before .before .before .enum-told .given .1) in
-    (scales .0, scales .1)
+    let told = c .before .before .before .before .before in
+    stepping-ready (told .before .before .before .before .pre .1) (told .enum-told .given .1)
+    (call .ensures) (call .kept .1 .1 .1 .1 .1 .0)
 
 path-two-formulas-requires : (t : ℕ) → path-lts.Need-two-formulas-requires (path-claims t) (path-at t) path.Post
 path-two-formulas-requires t c κs =
@@ -355,32 +345,18 @@ path-until-within-requires t c κs =
     taking-ready (c .before .before .before .before .before .before .before .before .before .before .pre .1)
     (node .0 .0) (node .0 .1 .0) (node .1) (call .ensures) (call .kept .1 .1 .1 .1 .1 .0)
 
-path-mul-scaled : (t : ℕ) → path-lts.Need-mul-scaled (path-claims t) (path-at t) path.Post
-path-mul-scaled t c =
-    let told = c .before .before .before .before .before .before .before .before .before .before in
-    let start = told .before .before .before .before in
-    let node = told .node .given in
-    times-fit _ (until-times (start .pre .1) (node .0 .0) (node .0 .1 .0) (node .1))
-
-path-scaled-requires-2 : (t : ℕ) → path-lts.Need-scaled-requires-2 (path-claims t) (path-at t) path.Post
-path-scaled-requires-2 t c κs =
-    let told = c .before .before .before .before .before .before .before .before .before .before in
-    let start = told .before .before .before .before in
-    let node = told .node .given in
-    until-scales (start .pre .1) (node .0 .0) (node .0 .1 .0) (node .1)
-
 path-returns : (t : ℕ) → path-lts.Need-returns (path-claims t) (path-at t) path.Post
 path-returns t c =
-    next-done (c .before .before .before .before .before .before .before .before .before .enum-told .given .1)
-    (c .before .before .before .before .before .before .before .state-formula .ensures)
-    (c .before .before .before .joint-step .ensures) (c .scaled .ensures)
+    let told = c .before .before .before .before .before .before .before .before in
+    next-done (told .before .before .before .before .pre .1 .few) (told .enum-told .given .1)
+    (c .before .before .before .before .before .before .state-formula .ensures) (c .before .before .next-within .ensures)
 
 path-returns-2 : (t : ℕ) → path-lts.Need-returns-2 (path-claims t) (path-at t) path.Post
 path-returns-2 t c =
-    let node = c .before .before .before .before .before .before .before .before .before .before .before .node .given in
-    until-done (node .0 .0) (node .0 .1 .0) (node .1)
-    (c .before .before .before .before .before .before .before .before .two-formulas .ensures)
-    (c .before .before .before .before .until-within .ensures) (c .scaled2 .ensures)
+    let told = c .before .before .before .before .before .before .before .before .before in
+    let node = told .node .given in
+    until-done (told .before .before .before .before .pre .1 .few) (node .0 .0) (node .0 .1 .0) (node .1)
+    (c .before .before .before .before .before .before .two-formulas .ensures) (c .before .before .until-within .ensures)
 
 path-returns-3 : (t : ℕ) → path-lts.Need-returns-3 (path-claims t) (path-at t) path.Post
 path-returns-3 t c = no-path (c .before .match .keys3)
@@ -701,15 +677,11 @@ pub +combined+expression+path+state-formula+two-expressions+two-formulas-spec :
     (λ c. search needs)
     (λ c. path-next t (c .before .before .before .before))
     (path-state-formula-requires t)
-    (path-joint-step-requires t)
-    (path-scaled-requires t)
+    (path-next-within-requires t)
     (λ c. search needs)
     (λ c. path-next t (c .before .before .before .before .before))
     (path-two-formulas-requires t)
     (path-until-within-requires t)
-    (λ c. search needs)
-    (path-mul-scaled t)
-    (path-scaled-requires-2 t)
     (λ c κs. search needs)
     (λ c. search needs)
     (path-returns t)

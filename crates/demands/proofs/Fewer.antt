@@ -1,0 +1,128 @@
+-- T-02 of the calls (`fewer-variables`), by the theorem of the crate `unchanged`.
+use Prim.Native.Nat.{ℕ, _*_, _^_, _≤_}
+use mathlib.Core.Bool.{Bool, true, false, true≢false}
+use mathlib.Core.List.{List, map}
+use mathlib.Core.Path.{_≡_, refl, sym, ap, subst, _∙_}
+use native.Mathlib.Decide.{ℕ-discrete}
+use native.Mathlib.Nat.{pow-zero, zero-mul}
+use native.Mathlib.Omega.{arith}
+use lib.ListN.{length}
+use Rattle.refusal.specs.Answers.{gives}
+use Rattle.refusal.specs.Rows.{Given, by-row, by-none}
+use Rattle.refusal.proofs.Ensuring.{right-of}
+use Rattle.model.specs.Layout.{fieldsOf}
+use Rattle.model.specs.Contract.{fileRows, fileNumber}
+use Rattle.model.proofs.Theorems.{read-smallest}
+use Rattle.sentence.specs.Grammar.{Spells}
+use Rattle.meaning.specs.Chain.{Chain, Tuple, Inside}
+use Rattle.meaning.specs.Tree.{Formula, PathFormula, letterOf}
+use Rattle.meaning.specs.Named.{v}
+use Rattle.meaning.specs.Meaning.{stepsOf, numerator, denominator}
+use Rattle.meaning.specs.Size.{exceeds}
+use Rattle.meaning.proofs.Steps.{numerator-le, denominator-steps}
+use Rattle.unchanged.specs.Base as Base
+use Rattle.unchanged.specs.Unchanged.{shrunk, Unchanged}
+use Rattle.unchanged.proofs.Unchanged.{values-unchanged}
+use Rattle.trees.specs.Listed.{formulaNodes}
+use Rattle.chain.proofs.Accepted.{sound, total-some}
+use Rattle.question.specs.Contract.{QuestionRow, area, model, sentence, labels, size, tuples, SentenceOf}
+use Rattle.question.proofs.Numbers.{file-number, text-number}
+use Rattle.question.proofs.Settled.{file-free}
+use Rattle.verdict.specs.declared.Answer as Judged
+use Rattle.verdict.specs.Contract.{VerdictEnsures, verdictReply}
+use Rattle.numerator.specs.declared.Answer as Counted
+use Rattle.numerator.specs.Contract.{NumeratorRow, question, NumeratorEnsures, numbered, numeratorReply}
+use Rattle.demands.specs.Demands.{chainIn, SameFraction, BaseRow, other, FewerVariables}
+use Rattle.demands.specs.Demands as Said
+use Rattle.demands.proofs.Free.{tuple-inside}
+
+-- on the chain of an accepted file nothing has changed
+unchanged : (file : List ℕ) → fileNumber file ≡ 0 → (n : ℕ) → Unchanged (chainIn file) n
+unchanged file ok n = values-unchanged .values (chainIn file) (sound file ok) (total-some file ok) n
+
+-- where no row of the base applies, the file is accepted,
+accepted-base : (file text : List ℕ) (room : ℕ) → ((n : ℕ) → BaseRow file text room n → ⊥) → fileNumber file ≡ 0
+accepted-base file text room none = by (read-smallest file)
+  where
+    by : {n : ℕ} → Given (fileRows file) n → n ≡ 0
+    by (by-row {n} a least) = absurd (none n (other (model a) (λ e. let m = file-number file a in omega arith)))
+    by (by-none free) = refl
+
+-- the body is not too large for row 10,
+fits-base : (file text : List ℕ) (room : ℕ) → ((n : ℕ) → BaseRow file text room n → ⊥) → {ps : List Bool} (f : Formula) →
+    Spells ps (formulaNodes f) text → exceeds f (fieldsOf file .d) (length ps) ≡ false
+fits-base file text room none {ps} f sp =
+    unchanged file (accepted-base file text room none) (length ps) .answered f (by (Base.exceeds f (fieldsOf file .d) (length ps)) refl)
+  where
+    by : (b : Bool) → Base.exceeds f (fieldsOf file .d) (length ps) ≡ b → b ≡ false
+    by true e = absurd (none 10 (Said.size f sp e))
+    by false e = refl
+
+-- and so no row applies
+no-row : (file text : List ℕ) (room : ℕ) → ((n : ℕ) → BaseRow file text room n → ⊥) → (n : ℕ) → QuestionRow file text room n → ⊥
+no-row file text room none n row = by (ℕ-discrete n 10)
+  where
+    ten : {n : ℕ} → QuestionRow file text room n → n ≡ 10 → ⊥
+    ten (area h) e = omega arith
+    ten (model r) e = let m = file-number file r in omega arith
+    ten (sentence r) e = let m = text-number r in omega arith
+    ten (labels f sp x) e = omega arith
+    ten (size f sp x) e = true≢false (sym x ∙ fits-base file text room none f sp)
+    ten (tuples f sp x) e = omega arith
+
+    by : Dec (n ≡ 10) → ⊥
+    by (yes e) = ten row e
+    by (no d) = none n (other row d)
+
+still : {file text before after : List ℕ} {a : Judged.Answer} → VerdictEnsures file text before a after →
+    ((n : ℕ) → BaseRow file text (length before) n → ⊥) →
+    (s : SentenceOf text) × (verdictReply a ≡ gives (Base.verdict (chainIn file) (map letterOf (s .prefix)) (s .body)))
+still {file} {text} {before} x none =
+    let right = right-of (no-row file text (length before) none) (x .ensured) in
+    let s = right .2 .sentence in
+    let ok = accepted-base file text (length before) none in
+    let same = values-unchanged .verdicts (chainIn file) (sound file ok) (total-some file ok) .verdicts
+    (map letterOf (s .prefix)) (s .body) in
+    (s, right .1 ∙ ap gives (right .2 .meant ∙ sym same))
+
+same-fraction : {file text tuple before after : List ℕ} {path : ℕ} {a : Counted.Answer} →
+    NumeratorEnsures file text tuple path before a after → ((n : ℕ) → NumeratorRow file text tuple path (length before) n → ⊥) →
+    (s : SentenceOf text) × (x : ℕ × ℕ) × (numeratorReply a ≡ gives x) × SameFraction (chainIn file) (numbered (s .body) path)
+    (length (s .prefix)) tuple (x .0) (x .1)
+same-fraction {file} {path = path} x none =
+    let right = right-of none (x .ensured) in
+    let s = right .2 .sentence in
+    let p = numbered (s .body) path in
+    let n = length (s .prefix) in
+    let same = unchanged file (file-free (λ n r. none n (question r))) n in
+    let by = shrunk p (chainIn file .D) n in (
+      s,
+      right .0,
+      right .1,
+      record {
+        numerators = same .numerators p (tuple-inside none s) ∙ ap (λ (k : ℕ). k * by) (sym (right .2 .top));
+        denominators = same .denominators p ∙ ap (λ (k : ℕ). k * by) (sym (right .2 .bottom));
+      },
+    )
+
+none : (file : List ℕ) → fileNumber file ≡ 0 → (p : PathFormula) (n : ℕ) → v p n ≡ 0 → {tuple : Tuple} →
+    Inside (chainIn file .N) n tuple → (numerator p (chainIn file) n tuple ≤ 1) × (denominator p (chainIn file .D) n ≡ 1)
+none file ok p n e {tuple} inside = (subst (λ (k : ℕ). numerator p c n tuple ≤ k) one (numerator-le p c (sound file ok) n inside), one)
+  where
+    c : Chain
+    c = chainIn file
+
+    one : denominator p (chainIn file .D) n ≡ 1
+    one =
+        denominator-steps p (chainIn file .D) n ∙
+        ap (λ (k : ℕ). chainIn file .D ^ (k * stepsOf p)) e ∙
+        ap (λ (k : ℕ). chainIn file .D ^ k) (zero-mul (stepsOf p)) ∙
+        pow-zero (chainIn file .D)
+
+pub fewer-variables : FewerVariables
+fewer-variables = record {
+  values = unchanged;
+  still-given = λ x free. still x free;
+  fractions = λ x free. same-fraction x free;
+  none-named = λ file ok p n e inside. none file ok p n e inside;
+}
