@@ -3,10 +3,7 @@ use Prim.Native.Nat.{ℕ, _^_}
 use mathlib.Core.List.{List}
 use mathlib.Core.Path.{_≡_, sym, ap, subst, _∙_}
 use Rattle.meaning.specs.Chain.{Chain, Tuple}
-use Rattle.meaning.specs.Named.{Some}
 use Rattle.layers.specs.Layers.{Layer}
-use Rattle.steps.specs.Steps.{Stepped}
-use Rattle.untils.specs.Untils.{UntilTaken}
 use Rattle.evaluate.specs.declared.Setting.{Setting}
 use Rattle.evaluate.specs.Evaluation.{Fixed}
 
@@ -22,13 +19,3 @@ module _ {c : Chain} {masks : List ℕ} {rows : List (List ℕ)} {g : Setting} (
   -- T is N^n
   pub tuple-count : g .tuples ≡ c .N ^ g .variables
   tuple-count = fixed .sizes .whole ∙ ap (λ (N : ℕ). N ^ g .variables) (sym (fixed .held .states))
-
--- a step, and an until, by variables that are known by another name
-pub stepped-by : {rows : List (List ℕ)} {N n T : ℕ} {bs cs : Some} {before after : List ℕ} → bs ≡ cs →
-    Stepped rows N n bs T before after → Stepped rows N n cs T before after
-stepped-by {rows} {N} {n} {T} {bs} {cs} {before} {after} e h = subst (λ (x : Some). Stepped rows N n x T before after) e h
-
-pub taken-by : {rows : List (List ℕ)} {N n T d k1 k2 : ℕ} {bs cs : Some} {before after : List ℕ} → bs ≡ cs →
-    UntilTaken rows N n bs T d k1 k2 before after → UntilTaken rows N n cs T d k1 k2 before after
-taken-by {rows} {N} {n} {T} {d} {k1} {k2} {bs} {cs} {before} {after} e h =
-    subst (λ (x : Some). UntilTaken rows N n x T d k1 k2 before after) e h

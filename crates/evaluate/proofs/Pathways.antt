@@ -22,6 +22,8 @@ use Rattle.layers.specs.Layers.{Layer}
 use Rattle.layers.specs.Held.{mostVariables}
 use Rattle.steps.specs.Steps.{StepFits}
 use Rattle.untils.specs.Untils.{UntilFits}
+use Rattle.steps.proofs.Joint.{stepped-by}
+use Rattle.untils.proofs.Repeating.{repeated-by}
 use Rattle.untils.proofs.Paths.{truth-small, next-layer, until-layer}
 use Rattle.trees.specs.Need.{paired, need, needFrom}
 use Rattle.trees.specs.Ranged.{RangedFrom}
@@ -34,7 +36,7 @@ use Rattle.evaluate.specs.declared.Valued.{Valued}
 use Rattle.evaluate.specs.Evaluation.{Fixed, FormulaReady, FormulasReady, PathReady, FormulaDone, FormulasDone}
 use Rattle.evaluate.specs.Evaluation.{PathDone, namedAt, NextFits, NextTaken, WindowFits, WindowTaken}
 use Rattle.evaluate.proofs.Needing.{needFrom-some, room-of}
-use Rattle.evaluate.proofs.Fixing.{to-chain, to-setting, tuple-count, stepped-by, taken-by}
+use Rattle.evaluate.proofs.Fixing.{to-chain, to-setting, tuple-count}
 
 -- the variables that step are those that occur in whatever path stands at the places
 those-of : (nodes : List Slot) (g : Setting) (at : ℕ) → g .variables ≤ mostVariables → {r q : ℕ} (p p′ : PathFormula) →
@@ -253,5 +255,5 @@ module _ {nodes : List Slot} {g : Setting} {masks : List ℕ} {rows : List (List
         subst (λ (p : PathFormula). Layer (c .N) n (numerator p c n) after) (sym (it .3))
             (to-chain fixed (until-layer (fixed .held) (it .0) (to-setting fixed (h .1)) (it .1)
             (to-setting fixed (h .2)) (fixed .sums)
-            (taken-by those (taken .taken)))),
+            (repeated-by those (taken .taken)))),
       ))

@@ -19,7 +19,7 @@ use Rattle.layers.specs.Held.{mostVariables, Holds, LayerSizes}
 use Rattle.fractions.specs.Values.{numeratorCodes, expressionOf}
 use Rattle.fractions.specs.declared.Operation.{Operation}
 use Rattle.steps.specs.Steps.{StepFits, Stepped}
-use Rattle.untils.specs.Untils.{UntilFits, UntilTaken}
+use Rattle.untils.specs.Untils.{UntilFits, UntilRepeated}
 use Rattle.names.specs.Names.{namesBetween}
 use Rattle.trees.specs.Need.{paired, need, needIn, needFrom}
 use Rattle.trees.specs.Ranged.{Ranged, RangedIn, RangedFrom}
@@ -176,7 +176,7 @@ module _ (nodes : List Slot) (g : Setting) (rows : List (List ℕ)) where
         k1 k2 w
 
   pub record WindowTaken (k1 k2 at end : ℕ) (before after : List ℕ) (r : ℕ) : Type 0 where
-    pub taken : UntilTaken rows (g .states) (g .variables) (namedAt nodes g at end) (g .tuples) (g .d) k1 k2 before after
+    pub taken : UntilRepeated rows (g .states) (g .variables) (namedAt nodes g at end) (g .tuples) (g .d) k1 k2 before after
     pub bottom : r ≡ g .d ^ (count (namedAt nodes g at end) * k2)
 
 -- ---- two expressions and what an operation makes of them

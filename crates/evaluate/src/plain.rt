@@ -10,7 +10,7 @@ use names::how_many;
 use names::names;
 use sentence::Slot;
 use steps::joint_step;
-use untils::until;
+use untils::until_repeated;
 
 // The comparison of a node, as the fractions have it.
 pub(crate) fn relation_of(r: sentence::Relation) -> fractions::Relation
@@ -62,7 +62,7 @@ pub(crate) fn until_within(
     let v = how_many(moving, g.variables);
     let k1 = from as usize;
     let k2 = to as usize;
-    until(
+    until_repeated(
         rows,
         g.states,
         moving,

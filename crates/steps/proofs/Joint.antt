@@ -7,7 +7,7 @@ use native.Mathlib.Nat.{mod-lt, pow-suc, pow-succ', pow-zero, pow-le-pow-right, 
 use native.Mathlib.Numerals.{add-one}
 use native.Mathlib.Omega.{arith}
 use lib.ListN.{length, getD, set, take, drop, drop-of-length-le}
-use lib.Seq.{drop-cons, getD-take}
+use lib.Seq.{drop-cons, getD-drop, getD-take}
 use Rattle.counting.specs.Below.{sumBelow}
 use Rattle.counting.proofs.Laws.{sum-same}
 use Rattle.meaning.specs.Lists.{below, total}
@@ -19,7 +19,7 @@ use Rattle.layers.specs.Layers.{Layer, RestKept}
 use Rattle.counting.specs.Entries.{cell}
 use Rattle.steps.specs.Columns.{start, LayerFits, LayerStepped, LayerMoved}
 use Rattle.layers.specs.Held.{Holds, LayerSizes}
-use Rattle.steps.specs.Steps.{StepFits, Stepped}
+use Rattle.steps.specs.Steps.{lastOf, StepFits, Stepped}
 use Rattle.steps.proofs.Columns.{columnOf, start-split, start-column, place-below, column-below}
 use Rattle.layers.proofs.Places.{pow-some, pow-place, state-at, tuple-moved}
 use Rattle.meaning.proofs.Sums.{total-sum}
@@ -93,9 +93,27 @@ scaled D m bound =
     let e : D ^ suc m * bound ≡ D * D ^ m * bound = ap (λ (x : ℕ). x * bound) (pow-succ' D m) in
     omega arith
 
--- whether the variable with m after it is one of the first n that move
-pub is-moving : {n m : ℕ} (moving : Some) → m < n → getD (take n moving) (n - suc m) false ≡ getD moving (n - suc m) false
-is-moving {n} {m} moving less = getD-take n moving (n - suc m) false (omega arith)
+-- whether the variable with m after it moves, of the last l of n
+pub is-moving : {n l m : ℕ} (moving : Some) → l ≤ n → m < l → getD (lastOf n l moving) (l - suc m) false ≡ getD moving (n - suc m) false
+is-moving {n} {l} {m} moving few less =
+    let e : n - l + (l - suc m) ≡ n - suc m = omega arith in
+    getD-drop (n - l) (take n moving) (l - suc m) false ∙
+    ap (λ (i : ℕ). getD (take n moving) i false) e ∙
+    getD-take n moving (n - suc m) false (omega arith)
+
+-- the last n of n are all
+pub last-all : (n : ℕ) (moving : Some) → lastOf n n moving ≡ take n moving
+last-all n moving =
+    let none : n - n ≡ 0 = omega arith in
+    ap (λ (k : ℕ). drop k (take n moving)) none
+
+-- what a step asks and says, by variables that are known by another name
+pub fits-by : {rows : List (List ℕ)} {N n T : ℕ} {bs cs : Some} {w : List ℕ} → bs ≡ cs → StepFits rows N n bs T w → StepFits rows N n cs T w
+fits-by {rows} {N} {n} {T} {bs} {cs} {w} e h = subst (λ (x : Some). StepFits rows N n x T w) e h
+
+pub stepped-by : {rows : List (List ℕ)} {N n T : ℕ} {bs cs : Some} {before after : List ℕ} → bs ≡ cs →
+    Stepped rows N n bs T before after → Stepped rows N n cs T before after
+stepped-by {rows} {N} {n} {T} {bs} {cs} {before} {after} e h = subst (λ (x : Some). Stepped rows N n x T before after) e h
 
 -- no more of the last variables than of all
 count-drop : (bs : Some) (k : ℕ) → count (drop k bs) ≤ count bs

@@ -1,16 +1,20 @@
 -- Working: what the functions of this crate promise one another. Nothing here has to be believed.
 --
 -- A joint step of some variables, over a whole layer: what it asks, and what it makes of any function that the layer held.
-use Prim.Native.Nat.{ℕ, _*_, _^_, _≤_, _<_}
+use Prim.Native.Nat.{ℕ, _-_, _*_, _^_, _≤_, _<_}
 use mathlib.Core.List.{List}
 use mathlib.Core.Path.{_≡_}
-use lib.ListN.{length, getD}
+use lib.ListN.{length, getD, take, drop}
 use Rattle.meaning.specs.Chain.{Chain, Tuple}
 use Rattle.meaning.specs.Named.{Some, count}
 use Rattle.meaning.proofs.Steps.{steps}
 use Rattle.meaning.specs.Size.{sizeLimit}
 use Rattle.layers.specs.Layers.{Layer, RestKept}
 use Rattle.layers.specs.Held.{mostVariables, Holds, LayerSizes}
+
+-- of the last l of n variables, those that move
+abbrev pub lastOf : (n l : ℕ) → Some → Some
+lastOf n l moving = drop (n - l) (take n moving)
 
 -- the matrix holds a chain, those that move are some of n variables, the layer lies in the list, and its numbers, none above `bound`,
 -- times D^v are at most 2^62

@@ -9,7 +9,7 @@ ghost use lib.ListN.{length, getD, take};
 ghost use Rattle.layers.specs.Held.{mostStates, mostVariables};
 ghost use Rattle.steps.specs.Sparse.{RowsNamed};
 ghost use Rattle.steps.specs.Columns.{ColumnIn, ColumnRead, ColumnFits, ColumnStepped, LayerFits, LayerStepped, LayerMoved};
-ghost use Rattle.steps.specs.Steps.{StepFits, Stepped};
+ghost use Rattle.steps.specs.Steps.{lastOf, StepFits, Stepped};
 use layers::STATES;
 use sparse::PLACES;
 
@@ -111,7 +111,7 @@ fn moves(moving: [bool; 4], variables: usize, m: usize) -> bool
     moving[variables - m - 1]
 }
 
-// A joint step by the places that name the rows' weights: the variables that move step, the last first.
+// A joint step of the last variables by the places that name the rows' weights: those that move step, the last first.
 pub fn joint_named(
     rows: &[[u16; STATES]; STATES],
     places: &[[u8; PLACES]; STATES],
@@ -119,16 +119,19 @@ pub fn joint_named(
     states: usize,
     moving: [bool; 4],
     variables: usize,
+    last: usize,
     tuples: usize,
     work: &mut [u64],
 )
-    requires { ⌜ StepFits (now rows) states variables (take variables moving) tuples (now work) ×
+    requires { ⌜ (last ≤ variables) × (variables ≤ mostVariables) ×
+        StepFits (now rows) states last (lastOf variables last moving) tuples (now work) ×
         RowsNamed (now rows) states most (now places) ⌝ }
-    ensures { λ r. ⌜ Stepped (now (rows .entry)) states variables (take variables moving) tuples (now (work .entry)) (now (work .exit)) ⌝ }
+    ensures { λ r. ⌜ Stepped (now (rows .entry)) states last (lastOf variables last moving) tuples
+        (now (work .entry)) (now (work .exit)) ⌝ }
 {
     let mut stride: usize = 1;
     let mut m: usize = 0;
-    while m < variables {
+    while m < last {
         let steps = moves(moving, variables, m);
         step_if(steps, rows, places, most, states, stride, tuples, work);
         stride = stride * states;
@@ -151,5 +154,15 @@ pub fn joint_step(
 {
     let mut places = [[0u8; PLACES]; STATES];
     let most = sparse::name_rows(rows, states, &mut places);
-    joint_named(rows, &places, most, states, moving, variables, tuples, work);
+    joint_named(
+        rows,
+        &places,
+        most,
+        states,
+        moving,
+        variables,
+        variables,
+        tuples,
+        work,
+    );
 }

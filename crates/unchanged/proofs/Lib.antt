@@ -1,5 +1,4 @@
 -- The theorem of specs/Unchanged.
-pub mod Looking
 pub mod Fewer
 pub mod Scaled
 pub mod Unchanged

@@ -19,7 +19,7 @@ use Rattle.unchanged.specs.Base as Base
 use Rattle.unchanged.specs.Unchanged.{shrunk, ValuesUnchanged, fourStarts, NowAnswered}
 use Rattle.meaning.proofs.Tests.{every-same, thereIs-same, or-left, or-right, below-member}
 use Rattle.meaning.proofs.Named.{named-length}
-use Rattle.unchanged.proofs.Looking.{alike-named, halves, holds-looks}
+use Rattle.meaning.proofs.Looking.{alike-named, halves, holds-looks}
 use Rattle.unchanged.proofs.Fewer.{count-le, powers, until-fewer, next-fewer}
 use Rattle.unchanged.proofs.Scaled.{Scaled, scaled-self, add-scaled, sub-scaled, mul-scaled, compared-scaled, same-fraction}
 

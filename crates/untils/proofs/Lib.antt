@@ -1,3 +1,4 @@
 -- What belongs to no one function.
 pub mod Untils
+pub mod Repeating
 pub mod Paths

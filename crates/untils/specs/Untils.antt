@@ -1,9 +1,9 @@
 -- Working: what the functions of this crate promise one another. Nothing here has to be believed.
 --
 -- An until over three layers: the truth of the first formula, the truth of the second, and one layer to compute in.
-use Prim.Native.Nat.{ℕ, _+_, _*_, _^_, _≤_, _<_}
-use mathlib.Core.Bool.{Bool, cond, not, _&&_}
-use mathlib.Core.List.{List}
+use Prim.Native.Nat.{ℕ, _+_, _-_, _*_, _^_, _≤_, _<_}
+use mathlib.Core.Bool.{Bool, false, cond, not, _&&_}
+use mathlib.Core.List.{List, _++_}
 use mathlib.Core.Path.{_≡_}
 use lib.Dec.{eqb}
 use lib.ListN.{length, getD, drop}
@@ -60,6 +60,25 @@ pub record UntilFits (rows : List (List ℕ)) (N n : ℕ) (those : Some) (v T d 
 -- until takes; the second and the third may have changed, and what lies past them has stayed
 pub record UntilTaken (rows : List (List ℕ)) (N n : ℕ) (those : Some) (T d k1 k2 : ℕ) (before after : List ℕ) : Type 0 where
   pub each : (c : Chain) → Holds c rows N → c .D ≡ d → (first second : Tuple → Bool) →
+      Layer N n (truth first) before → Layer N n (truth second) (drop T before) →
+      Layer N n
+      (λ s. takenWeight c (count those) k2 (untilTakes (beside those s first) (beside those s second) k1 k2) (chosen those s)) after
+  pub kept : RestKept (T + T + T) before after
+
+-- r of n variables stand from the first that moves on: none before it moves
+pub record FromFirst (moving : Some) (n r : ℕ) : Type 0 where
+  pub upTo : r ≤ n
+  pub quiet : (i : ℕ) → i < n - r → getD moving i false ≡ false
+
+-- a test that does not look at variables before the first that moves
+abbrev pub Overlooks : Some → (Tuple → Bool) → Type 0
+Overlooks those test =
+    (a b t : Tuple) → length a ≡ length b → length a ≤ length those → ((i : ℕ) → i < length a → getD those i false ≡ false) →
+    test (a ++ t) ≡ test (b ++ t)
+
+-- the same as `UntilTaken`, of tests that overlook those variables
+pub record UntilRepeated (rows : List (List ℕ)) (N n : ℕ) (those : Some) (T d k1 k2 : ℕ) (before after : List ℕ) : Type 0 where
+  pub each : (c : Chain) → Holds c rows N → c .D ≡ d → (first second : Tuple → Bool) → Overlooks those first → Overlooks those second →
       Layer N n (truth first) before → Layer N n (truth second) (drop T before) →
       Layer N n
       (λ s. takenWeight c (count those) k2 (untilTakes (beside those s first) (beside those s second) k1 k2) (chosen those s)) after

@@ -1,11 +1,13 @@
 // The numerator of an until at all tuples: by steps left, one joint step and one choice a layer.
 ghost use mathlib.Core.Path.{_≡_};
 ghost use mathlib.Core.Logic.{_⊎_};
-ghost use Prim.Native.Nat.{_+_, _≤_, _<_};
+ghost use Prim.Native.Nat.{_+_, _-_, _%_, _^_, _≤_, _<_};
 ghost use lib.ListN.{length, getD, take};
 ghost use Rattle.layers.specs.Layers.{WrittenAt};
+ghost use Rattle.layers.specs.Held.{mostVariables, mostTuples};
 ghost use Rattle.steps.specs.Sparse.{RowsNamed};
-ghost use Rattle.untils.specs.Untils.{choice, choiceAt, TurnFits, Turned, UntilFits, UntilTaken};
+ghost use Rattle.steps.specs.Steps.{lastOf};
+ghost use Rattle.untils.specs.Untils.{choice, choiceAt, TurnFits, Turned, UntilFits, UntilTaken, FromFirst, UntilRepeated};
 use layers::STATES;
 use layers::power::scaled;
 use steps::joint_named;
@@ -65,14 +67,15 @@ fn turn(
     states: usize,
     moving: [bool; 4],
     variables: usize,
+    last: usize,
     opened: bool,
     all: u64,
     tuples: usize,
     work: &mut [u64],
 )
-    requires { ⌜ TurnFits (now rows) states variables (take variables moving) tuples (now work) ×
-        RowsNamed (now rows) states most (now places) ⌝ }
-    ensures { λ r. ⌜ Turned (now (rows .entry)) states variables (take variables moving) tuples opened all
+    requires { ⌜ (last ≤ variables) × (variables ≤ mostVariables) ×
+        TurnFits (now rows) states last (lastOf variables last moving) tuples (now work) × RowsNamed (now rows) states most (now places) ⌝ }
+    ensures { λ r. ⌜ Turned (now (rows .entry)) states last (lastOf variables last moving) tuples opened all
         (now (work .entry)) (now (work .exit)) ⌝ }
 {
     let from = tuples + tuples;
@@ -83,20 +86,22 @@ fn turn(
         states,
         moving,
         variables,
+        last,
         tuples,
         &mut work[from..],
     );
     choose(opened, all, tuples, work);
 }
 
-// The numerator of until with window k1..k2 at all tuples, by runs of the variables that move, `count` of them. The front layer holds
-// the truth of the first formula, the second that of the second. The third counts, by steps left, the weight of the runs taken: with
-// none left, where the second formula is met; with one more, by a joint step and the choice. At last it is copied to the front.
-pub fn until(
+// The numerator of until with window k1..k2 at all tuples of the last variables, by runs of those that move, `count` of them. The front
+// layer holds the truth of the first formula, the second that of the second. The third counts, by steps left, the weight of the runs
+// taken: with none left, where the second formula is met; with one more, by a joint step and the choice. At last it is copied to the front.
+fn until(
     rows: &[[u16; STATES]; STATES],
     states: usize,
     moving: [bool; 4],
     variables: usize,
+    last: usize,
     count: usize,
     d: u64,
     k1: usize,
@@ -104,8 +109,9 @@ pub fn until(
     tuples: usize,
     work: &mut [u64],
 )
-    requires { ⌜ UntilFits (now rows) states variables (take variables moving) count tuples d k1 k2 (now work) ⌝ }
-    ensures { λ r. ⌜ UntilTaken (now (rows .entry)) states variables (take variables moving) tuples d k1 k2
+    requires { ⌜ (last ≤ variables) × (variables ≤ mostVariables) ×
+        UntilFits (now rows) states last (lastOf variables last moving) count tuples d k1 k2 (now work) ⌝ }
+    ensures { λ r. ⌜ UntilTaken (now (rows .entry)) states last (lastOf variables last moving) tuples d k1 k2
         (now (work .entry)) (now (work .exit)) ⌝ }
 {
     let mut places = [[0u8; PLACES]; STATES];
@@ -123,6 +129,7 @@ pub fn until(
             states,
             moving,
             variables,
+            last,
             k1 <= k2 - next,
             all,
             tuples,
@@ -131,4 +138,77 @@ pub fn until(
         left = next;
     }
     copy(tuples, tuples + tuples, 0, work);
+}
+
+// How many variables there are from the first that moves on: 0 if none does.
+fn from_first(moving: [bool; 4], variables: usize) -> usize
+    requires { ⌜ variables ≤ mostVariables ⌝ }
+    ensures { λ r. ⌜ FromFirst moving variables r ⌝ }
+{
+    let mut i: usize = 0;
+    while i < variables {
+        if moving[i] {
+            return variables - i;
+        }
+        i += 1;
+    }
+    0
+}
+
+// Repeats the first `few` numbers, up to `count` of them.
+fn repeat(few: usize, count: usize, work: &mut [u64])
+    requires { ⌜ (1 ≤ few) × (few ≤ count) × (count ≤ length (now work)) ⌝ }
+    ensures { λ r. ⌜ WrittenAt few (count - few) (λ k. getD (now (work .entry)) (k % few) 0) (now (work .entry)) (now (work .exit)) ⌝ }
+{
+    let more = count - few;
+    let mut k: usize = 0;
+    while k < more {
+        work[few + k] = work[k];
+        k += 1;
+    }
+}
+
+// How many tuples there are of the last variables.
+fn tuples_of(states: usize, last: usize) -> usize
+    requires { ⌜ (1 ≤ states) × (states ^ last ≤ mostTuples) ⌝ }
+    ensures { λ r. ⌜ r ≡ states ^ last ⌝ }
+{
+    scaled(1, states as u64, last) as usize
+}
+
+// The numerator of until at all tuples, where no formula looks at the variables before the first that moves: it is found at the tuples in
+// which these are in state 0, which come first, and repeated.
+pub fn until_repeated(
+    rows: &[[u16; STATES]; STATES],
+    states: usize,
+    moving: [bool; 4],
+    variables: usize,
+    count: usize,
+    d: u64,
+    k1: usize,
+    k2: usize,
+    tuples: usize,
+    work: &mut [u64],
+)
+    requires { ⌜ UntilFits (now rows) states variables (take variables moving) count tuples d k1 k2 (now work) ⌝ }
+    ensures { λ r. ⌜ UntilRepeated (now (rows .entry)) states variables (take variables moving) tuples d k1 k2
+        (now (work .entry)) (now (work .exit)) ⌝ }
+{
+    let last = from_first(moving, variables);
+    let few = tuples_of(states, last);
+    copy(few, tuples, few, work);
+    until(
+        rows,
+        states,
+        moving,
+        variables,
+        last,
+        count,
+        d,
+        k1,
+        k2,
+        few,
+        work,
+    );
+    repeat(few, tuples, work);
 }

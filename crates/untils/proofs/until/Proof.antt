@@ -4,7 +4,7 @@ use Prim.Native.Nat.{_-_}
 use mathlib.Core.Logic.{inl, inr}
 use mathlib.Core.Path.{refl, _∙_}
 use native.Mathlib.Omega.{arith}
-use lib.ListN.{take}
+use Rattle.steps.specs.Steps.{lastOf}
 use Rattle.untils.proofs.Untils.{Untiling, untiling-none, untiling-next, untiling-all}
 use Rattle.untils.proofs.Untils.{next-power, power-fits, turn-fits}
 use Rattle.untils.proofs.Untils.{copied-fits, copied-same, copied-taken}
@@ -12,11 +12,11 @@ use Rattle.untils.proofs.until.Statement.{statement}
 use Rattle.untils.proofs.until.Tie as tie
 
 abbrev Inv-loop : tie.InvT-loop
-Inv-loop rows states moving variables count d k1 k2 tuples work₀ places most all₀ left₀ work all left =
-    Untiling rows states variables (take variables moving) tuples d k1 k2 work₀ all left work
+Inv-loop rows states moving variables last count d k1 k2 tuples work₀ places most all₀ left₀ work all left =
+    Untiling rows states last (lastOf variables last moving) tuples d k1 k2 work₀ all left work
 
 abbrev μ-loop : tie.MeasureT-loop
-μ-loop rows states moving variables count d k1 k2 tuples work₀ places most all₀ left₀ work all left = k2 - left
+μ-loop rows states moving variables last count d k1 k2 tuples work₀ places most all₀ left₀ work all left = k2 - left
 
 -- where the second layer has been copied to the third, and where the function starts, seen from the loop
 abbrev copy-of : tie.At-loop Inv-loop μ-loop → tie.After-copy Inv-loop μ-loop
@@ -26,10 +26,10 @@ abbrev start-of : tie.At-loop Inv-loop μ-loop → tie.Start Inv-loop μ-loop
 start-of c = copy-of c .before .before .before .before .before
 
 name-rows-requires : tie.Need-name-rows-requires Inv-loop μ-loop
-name-rows-requires c κs = (c .before .before .pre .sizes .states, refl)
+name-rows-requires c κs = (c .before .before .pre .2 .sizes .states, refl)
 
 add-copy : tie.Need-add-copy Inv-loop μ-loop
-add-copy c = omega (arith, c .before .before .before .pre .room)
+add-copy c = omega (arith, c .before .before .before .pre .2 .room)
 
 copy-requires : tie.Need-copy-requires Inv-loop μ-loop
 copy-requires c κs =
@@ -37,7 +37,7 @@ copy-requires c κs =
 
 loop-holds : tie.Need-loop-holds Inv-loop μ-loop
 loop-holds c =
-    let pre = c .before .before .before .before .before .before .before .pre in
+    let pre = c .before .before .before .before .before .before .before .pre .2 in
     let copied = c .before .before .copy .ensures in
     untiling-none (copied-fits pre copied) (copied-same pre copied)
 
@@ -46,31 +46,35 @@ scaled-requires c κs =
     let at-loop = c .before in
     let start = start-of at-loop in
     let copied = copy-of at-loop .copy .ensures in
-    let fits = copied-fits (start .pre) copied in
+    let fits = copied-fits (start .pre .2) copied in
     let h = at-loop .loop .inv in
-    (start .pre .weighed, omega (arith, next-power fits h (omega arith), power-fits fits h (omega arith)))
+    (start .pre .2 .weighed, omega (arith, next-power fits h (omega arith), power-fits fits h (omega arith)))
 
 turn-requires : tie.Need-turn-requires Inv-loop μ-loop
 turn-requires c κs =
     let at-loop = c .before .before .before .before in
     let start = start-of at-loop in
     let copied = copy-of at-loop .copy .ensures in
-    let fits = copied-fits (start .pre) copied in
-    (turn-fits fits (at-loop .loop .inv) (omega arith), at-loop .before .before .before .before .before .name-rows .ensures)
+    let fits = copied-fits (start .pre .2) copied in (
+      start .pre .0,
+      start .pre .1,
+      turn-fits fits (at-loop .loop .inv) (omega arith),
+      at-loop .before .before .before .before .before .name-rows .ensures,
+    )
 
 loop-again : tie.Need-loop-again Inv-loop μ-loop
 loop-again c =
     let at-loop = c .before .before .before .before .before .before .before in
     let start = start-of at-loop in
     let copied = copy-of at-loop .copy .ensures in
-    let fits = copied-fits (start .pre) copied in
+    let fits = copied-fits (start .pre .2) copied in
     untiling-next fits (at-loop .loop .inv) (omega arith) (c .before .before .before .before .before .scaled .ensures)
     (c .before .before .turn .ensures)
 
 add-copy-2 : tie.Need-add-copy-2 Inv-loop μ-loop
 add-copy-2 c =
     let start = c .before .before .before .before .before .before .before .before .before in
-    omega (arith, start .pre .room)
+    omega (arith, start .pre .2 .room)
 
 copy-requires-2 : tie.Need-copy-requires-2 Inv-loop μ-loop
 copy-requires-2 c κs =
@@ -87,8 +91,8 @@ returns c =
     let at-loop = c .before .before .before .before .before in
     let start = start-of at-loop in
     let copied = copy-of at-loop .copy .ensures in
-    let fits = copied-fits (start .pre) copied in
-    copied-taken (start .pre) copied
+    let fits = copied-fits (start .pre .2) copied in
+    copied-taken (start .pre .2) copied
     (untiling-all fits (at-loop .loop .inv) (omega arith) (c .before .before .copy2 .ensures))
 
 pub until-spec : {M : Type 1} → statement M

@@ -8,7 +8,7 @@ use native.Mathlib.Nat.{le-trans, le-of-eq, one-mul}
 use lib.ListN.{take}
 use Rattle.meaning.specs.Named.{count}
 use Rattle.steps.specs.Steps.{StepFits}
-use Rattle.evaluate.proofs.Fixing.{stepped-by}
+use Rattle.steps.proofs.Joint.{stepped-by}
 use Rattle.evaluate.proofs.plain.next_within.Statement.{statement}
 use Rattle.evaluate.proofs.plain.next_within.Tie as tie
 

@@ -9,14 +9,14 @@ use native.Mathlib.Omega.{arith}
 use lib.ListN.{take}
 use Rattle.meaning.specs.Named.{count}
 use Rattle.untils.specs.Untils.{UntilFits}
-use Rattle.evaluate.proofs.Fixing.{taken-by}
+use Rattle.untils.proofs.Repeating.{repeated-by}
 use Rattle.names.proofs.Labels.{count-few}
 use Rattle.evaluate.proofs.Places.{times-fit}
 use Rattle.evaluate.proofs.plain.until_within.Statement.{statement}
 use Rattle.evaluate.proofs.plain.until_within.Tie as tie
 
-until-requires : tie.Need-until-requires
-until-requires c κs =
+until-repeated-requires : tie.Need-until-repeated-requires
+until-repeated-requires c κs =
     let start = c .before .before .before .before in
     let args = start .args in
     let g = args .g in
@@ -54,7 +54,7 @@ returns c =
     let names = c .before .before .before .before .before .before .names .ensures in
     let v = c .before .before .before .before .before .how-many .ensures ∙ ap (λ (l : List Bool). count (take (g .variables) l)) names in
     record {
-      taken = taken-by (ap (λ (l : List Bool). take (g .variables) l) names) (c .before .before .before .until .ensures);
+      taken = repeated-by (ap (λ (l : List Bool). take (g .variables) l) names) (c .before .before .before .until-repeated .ensures);
       bottom = c .scaled .ensures ∙ one-mul _ ∙ ap (λ (x : ℕ). g .d ^ (x * args .to)) v;
     }
 
@@ -64,7 +64,7 @@ until-within-spec =
     (tie.spec
     (λ c κs. search needs)
     (λ c κs. search needs)
-    until-requires
+    until-repeated-requires
     mul-scaled
     scaled-requires
     (λ c. search needs)

@@ -1,19 +1,22 @@
 -- A state formula looks only at the variables that occur in it: at two tuples that have the same states there it is met or not alike.
-use Prim.Native.Nat.{ℕ, zero, suc}
+use Prim.Native.Nat.{ℕ, zero, suc, _<_}
 use mathlib.Core.Bool.{Bool, true, false, not, _&&_, _||_, or-true, false≢true}
-use mathlib.Core.List.{[], _∷_, map, map-map}
+use mathlib.Core.List.{[], _∷_, _++_, map, map-map}
 use mathlib.Core.Path.{_≡_, refl, sym, ap, ap₂, _∙_}
 use borrow.Author.Tests.{eq-eqb}
+use native.Mathlib.Nat.{not-suc-le-zero}
+use native.Mathlib.Omega.{arith}
 use lib.IntN.{pos}
+use lib.ListN.{length, getD}
 use Rattle.meaning.specs.Lists.{below, nothing, further}
 use Rattle.meaning.specs.Chain.{Chain, Tuple, Inside}
 use Rattle.meaning.specs.Tree.{Formula, always, labelled, negation, both, compare}
 use Rattle.meaning.specs.Tree.{Expression, probability, constant, sum, difference, product}
 use Rattle.meaning.specs.Tree.{PathFormula, next, until}
 use Rattle.meaning.specs.Named.{Some, occurs, occursIn, occursFrom, named, v, chosen, placed}
 use Rattle.meaning.specs.Meaning.{nextTakes, untilTakes, takenWeight, denominator, hasLabel, addF, subF, mulF, compared}
 use Rattle.meaning.specs.Meaning.{holds, value, numerator}
 use Rattle.meaning.proofs.Tests.{below-front}
 
 -- two tuples of as many states, which have the same state at each place, counted from 0, that passes the test
 pub data Alike : (ℕ → Bool) → Tuple → Tuple → Type 0 where
@@ -45,6 +48,18 @@ alike-label c l (suc i) (longer e a) p = alike-label c l i a p
 -- the marks of n + 1 variables: that of the first, and those of the others
 marks-front : (at : ℕ → Bool) (n : ℕ) → map at (below (suc n)) ≡ at 0 ∷ map (λ i. at (suc i)) (below n)
 marks-front at n = ap (map at) (below-front n) ∙ ap (λ (bs : Some). at 0 ∷ bs) (map-map at suc (below n))
+
+-- the mark of each
+marks-at : (at : ℕ → Bool) (n i : ℕ) → i < n → getD (map at (below n)) i false ≡ at i
+marks-at at zero i l = absurd (not-suc-le-zero l)
+marks-at at (suc n) zero l = ap (λ (bs : Some). getD bs 0 false) (marks-front at n)
+marks-at at (suc n) (suc i) l =
+    ap (λ (bs : Some). getD bs (suc i) false) (marks-front at n) ∙ marks-at (λ k. at (suc k)) n i (omega arith)
+
+-- whether a path names a variable
+pub named-at : (p : PathFormula) (n i : ℕ) → i < n → getD (named p n) i false ≡ occursFrom (suc i) p
+unfolding named
+named-at p n i l = marks-at (λ k. occursFrom (suc k) p) n i l
 
 -- the states chosen at the places are the same
 alike-chosen : (at : ℕ → Bool) (n : ℕ) {s t : Tuple} → Alike at s t → chosen (map at (below n)) s ≡ chosen (map at (below n)) t
@@ -140,3 +155,21 @@ module _ (c : Chain) (n : ℕ) where
         (λ r. holds-looks f (alike-placed (named (until k1 k2 f g) n) r (h .0)) j)
         (λ r. holds-looks g (alike-placed (named (until k1 k2 f g) n) r (h .1)) j) k1 k2)
         (alike-chosen (λ i. occurs (suc i) f || occurs (suc i) g) n a j)
+
+-- tuples are alike where they differ only in front, at places that do not pass the test
+alike-front : {at : ℕ → Bool} (a b t : Tuple) → length a ≡ length b → ((i : ℕ) → i < length a → at i ≡ false) → Alike at (a ++ t) (b ++ t)
+alike-front [] [] t e quiet = same t
+  where
+    same : {at : ℕ → Bool} (t : Tuple) → Alike at t t
+    same [] = ended
+    same (x ∷ t) = longer (λ p. refl) (same t)
+alike-front [] (y ∷ b) t e quiet = absurd (omega arith)
+alike-front (x ∷ a) [] t e quiet = absurd (omega arith)
+alike-front (x ∷ a) (y ∷ b) t e quiet =
+    let first = quiet 0 (omega arith) in
+    longer (λ p. absurd (false≢true (sym first ∙ p))) (alike-front a b t (omega arith) (λ i l. quiet (suc i) (omega arith)))
+
+-- so a formula overlooks the first variables where none of them occurs in it
+pub overlooks : (c : Chain) (n : ℕ) (f : Formula) (a b t : Tuple) → length a ≡ length b →
+    ((i : ℕ) → i < length a → occurs (suc i) f ≡ false) → holds f c n (a ++ t) ≡ holds f c n (b ++ t)
+overlooks c n f a b t e quiet = holds-looks c n f (alike-front a b t e quiet)
