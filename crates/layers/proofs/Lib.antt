@@ -1,5 +1,6 @@
 -- What belongs to no one function.
 pub mod Written
+pub mod Repeats
 pub mod Places
 pub mod Truth
 pub mod Swapping

@@ -1,12 +1,14 @@
 // Layers that are written number by number: zeros, and the truth of the formulas that need no step.
 ghost use mathlib.Core.Path.{_≡_};
 ghost use mathlib.Core.Bool.{cond};
-ghost use Prim.Native.Nat.{_+_, _/_, _%_, _^_, _≤_, _<_};
+ghost use Prim.Native.Nat.{_+_, _*_, _/_, _%_, _^_, _≤_, _<_};
 ghost use lib.Dec.{eqb};
 ghost use lib.ListN.{length};
 ghost use Rattle.layers.specs.Layers.{WrittenFront, Swapped, negatedAt, bothAt, bitAt};
-ghost use Rattle.layers.specs.Held.{mostStates, LabelReady, LabelDone};
+ghost use Rattle.layers.specs.Held.{mostStates, mostTuples, LabelReady, LabelDone};
 use crate::STATES;
+use crate::periods::bits;
+use crate::periods::repeat;
 use crate::power::scaled;
 
 // Sets the first numbers to one value.
@@ -38,7 +40,7 @@ pub fn always(tuples: usize, work: &mut [u64])
 }
 
 // Bit l of a mask.
-fn bit_of(mask: u16, l: u8) -> u64
+pub(crate) fn bit_of(mask: u16, l: u8) -> u64
     requires { ⌜ l < 16 ⌝ }
     ensures { λ r. ⌜ r ≡ mask / 2 ^ l % 2 ⌝ }
 {
@@ -46,7 +48,7 @@ fn bit_of(mask: u16, l: u8) -> u64
 }
 
 // The truth of a label: 1 at the tuples where the state of the variable has bit l in its mask. The variable's state
-// changes every `stride` tuples.
+// changes every `stride` tuples, and goes through all states again and again.
 fn labelled(
     masks: &[u16; STATES],
     l: u8,
@@ -55,16 +57,13 @@ fn labelled(
     tuples: usize,
     work: &mut [u64],
 )
-    requires { ⌜ (l < 16) × (1 ≤ states) × (states ≤ mostStates) × (1 ≤ stride) × (tuples ≤ length (now work)) ⌝ }
+    requires { ⌜ (l < 16) × (1 ≤ states) × (states ≤ mostStates) × (1 ≤ stride) × (states * stride ≤ tuples) × (tuples ≤ mostTuples) ×
+        (tuples ≤ length (now work)) ⌝ }
     ensures { λ r. ⌜ WrittenFront tuples (λ k. bitAt (now (masks .entry)) l (k / stride % states)) (now (work .entry))
         (now (work .exit)) ⌝ }
 {
-    let mut k: usize = 0;
-    while k < tuples {
-        let s = k / stride % states;
-        work[k] = bit_of(masks[s], l);
-        k += 1;
-    }
+    bits(masks, l, states, stride, work);
+    repeat(states * stride, tuples, work);
 }
 
 // The truth of label l of a variable's state. The variables after it change before it does: its stride is N to their number.

@@ -5,7 +5,7 @@ use mathlib.Core.Bool.{Bool, true, false, true≢false}
 use mathlib.Core.List.{List, [], _∷_, _++_}
 use mathlib.Core.Path.{_≡_, refl, sym, ap, ap₂, subst, _∙_, fun-ext}
 use native.Mathlib.Decide.{decLt}
-use native.Mathlib.Nat.{mod-lt, mod-eq-of-lt, mod-eq-sub-mod, div-eq-of-lt, div-div-eq-div-mul, div-lt-iff-lt-mul}
+use native.Mathlib.Nat.{mod-lt, mod-eq-of-lt, div-eq-of-lt, div-div-eq-div-mul, div-lt-iff-lt-mul}
 use native.Mathlib.Nat.{mul-comm, not-suc-le-zero, pow-le-pow-right, one-le-pow}
 use native.Mathlib.Omega.{arith}
 use lib.Arith.{digits-div, digits-mod, mod-mul}
@@ -18,7 +18,8 @@ use Rattle.meaning.specs.Named.{Some, count, chosen, placed}
 use Rattle.meaning.specs.Meaning.{untilTakes, takenWeight, beside}
 use Rattle.meaning.proofs.Numbers.{tupleOf, tuple-inside, each-length}
 use Rattle.layers.specs.Layers.{Layer, truth, WrittenAt}
-use Rattle.layers.proofs.Written.{Writing, kept-at, kept-from}
+use Rattle.layers.proofs.Written.{kept-at, kept-from}
+use Rattle.layers.proofs.Repeats.{repeated}
 use Rattle.steps.specs.Steps.{lastOf}
 use Rattle.untils.specs.Untils.{UntilFits, UntilTaken, FromFirst, Overlooks, UntilRepeated}
 
@@ -47,34 +48,6 @@ module _ {moving : Some} {n : ℕ} where
 
   pub quiet-all : {i : ℕ} → Quiet moving n i → n ≤ i → FromFirst moving n 0
   quiet-all {i} h l = record { upTo = omega arith; quiet = λ k m. h .quiet k (omega arith) }
-
--- ---- repeated numbers
-
--- what stands at k, where the numbers from `few` on repeat those before up to there
-pub repeated-at : {few more k : ℕ} {before after : List ℕ} → 1 ≤ few → Writing few more (λ k. getD before (k % few) 0) before k after →
-    getD after k 0 ≡ getD before (k % few) 0
-repeated-at {few} {more} {k} {before} {after} some h = by (decLt k few)
-  where
-    by : Dec (k < few) → getD after k 0 ≡ getD before (k % few) 0
-    by (yes y) = h .low k y ∙ ap (λ (x : ℕ). getD before x 0) (sym (mod-eq-of-lt y))
-    by (no x) =
-        let e : k ≡ few + (k - few) = omega arith in
-        ap (λ (x : ℕ). getD after x 0) e ∙
-        h .each (k - few) (omega arith) ∙
-        ap (λ (x : ℕ). getD before x 0) (sym (mod-eq-sub-mod {n = k} {m = few} (omega arith)))
-
--- the same after the last turn
-repeated : {few count k : ℕ} {before after : List ℕ} → k < count → WrittenAt few (count - few) (λ k. getD before (k % few) 0) before after →
-    getD after k 0 ≡ getD before (k % few) 0
-repeated {few} {count} {k} {before} {after} less h = by (decLt k few)
-  where
-    by : Dec (k < few) → getD after k 0 ≡ getD before (k % few) 0
-    by (yes y) = h .low k y ∙ ap (λ (x : ℕ). getD before x 0) (sym (mod-eq-of-lt y))
-    by (no x) =
-        let e : k ≡ few + (k - few) = omega arith in
-        ap (λ (x : ℕ). getD after x 0) e ∙
-        h .each (k - few) (omega arith) ∙
-        ap (λ (x : ℕ). getD before x 0) (sym (mod-eq-sub-mod {n = k} {m = few} (omega arith)))
 
 -- ---- tuples that begin alike
 

@@ -1,7 +1,7 @@
 // The numerator of an until at all tuples: by steps left, one joint step and one choice a layer.
 ghost use mathlib.Core.Path.{_≡_};
 ghost use mathlib.Core.Logic.{_⊎_};
-ghost use Prim.Native.Nat.{_+_, _-_, _%_, _^_, _≤_, _<_};
+ghost use Prim.Native.Nat.{_+_, _^_, _≤_, _<_};
 ghost use lib.ListN.{length, getD, take};
 ghost use Rattle.layers.specs.Layers.{WrittenAt};
 ghost use Rattle.layers.specs.Held.{mostVariables, mostTuples};
@@ -9,6 +9,7 @@ ghost use Rattle.steps.specs.Sparse.{RowsNamed};
 ghost use Rattle.steps.specs.Steps.{lastOf};
 ghost use Rattle.untils.specs.Untils.{choice, choiceAt, TurnFits, Turned, UntilFits, UntilTaken, FromFirst, UntilRepeated};
 use layers::STATES;
+use layers::periods::repeat;
 use layers::power::scaled;
 use steps::joint_named;
 use steps::sparse::PLACES;
@@ -153,19 +154,6 @@ fn from_first(moving: [bool; 4], variables: usize) -> usize
         i += 1;
     }
     0
-}
-
-// Repeats the first `few` numbers, up to `count` of them.
-fn repeat(few: usize, count: usize, work: &mut [u64])
-    requires { ⌜ (1 ≤ few) × (few ≤ count) × (count ≤ length (now work)) ⌝ }
-    ensures { λ r. ⌜ WrittenAt few (count - few) (λ k. getD (now (work .entry)) (k % few) 0) (now (work .entry)) (now (work .exit)) ⌝ }
-{
-    let more = count - few;
-    let mut k: usize = 0;
-    while k < more {
-        work[few + k] = work[k];
-        k += 1;
-    }
 }
 
 // How many tuples there are of the last variables.

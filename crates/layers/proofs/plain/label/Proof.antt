@@ -1,8 +1,8 @@
 -- `layers::plain::label` meets its contract: a variable's stride is N to the number of variables after it.
 use borrow.Author.Needs.{needs}
-use Prim.Native.Nat.{ℕ, suc, _-_, _^_, _≤_}
+use Prim.Native.Nat.{ℕ, suc, _*_, _-_, _^_, _≤_, _<_}
 use mathlib.Core.Path.{_≡_, sym, ap, subst, _∙_}
-use native.Mathlib.Nat.{pow-le-pow-right, one-mul}
+use native.Mathlib.Nat.{pow-le-pow-right, pow-succ', one-mul}
 use native.Mathlib.Omega.{arith}
 use Rattle.meaning.specs.Meaning.{hasLabel}
 use Rattle.layers.specs.Layers.{Layer, truth}
@@ -18,6 +18,12 @@ stride-small {N} {n} k h l =
     let p : N ^ k ≤ N ^ n = pow-le-pow-right (h .some) l in
     omega arith
 
+-- the tuples in which a variable goes through all states once are no more than all
+once-through : {N n T : ℕ} (k : ℕ) → LayerSizes N n T → k < n → N * N ^ k ≤ T
+once-through {N} {n} k h l =
+    let p : N ^ suc k ≤ N ^ n = pow-le-pow-right (h .some) l in
+    omega (arith, h .whole, pow-succ' N k)
+
 scaled-requires : tie.Need-scaled-requires
 scaled-requires c κs =
     let start = c .before in
@@ -30,7 +36,16 @@ labelled-requires c κs =
     let start = c .before .before .before in
     let args = start .args in
     let p = pow-some (args .states) (args .variables - args .variable) (start .pre .sizes .some) in
-    (start .pre .letter, start .pre .sizes .some, start .pre .sizes .states, omega arith, start .pre .room)
+    let period = once-through (args .variables - args .variable) (start .pre .sizes)
+    (omega (arith, start .pre .some, start .pre .bound)) in (
+      start .pre .letter,
+      start .pre .sizes .some,
+      start .pre .sizes .states,
+      omega arith,
+      omega (arith, period, ap (λ (x : ℕ). args .states * x) (c .before .scaled .ensures ∙ one-mul _)),
+      start .pre .sizes .few,
+      start .pre .room,
+    )
 
 returns : tie.Need-returns
 returns c =

@@ -1,18 +1,18 @@
--- `untils::repeat` meets its contract: what is read is one of the first numbers, or repeats one.
+-- `layers::periods::repeat` meets its contract: what is read is one of the first numbers, or repeats one.
 use borrow.Author.Needs.{needs}
 use Prim.Native.Nat.{_-_, _%_}
 use native.Mathlib.Omega.{arith}
 use lib.ListN.{getD}
 use Rattle.layers.proofs.Written.{Writing, writing-none, writing-next, writing-at-all}
-use Rattle.untils.proofs.Repeating.{repeated-at}
-use Rattle.untils.proofs.repeat.Statement.{statement}
-use Rattle.untils.proofs.repeat.Tie as tie
+use Rattle.layers.proofs.Repeats.{repeated-at}
+use Rattle.layers.proofs.periods.repeat.Statement.{statement}
+use Rattle.layers.proofs.periods.repeat.Tie as tie
 
 abbrev Inv-loop : tie.InvT-loop
-Inv-loop few count work₀ more k₀ work k = Writing few more (λ k. getD work₀ (k % few) 0) work₀ k work
+Inv-loop few all work₀ more k₀ work k = Writing few more (λ k. getD work₀ (k % few) 0) work₀ k work
 
 abbrev μ-loop : tie.MeasureT-loop
-μ-loop few count work₀ more k₀ work k = more - k
+μ-loop few all work₀ more k₀ work k = more - k
 
 loop-holds : tie.Need-loop-holds Inv-loop μ-loop
 loop-holds c = writing-none (omega (arith, c .pre .1, c .pre .2))
