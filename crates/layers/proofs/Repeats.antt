@@ -10,32 +10,28 @@ use lib.ListN.{length, getD}
 use Rattle.layers.specs.Layers.{WrittenAt, WrittenFront, bitAt}
 use Rattle.layers.proofs.Written.{Writing, kept-at, kept-from}
 
--- what stands at k, where the numbers from `few` on repeat those before up to there
-pub repeated-at : {few more k : ℕ} {before after : List ℕ} → 1 ≤ few → Writing few more (λ k. getD before (k % few) 0) before k after →
-    getD after k 0 ≡ getD before (k % few) 0
-repeated-at {few} {more} {k} {before} {after} some h = by (decLt k few)
+-- a number is one of the first, or repeats that `few` places before it
+repeats : (few k : ℕ) (before after : List ℕ) → (k < few → getD after k 0 ≡ getD before k 0) →
+    (few ≤ k → getD after (few + (k - few)) 0 ≡ getD before ((k - few) % few) 0) → getD after k 0 ≡ getD before (k % few) 0
+repeats few k before after first further = by (decLt k few)
   where
     by : Dec (k < few) → getD after k 0 ≡ getD before (k % few) 0
-    by (yes y) = h .low k y ∙ ap (λ (x : ℕ). getD before x 0) (sym (mod-eq-of-lt y))
+    by (yes y) = first y ∙ ap (λ (x : ℕ). getD before x 0) (sym (mod-eq-of-lt y))
     by (no x) =
         let e : k ≡ few + (k - few) = omega arith in
         ap (λ (x : ℕ). getD after x 0) e ∙
-        h .each (k - few) (omega arith) ∙
+        further (omega arith) ∙
         ap (λ (x : ℕ). getD before x 0) (sym (mod-eq-sub-mod {n = k} {m = few} (omega arith)))
 
--- the same after the last turn
-pub repeated : {few count k : ℕ} {before after : List ℕ} → k < count →
-    WrittenAt few (count - few) (λ k. getD before (k % few) 0) before after →
+-- while the numbers from `few` on are being written, up to k,
+pub repeated-at : {few more k : ℕ} {before after : List ℕ} → 1 ≤ few → Writing few more (λ k. getD before (k % few) 0) before k after →
     getD after k 0 ≡ getD before (k % few) 0
-repeated {few} {count} {k} {before} {after} less h = by (decLt k few)
-  where
-    by : Dec (k < few) → getD after k 0 ≡ getD before (k % few) 0
-    by (yes y) = h .low k y ∙ ap (λ (x : ℕ). getD before x 0) (sym (mod-eq-of-lt y))
-    by (no x) =
-        let e : k ≡ few + (k - few) = omega arith in
-        ap (λ (x : ℕ). getD after x 0) e ∙
-        h .each (k - few) (omega arith) ∙
-        ap (λ (x : ℕ). getD before x 0) (sym (mod-eq-sub-mod {n = k} {m = few} (omega arith)))
+repeated-at {few} {more} {k} {before} {after} some h = repeats few k before after (h .low k) (λ m. h .each (k - few) (omega arith))
+
+-- and when all are written
+pub repeated : {few count k : ℕ} {before after : List ℕ} → k < count →
+    WrittenAt few (count - few) (λ k. getD before (k % few) 0) before after → getD after k 0 ≡ getD before (k % few) 0
+repeated {few} {count} {k} {before} {after} less h = repeats few k before after (h .low k) (λ m. h .each (k - few) (omega arith))
 
 -- ---- the bits of a label
 
