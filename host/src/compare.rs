@@ -21,6 +21,9 @@ mod sentences;
 #[cfg(test)]
 mod version_faults;
 mod versions;
+#[cfg(test)]
+mod watch_faults;
+mod watches;
 mod ways;
 
 use crate::inputs::Rng;
@@ -38,6 +41,7 @@ pub use naming::{compare_naming, compare_naming_examples, compare_nothing, compa
 pub use reach::Reach;
 pub use sentences::{compare_sentence_reader, compare_sentence_writer};
 pub use versions::{compare_empty_rows, compare_version_limits};
+pub use watches::{compare_sums, compare_watch_examples, compare_watches, Summed, Watched};
 pub use ways::compare_ways;
 
 /// Reading and writing model files. A refusal is its number, here and in every call below.
@@ -319,6 +323,7 @@ fn work_after<T>(
 ) {
     let front = if answer.is_ok() { WORK } else { 0 };
     let right = after.len() == before.len()
+        && front <= after.len()
         && after[..front].iter().all(|&number| number == 0)
         && after[front..] == before[front..];
     if !right {
@@ -335,6 +340,7 @@ mod tests {
         compare_examples(&Second);
         compare_empty_rows(&Second);
         compare_naming_examples(&Second);
+        compare_watch_examples(&Second);
     }
 
     #[test]

@@ -6,6 +6,7 @@
 //! * [`question`]: pairs of a model and a sentence that suit one another.
 //! * [`extreme`]: such pairs at the ends of what is answered.
 //! * [`naming`]: such pairs whose paths name some of the variables.
+//! * [`watch`]: such pairs with another window for one until.
 //! * [`grouping`]: groupings that a model was made for, and spoiled ones.
 
 pub mod extreme;
@@ -14,6 +15,7 @@ pub mod model;
 pub mod naming;
 pub mod question;
 pub mod sentence;
+pub mod watch;
 
 /// A small pseudo-random generator (splitmix64).
 #[derive(Clone, Debug)]

@@ -76,6 +76,25 @@ fn the_named_variables() {
     }
 }
 
+/// The fractions of windows that end later and later, on M1; and one that begins later too.
+#[test]
+fn the_longer_watches() {
+    let file = read(at("samples/m1/model.blk")).expect("M1");
+    let fraction = |path: &str, state: u8| {
+        let text = format!("A.={path}#1/1;");
+        numerator(&file, text.as_bytes(), &[state], 0, &mut vec![0; WORK_AREA])
+            .expect("a fraction")
+            .to_string()
+    };
+    let rows = rows("| Expression | Is |");
+    assert_eq!(rows.len(), 4);
+    for row in rows {
+        assert_eq!(fraction(row[0].trim_matches('`'), 0), row[1], "{row:?}");
+    }
+    assert_eq!([fraction("PU0,0:!a1a1", 1), fraction("PU1,1:!a1a1", 1)], ["1/1", "0/4"]);
+    assert!(page().contains("`PU0,0:!a1a1` is 1/1 and `PU1,1:!a1a1` is 0/4"));
+}
+
 /// What is said of a comparison, with D and so many letters, on a model of one state.
 fn refused(d: u32, letters: usize, body: &str) -> Option<Refusal> {
     let mut model = Model { n: 1, a: 1, d, ..Model::empty() };

@@ -1,21 +1,18 @@
 -- Demand 2, of verdict and numerator (`demand-2`). The list of runs is `runs` of the meaning, whose laws say that it has just the
 -- runs from the tuple, each once.
 use Prim.Native.Nat.{ℕ}
-use mathlib.Core.Bool.{cond}
 use mathlib.Core.List.{List, map, Memᴰ·cast}
 use mathlib.Core.Path.{_≡_, refl, sym, ap, ap₂, _∙_}
 use lib.ListN.{length}
 use Rattle.refusal.specs.Answers.{gives}
 use Rattle.refusal.proofs.Ensuring.{right-of}
 use Rattle.model.specs.Layout.{fieldsOf}
-use Rattle.meaning.specs.Lists.{total}
-use Rattle.meaning.specs.Chain.{Chain, Tuple, Inside, Sound, runWeight, runs}
-use Rattle.meaning.specs.Tree.{PathFormula, next, until, letterOf}
+use Rattle.meaning.specs.Chain.{Chain, Tuple, Inside, Sound, runs}
+use Rattle.meaning.specs.Tree.{PathFormula, letterOf}
 use Rattle.meaning.specs.Named.{count, named, v, chosen}
-use Rattle.meaning.specs.Meaning.{takenWeight, stepsOf, value, numerator, denominator, verdict}
+use Rattle.meaning.specs.Meaning.{stepsOf, value, numerator, denominator, verdict}
 use Rattle.meaning.proofs.Runs.{runs-member, runs-has, runs-distinct}
-use Rattle.meaning.proofs.Named.{named-inside}
-use Rattle.meaning.proofs.Steps.{runs-total, denominator-steps}
+use Rattle.meaning.proofs.Watches.{taken-runs, all-runs}
 use Rattle.chain.proofs.Accepted.{sound}
 use Rattle.question.specs.Contract.{QuestionRow, SentenceOf}
 use Rattle.question.proofs.Settled.{file-free}
@@ -23,23 +20,11 @@ use Rattle.verdict.specs.declared.Answer as Judged
 use Rattle.verdict.specs.Contract.{VerdictEnsures, verdictReply}
 use Rattle.numerator.specs.declared.Answer as Counted
 use Rattle.numerator.specs.Contract.{NumeratorRow, question, NumeratorEnsures, numbered, numeratorReply}
-use Rattle.demands.specs.Demands.{chainIn, takes, PathProbability, Valued, Demand2}
+use Rattle.demands.specs.Demands.{chainIn, PathProbability, Valued, Demand2}
 use Rattle.demands.proofs.Free.{one-sentence, tuple-inside}
 
--- a denominator is the total weight of all runs of its variables that start at the tuple
-all-runs : (p : PathFormula) (c : Chain) → Sound c → (n : ℕ) {s : Tuple} → Inside (c .N) n s →
-    denominator p (c .D) n ≡ total (runWeight c) (runs c (v p n) (stepsOf p) (chosen (named p n) s))
-all-runs p c sound n i = denominator-steps p (c .D) n ∙ sym (runs-total c sound (v p n) (stepsOf p) (named-inside p i))
-
--- a numerator is the total weight of the runs that the path formula takes
-taken-runs : (p : PathFormula) (c : Chain) (n : ℕ) (s : Tuple) →
-    numerator p c n s ≡ total (λ r. cond (takes p c n s r) (runWeight c r) 0) (runs c (v p n) (stepsOf p) (chosen (named p n) s))
-unfolding numerator takenWeight
-taken-runs (next f) c n s = refl
-taken-runs (until k1 k2 f g) c n s = refl
-
 -- a path formula's numerator and denominator are its probability
-counted-once : (p : PathFormula) (c : Chain) → Sound c → (n : ℕ) {s : Tuple} → Inside (c .N) n s →
+unfoldable pub counted-once : (p : PathFormula) (c : Chain) → Sound c → (n : ℕ) {s : Tuple} → Inside (c .N) n s →
     PathProbability c p n s (numerator p c n s) (denominator p (c .D) n)
 unfolding v
 counted-once p c adds n {s} inside =

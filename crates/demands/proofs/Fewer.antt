@@ -32,8 +32,9 @@ use Rattle.verdict.specs.declared.Answer as Judged
 use Rattle.verdict.specs.Contract.{VerdictEnsures, verdictReply}
 use Rattle.numerator.specs.declared.Answer as Counted
 use Rattle.numerator.specs.Contract.{NumeratorRow, question, NumeratorEnsures, numbered, numeratorReply}
-use Rattle.demands.specs.Demands.{chainIn, SameFraction, BaseRow, other, FewerVariables}
-use Rattle.demands.specs.Demands as Said
+use Rattle.demands.specs.Demands.{chainIn}
+use Rattle.demands.specs.Fewer.{SameFraction, BaseRow, other, FewerVariables}
+use Rattle.demands.specs.Fewer as Said
 use Rattle.demands.proofs.Free.{tuple-inside}
 
 -- on the chain of an accepted file nothing has changed

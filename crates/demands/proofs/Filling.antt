@@ -23,7 +23,7 @@ use Rattle.merge.proofs.Merging.{goes}
 use Rattle.merge.proofs.Numbers.{merge-rows}
 use Rattle.merge.proofs.Theorems.{Mergeable, mergeable, merged-read}
 use Rattle.merge.proofs.Unmerged.{unfilled, own-file, own-long, own-fits}
-use Rattle.demands.specs.Demands.{EmptyRows}
+use Rattle.demands.specs.Filling.{EmptyRows}
 
 module _ (file grouping : List ℕ) {before after : List ℕ} {size : ℕ} (writes : MergeEnsures file grouping before after (Wrote size)) where
   free : mergeNumber file grouping (length before) ≡ 0

@@ -3,6 +3,7 @@ pub mod Free
 pub mod Demand1
 pub mod Demand2
 pub mod Fewer
+pub mod Watches
 pub mod RoundTrips
 pub mod Exported
 pub mod Differing

@@ -1,6 +1,6 @@
 -- The three demands of document 00, said of whatever the calls' contracts allow: of every reply, and of all that is left.
-use Prim.Native.Nat.{ℕ, _*_, _≤_, _<_}
-use mathlib.Core.Bool.{Bool, true, false, cond}
+use Prim.Native.Nat.{ℕ, _≤_, _<_}
+use mathlib.Core.Bool.{cond}
 use mathlib.Core.List.{List, [], _∷_, map, List·Memᴰ}
 use mathlib.Core.Logic.{_↔_}
 use mathlib.Core.Path.{_≡_}
@@ -14,30 +14,26 @@ use Rattle.refusal.specs.Answers.{Reply, gives, refuses, replyOf, replyOfWritte
 use Rattle.model.specs.declared.Model.{Model}
 use Rattle.model.specs.declared.ModelRead.{ModelRead}
 use Rattle.model.specs.Layout.{Shaped, fieldsOf, emptyModel}
-use Rattle.model.specs.Rules.{halted}
 use Rattle.model.specs.Contract.{fileRows, fileNumber, ReadModelEnsures, recordRows, WriteModelEnsures}
 use Rattle.sentence.specs.declared.Sentence.{Sentence}
 use Rattle.sentence_reader.specs.declared.SentenceRead.{SentenceRead}
 use Rattle.sentence_reader.specs.Contract.{ReadRow, ReadSentenceEnsures}
 use Rattle.sentence.specs.Record.{recordOf, prefixOf, nodesOf}
-use Rattle.sentence.specs.Grammar.{Spells}
 use Rattle.sentence_writer.specs.Contract.{WriteRow, WriteSentenceEnsures}
 use Rattle.meaning.specs.Lists.{total, Each, Distinct}
 use Rattle.meaning.specs.Chain.{Chain, Tuple, Inside, Run, runWeight}
-use Rattle.meaning.specs.Tree.{Formula, probability, PathFormula, next, until, letterOf}
+use Rattle.meaning.specs.Tree.{probability, PathFormula, letterOf}
 use Rattle.meaning.specs.Named.{Some, count, named, v, chosen}
-use Rattle.meaning.specs.Meaning.{nextTakes, untilTakes, stepsOf, beside, holds, value, numerator, denominator, verdict}
+use Rattle.meaning.specs.Meaning.{stepsOf, value, verdict}
+use Rattle.meaning.specs.Watches.{takes}
 use Rattle.meaning.specs.Merging.{weightInto, Grouping}
-use Rattle.unchanged.specs.Base as Base
-use Rattle.unchanged.specs.Unchanged.{shrunk, Unchanged}
-use Rattle.trees.specs.Listed.{formulaNodes}
-use Rattle.chain.specs.Of.{chainOf, filledFile}
+use Rattle.chain.specs.Of.{chainOf}
 use Rattle.question.specs.Contract.{QuestionRow, SentenceOf, areaSize}
 use Rattle.verdict.specs.declared.Answer as Judged
 use Rattle.verdict.specs.Contract.{VerdictEnsures, verdictReply}
 use Rattle.numerator.specs.declared.Answer as Counted
 use Rattle.numerator.specs.Contract.{NumeratorRow, NumeratorEnsures, numbered, numeratorReply}
-use Rattle.groups.specs.Groups.{groupOf, eachAlone, mergedModel}
+use Rattle.groups.specs.Groups.{groupOf, mergedModel}
 use Rattle.merge.specs.Contract.{mergeRows, mergedFile, MergeEnsures}
 use Rattle.codes.specs.Codes.{sentenceOf}
 use Rattle.exports.specs.Models.{modelOfParts, ExportedReadModel, ExportedWriteModel}
@@ -79,14 +75,6 @@ pub record Demand1 : Type 0 where
 -- the chain that a file describes, its empty rows filled
 abbrev pub chainIn : List ℕ → Chain
 chainIn file = chainOf (fieldsOf file)
-
--- whether the path formula takes the run of its variables, where the other variables have the states of the tuple
-abbrev pub takes : PathFormula → Chain → ℕ → Tuple → Run → Bool
-takes (next f) c n tuple r = nextTakes (beside (named (next f) n) tuple (λ t. holds f c n t)) r
-takes (until k1 k2 f g) c n tuple r =
-    untilTakes
-    (beside (named (until k1 k2 f g) n) tuple (λ t. holds f c n t))
-    (beside (named (until k1 k2 f g) n) tuple (λ t. holds g c n t)) k1 k2 r
 
 -- a run of k steps of some variables from a tuple: their states in the tuple, followed by any k tuples of as many states
 pub record RunFrom (c : Chain) (those : Some) (k : ℕ) (tuple : Tuple) (r : Run) : Type 0 where
@@ -228,51 +216,3 @@ pub record Demand3 : Type 0 where
   pub written : (file grouping : List ℕ) (M : ℕ) {before after : List ℕ} {w : Written} → MergeAsked file grouping M (length before) →
       MergeEnsures file grouping before after w →
       (Differ (chainIn file) (groupOf grouping) M → ⊥) → MergedWritten file grouping w after
-
--- ---- T-02
-
--- the base's numerator and denominator are these two times the power of D of the variables that the path formula does not name
-pub record SameFraction (c : Chain) (p : PathFormula) (n : ℕ) (tuple : Tuple) (top bottom : ℕ) : Type 0 where
-  pub numerators : Base.numerator p c n tuple ≡ top * shrunk p (c .D) n
-  pub denominators : Base.denominator p (c .D) n ≡ bottom * shrunk p (c .D) n
-
--- the rows of a question before T-02: the same but for row 10, which went by the denominators of all n variables
-pub data BaseRow (file text : List ℕ) (room : ℕ) : ℕ → Type 0 where
-  other : {n : ℕ} → QuestionRow file text room n → (n ≡ 10 → ⊥) → BaseRow file text room n
-  size : {ps : List Bool} (f : Formula) → Spells ps (formulaNodes f) text → Base.exceeds f (fieldsOf file .d) (length ps) ≡ true →
-      BaseRow file text room 10
-
--- Of whatever verdict and numerator answer, beside the meaning over all n variables (`Base`):
-pub record FewerVariables : Type 0 where
-  -- on the chain of every accepted file no value and no verdict has changed, and row 10 refuses no body that it did not;
-  pub values : (file : List ℕ) → fileNumber file ≡ 0 → (n : ℕ) → Unchanged (chainIn file) n
-  -- every verdict that was given is still given;
-  pub still-given : {file text before after : List ℕ} {a : Judged.Answer} → VerdictEnsures file text before a after →
-      ((n : ℕ) → BaseRow file text (length before) n → ⊥) →
-      (s : SentenceOf text) × (verdictReply a ≡ gives (Base.verdict (chainIn file) (map letterOf (s .prefix)) (s .body)))
-  -- the two numbers of numerator, times one power of D, are the base's;
-  pub fractions : {file text tuple before after : List ℕ} {path : ℕ} {a : Counted.Answer} →
-      NumeratorEnsures file text tuple path before a after → ((n : ℕ) → NumeratorRow file text tuple path (length before) n → ⊥) →
-      (s : SentenceOf text) × (x : ℕ × ℕ) × (numeratorReply a ≡ gives x) × SameFraction (chainIn file) (numbered (s .body) path)
-      (length (s .prefix)) tuple (x .0) (x .1)
-  -- and where no variable occurs in a path formula, they are 0 or 1, and 1.
-  pub none-named : (file : List ℕ) → fileNumber file ≡ 0 → (p : PathFormula) (n : ℕ) → v p n ≡ 0 → {tuple : Tuple} →
-      Inside (chainIn file .N) n tuple → (numerator p (chainIn file) n tuple ≤ 1) × (denominator p (chainIn file .D) n ≡ 1)
-
--- ---- T-05
-
--- Of whatever merge answers and leaves, and of the filled file:
-pub record EmptyRows : Type 0 where
-  -- Merging keeps the version
-  pub version : (file grouping : List ℕ) {before after : List ℕ} {size : ℕ} → MergeEnsures file grouping before after (Wrote size) →
-      fieldsOf (take size after) .version ≡ fieldsOf file .version
-  -- and writes filled rows: no state of the merged file is halted.
-  pub rows-filled : (file grouping : List ℕ) {before after : List ℕ} {size : ℕ} → MergeEnsures file grouping before after (Wrote size) →
-      (s : ℕ) → halted (fieldsOf (take size after)) s ≡ false
-  -- So grouping 0, 1, 2 and on gives back the filled file, where the output has room for it;
-  pub back : (file : List ℕ) {before after : List ℕ} {w : Written} → fileNumber file ≡ 0 → length file ≤ length before →
-      MergeEnsures file (eachAlone (fieldsOf file .n)) before after w →
-      (w ≡ Wrote (length file)) × (after ≡ atFront (filledFile file) before)
-  -- in version 0, and wherever no state is halted, that is the same file.
-  pub version-0 : (file : List ℕ) → fileNumber file ≡ 0 → fieldsOf file .version ≡ 0 → filledFile file ≡ file
-  pub none-halted : (file : List ℕ) → fileNumber file ≡ 0 → ((s : ℕ) → halted (fieldsOf file) s ≡ false) → filledFile file ≡ file

@@ -7,6 +7,7 @@ pub mod Named
 pub mod Steps
 pub mod Single
 pub mod Until
+pub mod Watches
 pub mod Looking
 pub mod Magnitude
 pub mod Laws

@@ -5,7 +5,7 @@ use mathlib.Core.Bool.{Bool, true, false, cond}
 use mathlib.Core.List.{[], _∷_}
 use mathlib.Core.Path.{_≡_, refl, sym, ap, _∙_, subst}
 use native.Mathlib.Nat.{mul-assoc, mul-one, mul-zero, mul-suc, one-mul, pow-zero, pow-succ', add-comm, le-of-eq}
-use native.Mathlib.Nat.{le-trans}
+use native.Mathlib.Nat.{le-trans, mul-le-mul-left}
 use native.Mathlib.Omega.{arith}
 use lib.Pow.{pow-add}
 use Rattle.meaning.specs.Lists.{below, total, lists, nothing, further}
@@ -38,6 +38,17 @@ module _ (c : Chain) (n : ℕ) where
   unfolding step
   step-same f g h s =
       total-same _ _ (tuples c n) (λ t m. ap (λ (x : ℕ). joint c s t * x) (h t (tuples-inside c n m)))
+
+  -- functions of which one is no larger there have steps of which one is no larger
+  pub step-le : (f g : Tuple → ℕ) → ((t : Tuple) → Inside (c .N) n t → f t ≤ g t) → (s : Tuple) → step c n f s ≤ step c n g s
+  unfolding step
+  step-le f g h s = total-le _ _ (tuples c n) (λ t m. mul-le-mul-left (joint c s t) (h t (tuples-inside c n m)))
+
+  -- a factor of a function is one of its step
+  pub step-scale : (k : ℕ) (f : Tuple → ℕ) (s : Tuple) → step c n (λ t. f t * k) s ≡ step c n f s * k
+  unfolding step
+  step-scale k f s =
+      total-same _ _ (tuples c n) (λ t m. sym (mul-assoc (joint c s t) (f t) k)) ∙ total-scale-right k (λ t. joint c s t * f t) (tuples c n)
 
   -- a step of n + 1 variables: over the first variable's state, then over the others'
   pub step-first : (f : Tuple → ℕ) (s : ℕ) (ss : Tuple) →

@@ -4,6 +4,7 @@ pub mod Chain
 pub mod Tree
 pub mod Named
 pub mod Meaning
+pub mod Watches
 pub mod Size
 pub mod Merging
 pub mod Examples

@@ -15,6 +15,7 @@ use Rattle.trees.specs.Listed.{formulaNodes}
 use Rattle.trees.specs.Need.{needFrom}
 use Rattle.trees.specs.Ranged.{Ranged, RangedFrom}
 use Rattle.trees.specs.Standing.{PathAt}
+use Rattle.trees.proofs.Stretch.{path-stands as listed-stands}
 use Rattle.trees.proofs.Numbered.{PathsAt, path-numbered, paths-counted, below-zero, record-paths}
 use Rattle.trees.proofs.Within.{path-inherits}
 use Rattle.paths.specs.Places.{PathPlace, here, none}
@@ -47,7 +48,8 @@ module _
         let at = path-numbered nodes d 0 (pathsOf f) count paths-held r (omega arith) below s in
         let zero = below-zero nodes in
         let same : at .0 ≡ path = omega (arith, at .1) in
-        subst (λ (k : ℕ). (k < length (pathsOf f)) × ((e : ℕ) × PathAt nodes r (getD (pathsOf f) k d) e)) same (at .2, at .3)
+        subst (λ (k : ℕ). (k < length (pathsOf f)) × ((e : ℕ) × PathAt nodes r (getD (pathsOf f) k d) e)) same
+        (at .2, (at .3 .0, listed-stands nodes (getD (pathsOf f) (at .0) d) r (at .3 .0) (at .3 .1)))
     path-stands (none h) below d = absurd (omega arith)
 
     -- the count itself: there is no such path formula

@@ -8,8 +8,9 @@ use native.Mathlib.Omega.{arith}
 use lib.ListN.{length}
 use Rattle.sentence.specs.declared.Slot.{Slot}
 use Rattle.meaning.proofs.Numbers.{numberOf, number-tuple}
+use Rattle.trees.specs.Listed.{startsPath}
 use Rattle.trees.specs.Standing.{nodeAt}
-use Rattle.trees.specs.Numbered.{startsPath, pathsBelow}
+use Rattle.trees.specs.Numbered.{pathsBelow}
 use Rattle.trees.proofs.Numbered.{below-more}
 use Rattle.paths.specs.Places.{PathPlace, here, none, TuplePlace}
 

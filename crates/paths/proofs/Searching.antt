@@ -5,8 +5,9 @@ use mathlib.Core.List.{List}
 use mathlib.Core.Path.{_≡_, sym, subst, _∙_}
 use native.Mathlib.Omega.{arith}
 use Rattle.sentence.specs.declared.Slot.{Slot}
+use Rattle.trees.specs.Listed.{startsPath}
 use Rattle.trees.specs.Standing.{nodeAt}
-use Rattle.trees.specs.Numbered.{startsPath, pathsBelow}
+use Rattle.trees.specs.Numbered.{pathsBelow}
 use Rattle.trees.proofs.Numbered.{below-zero, below-more}
 use Rattle.paths.specs.Places.{PathPlace, here, none}
 

@@ -10,8 +10,9 @@ use lib.ListN.{length}
 use Rattle.sentence.specs.declared.Slot.{Slot}
 use Rattle.meaning.proofs.Numbers.{tupleOf}
 use Rattle.layers.specs.Held.{mostStates, mostVariables}
+use Rattle.trees.specs.Listed.{startsPath}
 use Rattle.trees.specs.Standing.{nodeAt}
-use Rattle.trees.specs.Numbered.{startsPath, pathsBelow}
+use Rattle.trees.specs.Numbered.{pathsBelow}
 use Rattle.paths.specs.Tuples.{membersBelow}
 
 -- the place of the path formula with the number `path` among the first `count` places: one where a path starts with so many

@@ -1,7 +1,7 @@
 // What the numerator call is asked about: the path formula with a number, counted from 0 in written order, and a tuple.
 ghost use mathlib.Core.Path.{_≡_};
 ghost use Prim.Native.Nat.{_≤_};
-ghost use Rattle.trees.specs.Numbered.{startsPath};
+ghost use Rattle.trees.specs.Listed.{startsPath};
 ghost use Rattle.paths.specs.Places.{PathPlace, TupleReady, TuplePlace};
 ghost use Rattle.paths.specs.Tuples.{membersBelow, tupleRight};
 use sentence::Node;

@@ -5,6 +5,7 @@ pub mod Stretch
 pub mod Cases
 pub mod Parts
 pub mod Numbered
+pub mod Windows
 pub mod Ranges
 pub mod Needs
 pub mod Within

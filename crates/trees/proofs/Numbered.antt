@@ -12,10 +12,10 @@ use Rattle.sentence.specs.declared.Slot.{Slot}
 use Rattle.sentence.specs.declared.Node.{Node}
 use Rattle.meaning.specs.Tree.{Formula, always, labelled, negation, both, compare, pathsOf, PathFormula, next, until, pathsFrom}
 use Rattle.meaning.specs.Tree.{Expression, probability, constant, sum, difference, product, pathsIn}
-use Rattle.trees.specs.Listed.{formulaNodes, expressionNodes, pathNodes}
-use Rattle.trees.specs.Standing.{nodeAt, PathAt}
-use Rattle.trees.specs.Numbered.{startsPath, pathsBelow}
-use Rattle.trees.proofs.Stretch.{Stretch, split, path-stands, record-stretch}
+use Rattle.trees.specs.Listed.{formulaNodes, expressionNodes, pathNodes, startsPath}
+use Rattle.trees.specs.Standing.{nodeAt}
+use Rattle.trees.specs.Numbered.{pathsBelow}
+use Rattle.trees.proofs.Stretch.{Stretch, split, record-stretch}
 
 module _ (slots : List Slot) where
   -- no path starts at the places from p up to q
@@ -25,7 +25,8 @@ module _ (slots : List Slot) where
   -- the paths ws start at places from p up to q, in this order, and no other does
   abbrev pub PathsAt : ℕ → List PathFormula → ℕ → Type 0
   PathsAt p [] q = Quiet p q
-  PathsAt p (w ∷ ws) q = (m : ℕ) × Quiet p m × (startsPath (nodeAt slots m) ≡ true) × ((e : ℕ) × PathAt slots m w e) × PathsAt (m + 1) ws q
+  PathsAt p (w ∷ ws) q = (m : ℕ) × Quiet p m × (startsPath (nodeAt slots m) ≡ true) × ((e : ℕ) × Stretch slots m (pathNodes w) e) ×
+      PathsAt (m + 1) ws q
 
   quiet-more : (p m q : ℕ) → Quiet p m → Quiet m q → Quiet p q
   quiet-more p m q a b = (omega (arith, a .0, b .0), λ i l h. by i l h (decLt i m))
@@ -95,7 +96,7 @@ module _ (slots : List Slot) where
       p,
       (omega arith, λ i l u. absurd (omega arith)),
       ap startsPath (h .1),
-      (q, path-stands slots (next f) p q h),
+      (q, h),
       formula-paths f (p + 1) q (h .2),
     )
     path-paths (until k1 k2 f g) p q h =
@@ -103,7 +104,7 @@ module _ (slots : List Slot) where
           p,
           (omega arith, λ i l u. absurd (omega arith)),
           ap startsPath (h .1),
-          (q, path-stands slots (until k1 k2 f g) p q h),
+          (q, h),
           then (p + 1) (s .0) (pathsOf f) (pathsOf g) q (formula-paths f (p + 1) (s .0) (s .1)) (formula-paths g (s .0) q (s .2)),
         )
 
@@ -135,10 +136,11 @@ module _ (slots : List Slot) where
       let c : pathsBelow slots q ≡ pathsBelow slots (h .0 + 1) + length ws = paths-counted (h .0 + 1) ws q (h .4) in
       omega (arith, a, b, c)
 
-  -- at the place m stands the path formula with the number of paths that start from p on before m
+  -- at the place m stand the nodes of the path formula with the number of paths that start from p on before m
   abbrev pub NumberedAt : PathFormula → ℕ → List PathFormula → ℕ → Type 0
   NumberedAt d p ws m =
-      (k : ℕ) × (pathsBelow slots m ≡ pathsBelow slots p + k) × (k < length ws) × ((e : ℕ) × PathAt slots m (getD ws k d) e)
+      (k : ℕ) × (pathsBelow slots m ≡ pathsBelow slots p + k) × (k < length ws) ×
+      ((e : ℕ) × Stretch slots m (pathNodes (getD ws k d)) e)
 
   -- every place where a path starts is the place of the path formula with the number of those before it
   pub path-numbered : (d : PathFormula) (p : ℕ) (ws : List PathFormula) (q : ℕ) → PathsAt p ws q → (m : ℕ) → p ≤ m → m < q
@@ -151,7 +153,7 @@ module _ (slots : List Slot) where
       by rest (no n) (yes e) =
           let a : pathsBelow slots (h .0) ≡ pathsBelow slots p = below-quiet p (h .0) (h .1) in
           let b : pathsBelow slots m ≡ pathsBelow slots (h .0) = ap (pathsBelow slots) e in
-          (0, omega (arith, a, b), omega arith, (h .3 .0, subst (λ (x : ℕ). PathAt slots x w (h .3 .0)) (sym e) (h .3 .1)))
+          (0, omega (arith, a, b), omega arith, (h .3 .0, subst (λ (x : ℕ). Stretch slots x (pathNodes w) (h .3 .0)) (sym e) (h .3 .1)))
       by rest (no n) (no o) =
           let r = rest (omega arith) in
           let a : pathsBelow slots (h .0) ≡ pathsBelow slots p = below-quiet p (h .0) (h .1) in

@@ -52,7 +52,7 @@ ExpressionBegins Product l e s =
 ExpressionBegins Next l e s = ⊥
 ExpressionBegins (Until k1 k2) l e s = ⊥
 
-abbrev PathBegins : Node → List Node → PathFormula → List Node → Type 0
+abbrev pub PathBegins : Node → List Node → PathFormula → List Node → Type 0
 PathBegins True l w s = ⊥
 PathBegins (Label a i) l w s = ⊥
 PathBegins Not l w s = ⊥
@@ -99,7 +99,7 @@ formula-begins n l f s e = subst (Begun (λ n l. FormulaBegins n l f s)) (sym e)
 expression-begins : (n : Node) (l : List Node) (a : Expression) (s : List Node) → n ∷ l ≡ expressionNodes a ++ s → ExpressionBegins n l a s
 expression-begins n l a s e = subst (Begun (λ n l. ExpressionBegins n l a s)) (sym e) (expression-begun a s)
 
-path-begins : (n : Node) (l : List Node) (w : PathFormula) (s : List Node) → n ∷ l ≡ pathNodes w ++ s → PathBegins n l w s
+pub path-begins : (n : Node) (l : List Node) (w : PathFormula) (s : List Node) → n ∷ l ≡ pathNodes w ++ s → PathBegins n l w s
 path-begins n l w s e = subst (Begun (λ n l. PathBegins n l w s)) (sym e) (path-begun w s)
 
 mutual

@@ -1,10 +1,15 @@
 -- The nodes of a tree in written order: operators first, as document 01 writes them.
+use Prim.Native.Nat.{ℕ, _+_}
+use mathlib.Core.Bool.{Bool, true, false, cond}
 use mathlib.Core.List.{List, [], _∷_, _++_}
+use Rattle.sentence.specs.declared.Kind.{Kind}
+use Rattle.sentence.specs.declared.Kind.the-variants.{State, Expression as Value, Path}
 use Rattle.sentence.specs.declared.Relation.the-variants.{Less, AtMost, Equal, AtLeast, Greater}
 use Rattle.sentence.specs.declared.Relation as Spelled
 use Rattle.sentence.specs.declared.Node.{Node}
 use Rattle.sentence.specs.declared.Node.the-variants.{True, Label, Not, And, Compare, Probability, Constant, Sum, Difference, Product, Next}
 use Rattle.sentence.specs.declared.Node.the-variants.{Until}
+use Rattle.sentence.specs.Grammar.{kindOf}
 use Rattle.meaning.specs.Tree.{Relation, less, atMost, equal, atLeast, greater, Formula, always, labelled, negation, both, compare}
 use Rattle.meaning.specs.Tree.{Expression, probability, constant, sum, difference, product, PathFormula, next, until}
 
@@ -46,3 +51,18 @@ unfoldable mutual
   pub pathNodes : PathFormula → List Node
   pathNodes (next f) = Next ∷ formulaNodes f
   pathNodes (until k1 k2 f g) = Until k1 k2 ∷ (formulaNodes f ++ formulaNodes g)
+
+-- the kind of paths
+abbrev pub isPath : Kind → Bool
+isPath State = false
+isPath Value = false
+isPath Path = true
+
+-- the node starts a path: it is a next or an until
+abbrev pub startsPath : Node → Bool
+startsPath n = isPath (kindOf n)
+
+-- how many of the nodes start a path
+unfoldable pub pathCount : List Node → ℕ
+pathCount [] = 0
+pathCount (n ∷ ns) = cond (startsPath n) 1 0 + pathCount ns

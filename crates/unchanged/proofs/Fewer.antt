@@ -9,12 +9,12 @@ use native.Mathlib.Omega.{arith}
 use lib.ListN.{length}
 use lib.Pow.{pow-add}
 use Rattle.meaning.specs.Lists.{below, nothing, further}
-use Rattle.meaning.specs.Chain.{Chain, Sound, Tuple, Inside, tuples, joint}
+use Rattle.meaning.specs.Chain.{Chain, Sound, Tuple, Inside}
 use Rattle.meaning.specs.Named.{Some, count, chosen}
 use Rattle.meaning.specs.Meaning.{nextTakes, untilTakes, takenWeight}
 use Rattle.meaning.proofs.Sums.{total-same, total-scale-right}
 use Rattle.meaning.proofs.Named.{chosen-inside}
-use Rattle.meaning.proofs.Steps.{step, step-same, step-none, step-first, next-step}
+use Rattle.meaning.proofs.Steps.{step, step-same, step-scale, step-none, step-first, next-step}
 use Rattle.meaning.proofs.Until.{table, until-table}
 
 -- some variables are no more than all
@@ -33,12 +33,6 @@ pub powers : (D : ℕ) {m n : ℕ} → m ≤ n → (k : ℕ) → D ^ (n * k) ≡
 powers D {m} {n} l k =
     let e : n ≡ m + (n - m) = omega arith in
     ap (λ (x : ℕ). D ^ x) (ap (λ (x : ℕ). x * k) e ∙ add-mul m (n - m) k) ∙ pow-add D (m * k) ((n - m) * k)
-
--- a factor of a function is one of its step
-step-scale : (c : Chain) (n : ℕ) (f : Tuple → ℕ) (k : ℕ) (s : Tuple) → step c n (λ t. f t * k) s ≡ step c n f s * k
-unfolding step
-step-scale c n f k s =
-    total-same _ _ (tuples c n) (λ t m. sym (mul-assoc (joint c s t) (f t) k)) ∙ total-scale-right k (λ t. joint c s t * f t) (tuples c n)
 
 -- a factor of every term of a layer
 factor-out : (b d : Bool) (a x k : ℕ) → cond b (a * k) (cond d (x * k) 0) ≡ cond b a (cond d x 0) * k
@@ -80,7 +74,7 @@ module _ (c : Chain) (sound : Sound c) where
         let r = n - count bs in
         let x = step c (count bs) g (chosen bs s) in
         step-same c n f (λ t. g (chosen bs t) * c .D ^ (r * k)) same s ∙
-        step-scale c n (λ t. g (chosen bs t)) (c .D ^ (r * k)) s ∙
+        step-scale c n (c .D ^ (r * k)) (λ t. g (chosen bs t)) s ∙
         ap (λ (y : ℕ). y * c .D ^ (r * k))
         (subst (λ (m : ℕ). Inside (c .N) m s → step c m (λ t. g (chosen bs t)) s ≡ x * c .D ^ (m - count bs)) long
         (λ j. step-some bs g j) i) ∙

@@ -12,13 +12,11 @@ use lib.ListN.{length, getD, drop, length-drop}
 use lib.Pow.{pow-add}
 use lib.Seq.{getD-drop}
 use Rattle.meaning.specs.Size.{sizeLimit}
-use Rattle.meaning.specs.Chain.{Chain, Sound, Tuple, Inside, tuples, joint}
-use Rattle.meaning.specs.Named.{Some, count, placed}
+use Rattle.meaning.specs.Chain.{Chain, Sound, Tuple, Inside}
+use Rattle.meaning.specs.Named.{Some, count, chosen, placed}
 use Rattle.meaning.proofs.Named.{chosen-inside, placed-inside}
 use Rattle.meaning.proofs.Numbers.{numberOf, tupleOf, tuple-inside, number-tuple, number-below}
-use Rattle.meaning.proofs.Runs.{tuples-inside}
-use Rattle.meaning.proofs.Steps.{step, steps, step-constant}
-use Rattle.meaning.proofs.Sums.{total-le}
+use Rattle.meaning.proofs.Steps.{steps, step-le, step-constant}
 use Rattle.meaning.proofs.Until.{layer, until-layer}
 use Rattle.layers.specs.Layers.{Layer, truth}
 use Rattle.layers.specs.Held.{Holds}
@@ -82,24 +80,16 @@ choice-le opened all first second number bound p q = outer (opened && not (eqb s
     outer true r = p
     outer false r = r
 
--- a step of v variables of a function that is at most `bound` is at most D^v × bound
-step-le : (c : Chain) → Sound c → (n : ℕ) (f : Tuple → ℕ) (bound : ℕ) →
-    ((t : Tuple) → Inside (c .N) n t → f t ≤ bound) →
-    {s : Tuple} → Inside (c .N) n s → step c n f s ≤ c .D ^ n * bound
-unfolding step
-step-le c sound n f bound h {s} i =
-    le-trans
-    (total-le (λ t. joint c s t * f t) (λ t. joint c s t * bound) (tuples c n)
-    (λ t m. mul-le-mul-left (joint c s t) (h t (tuples-inside c n m))))
-    (le-of-eq (step-constant c sound n bound i))
-
+-- a step of some variables of a function that is at most `bound` is at most D^v × bound
 steps-le : (c : Chain) → Sound c → (those : Some) (f : Tuple → ℕ) (bound : ℕ) →
     ((t : Tuple) → Inside (c .N) (length those) t → f t ≤ bound) →
     {s : Tuple} → Inside (c .N) (length those) s → steps c those f s ≤ c .D ^ count those * bound
 unfolding steps
 steps-le c sound those f bound h {s} i =
-    step-le c sound (count those) (λ t. f (placed those s t)) bound
-    (λ t j. h (placed those s t) (placed-inside (c .N) those i j)) (chosen-inside (c .N) those i)
+    le-trans
+    (step-le c (count those) (λ t. f (placed those s t)) (λ t. bound)
+    (λ t j. h (placed those s t) (placed-inside (c .N) those i j)) (chosen those s))
+    (le-of-eq (step-constant c sound (count those) bound (chosen-inside (c .N) those i)))
 
 -- any numbers are the layer of some function
 numbers-layer : (N n : ℕ) (w : List ℕ) → Layer N n (λ s. getD w (numberOf N s) 0) w

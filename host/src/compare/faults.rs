@@ -5,6 +5,7 @@
 use super::*;
 use crate::inputs::extreme::Kind;
 use crate::inputs::naming::end_of;
+use crate::inputs::watch;
 use crate::second::meaning::Way;
 use crate::second::sentence::{read_sentence, spelled, Node, Relation};
 use std::panic::{catch_unwind, AssertUnwindSafe};
@@ -322,12 +323,13 @@ fn found(fault: Fault, comparison: impl FnOnce(&Faulty) -> Tally) {
     noticed(&format!("{fault:?}"), || comparison(&lib));
 }
 
-/// Stops unless a comparison with a faulty library ends with a report of a difference.
-pub(super) fn noticed(fault: &str, comparison: impl FnOnce() -> Tally) {
+/// The report of a difference with which a comparison with a faulty library ends. Stops unless there is one.
+pub(super) fn noticed(fault: &str, comparison: impl FnOnce() -> Tally) -> String {
     let outcome = catch_unwind(AssertUnwindSafe(comparison));
     let report = outcome.expect_err(&format!("{fault} was not found"));
     let text = report.downcast_ref::<String>().expect("a report");
     assert!(text.contains("differs") || text.contains("work area"), "{fault}: {text}");
+    text.clone()
 }
 
 #[test]
@@ -387,6 +389,10 @@ fn faults_of_row_15_and_of_work_areas_are_found() {
     }
     for fault in [WorkNotZero, WorkZeroOnRefusal, WorkZeroBeyond] {
         found(fault, |lib| compare_rooms(lib, 50, 17));
+        found(fault, |lib| compare_watches(lib, watch::Kind::Ends, 50, 18).0);
+    }
+    for fault in [WorkNotZero, WorkZeroBeyond] {
+        found(fault, |lib| compare_sums(lib, 50, 19).0);
     }
 }
 

@@ -136,11 +136,31 @@ pub fn compare_full<L: Questions>(lib: &L, cases: usize, seed: u64) -> Tally {
 }
 
 /// One call of numerator.
-struct Asked<'a> {
-    pair: &'a Pair,
-    tuple: Vec<u8>,
-    path: usize,
-    room: usize,
+pub(super) struct Asked<'a> {
+    pub(super) pair: &'a Pair,
+    pub(super) tuple: Vec<u8>,
+    pub(super) path: usize,
+    pub(super) room: usize,
+}
+
+impl Asked<'_> {
+    /// The call for a report.
+    fn shown(&self) -> String {
+        let Asked { pair, tuple, path, room } = self;
+        format!("  tuple {tuple:?}, path {path}, work area of {room}\n{}", shown(pair))
+    }
+}
+
+/// What a library answers to one call of numerator, everything that is lent being as that answer should leave it.
+pub(super) fn answered<L: Questions>(lib: &L, rng: &mut Rng, asked: &Asked) -> Result<(u64, u64), u8> {
+    let Asked { pair, tuple, path, room } = asked;
+    let before = work_area(rng, *room);
+    let (mut after, lent, lent_tuple) = (before.clone(), (*pair).clone(), tuple.clone());
+    let got = lib.numerator(&lent.file, &lent.text, &lent_tuple, *path, &mut after);
+    agree("numerator: the lent tuple", tuple, &lent_tuple, || asked.shown());
+    work_after("numerator", &got, &before, &after, || asked.shown());
+    inputs_after("numerator", pair, &lent);
+    got
 }
 
 /// One numerator, with everything that is lent.
@@ -151,15 +171,8 @@ fn numerator_case<L: Questions>(
     asked: &Asked,
     expected: Result<(u64, u64), u8>,
 ) {
-    let Asked { pair, tuple, path, room } = asked;
-    let before = work_area(rng, *room);
-    let (mut after, lent, lent_tuple) = (before.clone(), (*pair).clone(), tuple.clone());
-    let got = lib.numerator(&lent.file, &lent.text, &lent_tuple, *path, &mut after);
-    let told = || format!("  tuple {tuple:?}, path {path}, work area of {room}\n{}", shown(pair));
-    agree("numerator", &expected, &got, told);
-    agree("numerator: the lent tuple", tuple, &lent_tuple, told);
-    work_after("numerator", &expected, &before, &after, told);
-    inputs_after("numerator", pair, &lent);
+    let got = answered(lib, rng, asked);
+    agree("numerator", &expected, &got, || asked.shown());
     tally.count(&expected);
     if let Ok((top, bottom)) = expected {
         tally.reach.fraction(top, bottom);
@@ -210,7 +223,7 @@ impl Found<'_> {
 
     /// About how many products one numerator takes. Where the tuples are few, the second program lists runs and makes
     /// all joint weights for each path.
-    fn cost(&self) -> usize {
+    pub(super) fn cost(&self) -> usize {
         let model = read_model(&self.pair.file).expect("a pair that is answered");
         let sentence = read_sentence(&self.pair.text).expect("a pair that is answered");
         let tuples = self.found.paths.first().map_or(0, |path| path.tops.len());

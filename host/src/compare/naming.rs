@@ -173,8 +173,7 @@ impl Beside<'_> {
     /// its fraction is that at the states of the named variables.
     fn alone(&self, named: &mut Named) {
         let list = &self.sentence.nodes[..self.sentence.count];
-        let places = (0..list.len()).filter(|&at| matches!(list[at], Node::Next | Node::Until { .. }));
-        for (number, (place, path)) in places.zip(&self.paths).enumerate() {
+        for (number, (place, path)) in self.sentence.path_places().zip(&self.paths).enumerate() {
             let variables: Vec<usize> = (0..4).filter(|&variable| path.all[variable]).collect();
             let text = by_itself(&list[place..place + end_of(&list[place..])], &variables);
             // A path inside may have a larger denominator than it has here, and be refused.

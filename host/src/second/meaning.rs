@@ -1,5 +1,5 @@
 //! The meaning of a sentence on a model: verdicts and numerators
-//! (document 01, 'Meaning'; document 02, T-02 and T-05; refusals 1 to 11 and 15).
+//! (document 01, 'Meaning'; document 02, T-02, T-05 and T-09; refusals 1 to 11 and 15).
 //!
 //! The runs of a path are runs of the variables that occur in it. The others stay
 //! as they are at the start; no formula of the path looks at them.
@@ -7,7 +7,8 @@
 //! A path's numerators are found in two ways. [`Way::Runs`] lists every run and
 //! asks of each whether the path takes it, in the words of the definition.
 //! [`Way::Table`] works backwards over the window and serves where the runs are
-//! too many to list.
+//! too many to list. The runs that a path does not take have a sum of their own,
+//! [`sums`], by the same listing.
 //!
 //! What a sentence meant before T-02, when all n variables stepped, is
 //! [`base_answer`], to be compared with.
@@ -43,6 +44,16 @@ pub struct Fractions {
     pub tops: Vec<u64>,
     /// The denominator.
     pub bottom: u64,
+}
+
+/// The weights of the runs of one path formula from each tuple. Each is a sum
+/// over runs: neither is found from the other or from the denominator.
+#[derive(Clone, Debug, PartialEq, Eq)]
+pub struct Sums {
+    /// The total weight of the runs taken, at each tuple.
+    pub taken: Vec<u64>,
+    /// The total weight of the runs not taken, at each tuple.
+    pub not_taken: Vec<u64>,
 }
 
 /// What a sentence means on a model: its verdict, and the fractions of its
@@ -94,6 +105,14 @@ pub fn numerator(
 /// Everything that a sentence means on a model, found in the given way. Refusals 2 to 11.
 pub fn answer(file: &[u8], text: &[u8], way: Way) -> Result<Answer, u8> {
     answer_by(named, file, text, way)
+}
+
+/// The weights of the runs that a path formula takes and of those that it does
+/// not, by listing every run, however many there are. Refusals 2 to 11, 15.
+pub fn sums(file: &[u8], text: &[u8], path: usize) -> Result<Sums, u8> {
+    let question = Question::of(file, text)?;
+    let path = path_of(&question.sentence, question.stepping, path).ok_or(15)?;
+    Ok(question.sums(&path))
 }
 
 /// Everything that a sentence meant before T-02: all n variables step in every
@@ -174,6 +193,13 @@ enum PathKind {
 fn body_of(sentence: &Sentence, stepping: Stepping) -> Formula {
     let mut growing = Growing { sentence, stepping, at: 0, paths: 0 };
     growing.formula()
+}
+
+/// The path formula with a number; nothing if there is none.
+fn path_of(sentence: &Sentence, stepping: Stepping, number: usize) -> Option<Path> {
+    let at = sentence.path_places().nth(number)?;
+    let mut growing = Growing { sentence, stepping, at, paths: number };
+    Some(growing.path())
 }
 
 /// A sentence's list of nodes on its way to becoming a formula.
@@ -350,16 +376,17 @@ impl Question {
 
     /// The verdict and the fractions of every path formula.
     fn answer(&self, way: Way) -> Answer {
-        let count = self.sentence.nodes[..self.sentence.count]
-            .iter()
-            .filter(|node| matches!(node, Node::Next | Node::Until { .. }))
-            .count();
-        let paths = vec![Fractions { tops: Vec::new(), bottom: 0 }; count];
-        let mut found = Answer { holds: false, below_zero: false, paths };
+        let mut found = self.nothing_found();
         let truth = self.formula(&body_of(&self.sentence, self.stepping), way, &mut found);
         let prefix = &self.sentence.exists[..self.sentence.letters];
         found.holds = self.prefix(prefix, &truth);
         found
+    }
+
+    /// An answer to be filled in.
+    fn nothing_found(&self) -> Answer {
+        let paths = vec![Fractions { tops: Vec::new(), bottom: 0 }; self.sentence.path_places().count()];
+        Answer { holds: false, below_zero: false, paths }
     }
 
     /// The prefix over the body's truth at each tuple, the first letter outermost.
@@ -446,25 +473,35 @@ impl Question {
 
     /// The fractions of a path formula.
     fn path(&self, path: &Path, way: Way, found: &mut Answer) -> Fractions {
-        let stepping = &path.stepping;
-        match &path.kind {
-            PathKind::Next(inner) => {
-                let truth = self.formula(inner, way, found);
-                let tops = match self.resolved(way, stepping, 1) {
-                    Way::Runs => self.by_runs(stepping, 1, &|run| truth[run[1]]),
-                    _ => self.step(stepping, truth.iter().map(|&truth| u64::from(truth)).collect()),
-                };
-                Fractions { tops, bottom: self.joint_power(stepping, 1) }
+        let (stepping, taking) = (&path.stepping, self.taking(path, way, found));
+        let steps = taking.steps();
+        let tops = match (self.resolved(way, stepping, steps), &taking) {
+            (Way::Runs, _) => self.by_runs(stepping, steps, &|run| taking.takes(run)),
+            (_, Taking::Next(truth)) => {
+                self.step(stepping, truth.iter().map(|&truth| u64::from(truth)).collect())
             }
+            (_, Taking::Until { from, to, first, second }) => {
+                self.until_table(stepping, (*from, *to), first, second)
+            }
+        };
+        Fractions { tops, bottom: self.joint_power(stepping, steps) }
+    }
+
+    /// The weights of the runs of a path formula, each run listed and asked.
+    fn sums(&self, path: &Path) -> Sums {
+        let taking = self.taking(path, Way::Runs, &mut self.nothing_found());
+        let by_runs =
+            |taken: bool| self.by_runs(&path.stepping, taking.steps(), &|run| taking.takes(run) == taken);
+        Sums { taken: by_runs(true), not_taken: by_runs(false) }
+    }
+
+    /// A path formula with the truth of its formulas at each tuple.
+    fn taking(&self, path: &Path, way: Way, found: &mut Answer) -> Taking {
+        match &path.kind {
+            PathKind::Next(inner) => Taking::Next(self.formula(inner, way, found)),
             PathKind::Until { from, to, first, second } => {
                 let first = self.formula(first, way, found);
-                let second = self.formula(second, way, found);
-                let takes = |run: &[usize]| until_takes(run, *from, *to, &first, &second);
-                let tops = match self.resolved(way, stepping, *to) {
-                    Way::Runs => self.by_runs(stepping, *to, &takes),
-                    _ => self.until_table(stepping, (*from, *to), &first, &second),
-                };
-                Fractions { tops, bottom: self.joint_power(stepping, *to) }
+                Taking::Until { from: *from, to: *to, first, second: self.formula(second, way, found) }
             }
         }
     }
@@ -518,18 +555,18 @@ impl Question {
         })
     }
 
-    /// At each tuple, the total weight of the runs taken that start there.
-    fn by_runs(&self, stepping: &[usize], steps: usize, takes: &dyn Fn(&[usize]) -> bool) -> Vec<u64> {
+    /// At each tuple, the total weight of the runs counted that start there.
+    fn by_runs(&self, stepping: &[usize], steps: usize, counts: &dyn Fn(&[usize]) -> bool) -> Vec<u64> {
         // Runs of no steps go nowhere.
         let small = if steps == 0 { 0 } else { self.small_tuples(stepping) };
         let row = |s: usize| (0..small).map(|t| self.joint_weight(stepping, s, t)).collect();
         let weights: Vec<Vec<u64>> = (0..small).map(row).collect();
-        let taken = |start: usize| {
+        let total = |start: usize| {
             let places = (0..small).map(|number| self.placed(start, stepping, number)).collect();
             let here = stepping.iter().fold(0, |at, &v| at * self.model.n as usize + self.member(start, v));
-            Runs { weights: &weights, places, takes }.taken(&mut vec![start], here, steps, 1)
+            Runs { weights: &weights, places, counts }.total(&mut vec![start], here, steps, 1)
         };
-        (0..self.tuples).map(taken).collect()
+        (0..self.tuples).map(total).collect()
     }
 
     /// One step back, one variable at a time: at each tuple, the sum over the
@@ -583,10 +620,32 @@ impl Question {
     }
 }
 
-/// Until with window from..to takes a run if some j of the window has position j
-/// meet the second formula while positions 0..j−1 all meet the first.
-fn until_takes(run: &[usize], from: usize, to: usize, first: &[bool], second: &[bool]) -> bool {
-    (from..=to).any(|j| second[run[j]] && run[..j].iter().all(|&position| first[position]))
+/// A path, with the truth of its formulas at each tuple.
+enum Taking {
+    Next(Vec<bool>),
+    Until { from: usize, to: usize, first: Vec<bool>, second: Vec<bool> },
+}
+
+impl Taking {
+    /// The steps of the path's runs.
+    fn steps(&self) -> usize {
+        match self {
+            Taking::Next(_) => 1,
+            Taking::Until { to, .. } => *to,
+        }
+    }
+
+    /// Next takes a run whose position 1 meets the formula. Until with window
+    /// from..to takes a run if some j of the window has position j meet the second
+    /// formula while positions 0..j−1 all meet the first.
+    fn takes(&self, run: &[usize]) -> bool {
+        match self {
+            Taking::Next(truth) => truth[run[1]],
+            Taking::Until { from, to, first, second } => {
+                (*from..=*to).any(|j| second[run[j]] && run[..j].iter().all(|&position| first[position]))
+            }
+        }
+    }
 }
 
 /// The runs from one tuple, of the stepping variables alone.
@@ -595,22 +654,22 @@ struct Runs<'a> {
     weights: &'a [Vec<u64>],
     /// For each of those tuples the tuple of n states: the other variables stay as they are at the start.
     places: Vec<usize>,
-    /// Whether the path takes a run, of whose positions the tuples of n states are given.
-    takes: &'a dyn Fn(&[usize]) -> bool,
+    /// Whether a run counts, of whose positions the tuples of n states are given.
+    counts: &'a dyn Fn(&[usize]) -> bool,
 }
 
 impl Runs<'_> {
-    /// The total weight of the runs taken that begin as `run` does, now stand at
+    /// The total weight of the runs counted that begin as `run` does, now stand at
     /// the tuple `here` of the stepping variables, and go on for `steps` more
     /// steps; `weight` is the weight of `run` itself.
-    fn taken(&self, run: &mut Vec<usize>, here: usize, steps: usize, weight: u64) -> u64 {
+    fn total(&self, run: &mut Vec<usize>, here: usize, steps: usize, weight: u64) -> u64 {
         if steps == 0 {
-            return if (self.takes)(run) { weight } else { 0 };
+            return if (self.counts)(run) { weight } else { 0 };
         }
         let mut total = 0;
         for (next, &place) in self.places.iter().enumerate() {
             run.push(place);
-            total += self.taken(run, next, steps - 1, weight * self.weights[here][next]);
+            total += self.total(run, next, steps - 1, weight * self.weights[here][next]);
             run.pop();
         }
         total
@@ -766,17 +825,59 @@ mod tests {
         assert_eq!(said(&d2, "AAA.=PU0,20:T!&a1&a2a3#1/1;"), Ok(true));
     }
 
+    /// The weights of the runs of the only path formula, taken and not taken, under a prefix for the tuple. They add up
+    /// to the denominator, and the former is the numerator.
+    fn weighed(model: &Model, path: &str, tuple: &[u8]) -> (u64, u64) {
+        let text = format!("{}.={path}#1/1;", "A".repeat(tuple.len()));
+        let sums = sums(&file(model), text.as_bytes(), 0).unwrap();
+        let at = tuple.iter().fold(0, |at, &state| at * model.n as usize + usize::from(state));
+        let (taken, not_taken) = (sums.taken[at], sums.not_taken[at]);
+        assert_eq!(fraction(model, path, tuple), (taken, taken + not_taken), "{path}");
+        (taken, not_taken)
+    }
+
+    #[test]
+    fn runs_not_taken_have_a_sum_of_their_own() {
+        // From state 0 of M1: 0 1 of weight 1 is taken, 0 0 of weight 3 is not.
+        assert_eq!(weighed(&m1(), "PXa1", &[0]), (1, 3));
+        assert_eq!(weighed(&m1(), "PXa1", &[1]), (4, 0));
+        // 0 0 1 of weight 3 and 0 1 1 of weight 4 are taken, 0 0 0 of weight 9 is not.
+        assert_eq!(weighed(&m1(), "PU0,2:Ta1", &[0]), (7, 9));
+        // One step more: 0 0 0 0 of weight 27 is the only run that comes nowhere.
+        assert_eq!(weighed(&m1(), "PU0,3:Ta1", &[0]), (37, 27));
+        // 0 1 1 matches too early, and then the first formula is not met.
+        assert_eq!(weighed(&m1(), "PU2,2:!a1a1", &[0]), (3, 4 + 9));
+        assert_eq!(weighed(&m1(), "PU2,2:!a1a1", &[1]), (0, 16));
+        // A run of no steps is its start, of weight 1.
+        assert_eq!(weighed(&m1(), "PU0,0:Ta1", &[0]), (0, 1));
+        assert_eq!(weighed(&m1(), "PU0,0:Ta1", &[1]), (1, 0));
+        // Both at state 1 is 1 × 1; one of them is 1 × 3 twice, none is 3 × 3.
+        assert_eq!(weighed(&m1(), "PX&a1a2", &[0, 0]), (1, 3 + 3 + 9));
+        // Variable 1 stays at state 1; variable 2 goes as above.
+        assert_eq!(weighed(&m1(), "PU0,2:Ta2", &[1, 0]), (7, 9));
+        assert_eq!(weighed(&m1(), "PXT", &[0]), (1, 0));
+        assert_eq!(weighed(&m1(), "PU1,60:!TT", &[0]), (0, 1));
+        // From state 0 of M2: 0 0 0 of weight 4 is not taken. State 2 stays, its row being empty.
+        assert_eq!(weighed(&halted(), "PU0,2:Ta1", &[0]), (12, 4));
+        assert_eq!(weighed(&halted(), "PX!a1", &[2]), (0, 4));
+    }
+
+    #[test]
+    fn sums_are_of_the_path_with_the_number() {
+        // PXa1 is above 1/4 just at state 1, so the outer path is as PXa1.
+        let sums = |path: usize| sums(&file(&m1()), b"A.<PX>PXa1#1/4;PU0,2:Ta1", path);
+        assert_eq!(sums(0), Ok(Sums { taken: vec![1, 4], not_taken: vec![3, 0] }));
+        assert_eq!(sums(1), Ok(Sums { taken: vec![1, 4], not_taken: vec![3, 0] }));
+        assert_eq!(sums(2), Ok(Sums { taken: vec![7, 16], not_taken: vec![9, 0] }));
+        assert_eq!(sums(3), Err(15));
+        assert_eq!(super::sums(&file(&m1()), b"A.GPU0,32:Ta1#0/1;", 0), Err(10));
+    }
+
     /// The variables that step in each path of a text, in written order.
     fn stepping(text: &str) -> Vec<Vec<usize>> {
         let sentence = read_sentence(text.as_bytes()).unwrap();
-        let list = &sentence.nodes[..sentence.count];
-        let is_path = |&at: &usize| matches!(list[at], Node::Next | Node::Until { .. });
-        let end = |begin: usize| {
-            let mut growing = Growing { sentence: &sentence, stepping: named, at: begin, paths: 0 };
-            growing.path();
-            growing.at
-        };
-        (0..list.len()).filter(is_path).map(|at| named(&sentence, &list[at..end(at)])).collect()
+        let paths = (0..).map_while(|number| path_of(&sentence, named, number));
+        paths.map(|path| path.stepping).collect()
     }
 
     #[test]

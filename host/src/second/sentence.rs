@@ -81,6 +81,13 @@ pub struct Sentence {
     pub nodes: [Node; NODES],
 }
 
+impl Sentence {
+    /// The places of the path formulas among the nodes, in written order.
+    pub fn path_places(&self) -> impl Iterator<Item = usize> + '_ {
+        (0..self.count).filter(|&at| matches!(self.nodes[at], Node::Next | Node::Until { .. }))
+    }
+}
+
 /// Reads a sentence text. Refusals 6, 7, 8.
 pub fn read_sentence(text: &[u8]) -> Result<Sentence, u8> {
     if text.len() > TEXT {
