@@ -1,4 +1,4 @@
--- Document 01's starred lines hold: the one statement over the one table; and so does the example of T-05. Assumes nothing.
+-- Document 01's starred lines hold: the one statement over the one table; and so do the examples of T-05 and T-09. Assumes nothing.
 use Prim.Native.Nat.{_≤_}
 use Prim.Native.String.{String}
 use mathlib.Core.Bool.{Bool, true, false, _&&_, false≢true}
@@ -14,6 +14,8 @@ use Rattle.numerals.specs.Numeral.{digits, numberText}
 use Rattle.sentence.specs.declared.Kind.{Kind}
 use Rattle.sentence.specs.declared.Kind.the-variants.{State, Expression}
 use Rattle.sentence.specs.declared.Node.{Node}
+use Rattle.sentence.specs.declared.Node.the-variants.{True, Label, Compare, Probability, Next}
+use Rattle.sentence.specs.declared.Relation.the-variants.{Less}
 use Rattle.sentence.specs.Grammar.{writable, kindOf, wants, Nests, bodyText, sentenceText}
 use Rattle.sentence.specs.Grammar.Nests.{end, node}
 use Rattle.sentence.specs.Working.{sameKind}
@@ -22,11 +24,11 @@ use Rattle.meaning.specs.Lists.{below, every, Each, nothing, further}
 use Rattle.meaning.specs.Tree.{Formula, letterOf}
 use Rattle.meaning.specs.Examples.{M1, M2, M2merged, sketched, sameChain, Line, met, lines}
 use Rattle.meaning.proofs.Examples.{examples as meant}
-use Rattle.trees.specs.Listed.{formulaNodes, expressionNodes}
+use Rattle.trees.specs.Listed.{formulaNodes, expressionNodes, pathCount}
 use Rattle.chain.specs.Of.{filledWeight}
 use Rattle.merge.specs.Examples.{modelOfSketch, MergeMet}
 use Rattle.merge.proofs.Examples.{examples as merged}
-use Rattle.demands.specs.Examples.{TextOf, SentenceText, Texted, modelOfLine, drawn, Met, M1halted, Halting}
+use Rattle.demands.specs.Examples.{TextOf, SentenceText, Texted, modelOfLine, drawn, Met, M1halted, Halting, Lengthening}
 
 -- ---- the document's texts are those of the trees
 
@@ -91,7 +93,11 @@ texts =
     (further (expression _ "PXa1" refl refl)
     (further (expression _ "PX&a1>PXa2#0/1;" refl refl)
     (further (expression _ "PU0,2:TT" refl refl)
-    (further (expression _ "PX!T" refl refl) nothing))))))))))))))))))))))))
+    (further (expression _ "PX!T" refl refl)
+    (further (expression _ "PU0,3:Ta1" refl refl)
+    (further (expression _ "PU0,3:Ta1" refl refl)
+    (further (expression _ "PU0,0:!a1a1" refl refl)
+    (further (expression _ "PU1,1:!a1a1" refl refl) nothing))))))))))))))))))))))))))))
 
 -- ---- the chains of the lines are those of the models
 
@@ -115,7 +121,8 @@ models =
     (further drawn-M1
     (further drawn-M2 (further drawn-M2
     (further drawn-merged (further drawn-M2 (further drawn-M2 (further drawn-M2
-    (further drawn-M1 (further drawn-M1 (further drawn-M1 (further drawn-M1 nothing))))))))))))))))))))))))
+    (further drawn-M1 (further drawn-M1 (further drawn-M1 (further drawn-M1
+    (further drawn-M1 (further drawn-M1 (further drawn-M1 (further drawn-M1 nothing))))))))))))))))))))))))))))
 
 -- ---- all of it
 
@@ -136,3 +143,16 @@ examples = together lines meant texts merged models
 pub halting : Halting
 unfolding M1halted modelOfSketch fieldsRight rowsRight everyBelow sumBelow table filledWeight sameChain sketched M1 every below
 halting = record { right = refl; chain = refl; row-5 = (refl, refl); row-4 = refl }
+
+-- ---- T-09
+
+pub lengthening : Lengthening
+unfolding pathCount numberText digits
+lengthening = record {
+  letters = false ∷ true ∷ [];
+  front = Compare Less ∷ Probability ∷ Next ∷ Label 0 2 ∷ Probability ∷ [];
+  back = True ∷ Label 0 1 ∷ [];
+  shorter = record { some = omega arith; few = omega arith; nests = nested (State ∷ []) _ refl; text = refl };
+  longer = record { some = omega arith; few = omega arith; nests = nested (State ∷ []) _ refl; text = refl };
+  number = refl;
+}

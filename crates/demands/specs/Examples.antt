@@ -1,6 +1,6 @@
--- Document 01, 'Examples on both sides': all that a starred line claims; and an example of T-05. The table of the lines is specs/Examples
--- of the crate `meaning`. A line's numbers and verdicts are claims on the definitions of `meaning`, its text is that of the tree, what it
--- says of merging holds of files (`merge`), and the chain that it speaks of is that of the model's file.
+-- Document 01, 'Examples on both sides': all that a starred line claims; and examples of T-05 and T-09. The table of the lines is
+-- specs/Examples of the crate `meaning`. A line's numbers and verdicts are claims on the definitions of `meaning`, its text is that of the
+-- tree, what it says of merging holds of files (`merge`), and the chain that it speaks of is that of the model's file.
 use Prim.Native.String.{String}
 use Prim.Native.Nat.{ℕ}
 use mathlib.Core.Bool.{Bool, true, false, _&&_}
@@ -20,6 +20,7 @@ use Rattle.trees.specs.Listed.{expressionNodes}
 use Rattle.question.specs.Contract.{SentenceOf}
 use Rattle.chain.specs.Of.{chainOf}
 use Rattle.merge.specs.Examples.{modelOfSketch, MergeMet}
+use Rattle.demands.specs.Watches.{Lengthened}
 
 -- the nodes are one formula, expression or path of this kind, and the text is theirs
 pub record TextOf (kind : Kind) (nodes : List Node) (text : String) : Type 0 where
@@ -74,3 +75,9 @@ pub record Halting : Type 0 where
   pub chain : sameChain (chainOf (M1halted 1)) (sketched M1) ≡ true
   pub row-5 : (fieldsRight (M1halted 0) ≡ true) × (rowsRight (M1halted 0) ≡ false)
   pub row-4 : fieldsRight (M1halted 2) ≡ false
+
+-- ---- T-09
+
+-- two texts that differ in one k2 alone, 2 and 3, in the path formula with the number 1
+abbrev pub Lengthening : Type 0
+Lengthening = Lengthened (ascii "AE.<PXa2PU0,2:Ta1") (ascii "AE.<PXa2PU0,3:Ta1") 1 0 2 3

@@ -81,10 +81,14 @@ module _ {base count : ℕ} {f : ℕ → ℕ} {before : List ℕ} where
     high = λ k l. h .high k (omega (arith, h .upTo));
   }
 
--- the same from the front on
+-- from place 0 on is from the front on
+pub at-front : {count : ℕ} {f : ℕ → ℕ} {before after : List ℕ} → WrittenAt 0 count f before after → WrittenFront count f before after
+at-front {after = after} h = record {
+  each = λ k l. ap (λ (x : ℕ). getD after x 0) (omega arith) ∙ h .each k l;
+  kept = kept-from (h .long) (λ k l. h .high k (omega arith));
+}
+
+-- so after the last turn of a loop from the front on all are written there
 pub writing-all : {count i : ℕ} {f : ℕ → ℕ} {before after : List ℕ} → Writing 0 count f before i after → count ≤ i →
     WrittenFront count f before after
-writing-all {after = after} h done = record {
-  each = λ k l. ap (λ (x : ℕ). getD after x 0) (omega arith) ∙ h .each k (omega arith);
-  kept = kept-from (h .long) (λ k l. h .high k (omega (arith, h .upTo)));
-}
+writing-all h done = at-front (writing-at-all h done)

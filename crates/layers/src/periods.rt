@@ -7,7 +7,7 @@ use crate::STATES;
 use crate::plain::bit_of;
 
 // Sets the numbers of a stretch to one value.
-fn stretch(value: u64, base: usize, size: usize, work: &mut [u64])
+pub(crate) fn stretch(value: u64, base: usize, size: usize, work: &mut [u64])
     requires { ⌜ base + size ≤ length (now work) ⌝ }
     ensures { λ r. ⌜ WrittenAt base size (λ k. value) (now (work .entry)) (now (work .exit)) ⌝ }
 {

@@ -9,6 +9,7 @@ ghost use Rattle.layers.specs.Held.{mostStates, mostTuples, LabelReady, 
 use crate::STATES;
 use crate::periods::bits;
 use crate::periods::repeat;
+use crate::periods::stretch;
 use crate::power::scaled;
 
 // Sets the first numbers to one value.
@@ -16,11 +17,7 @@ pub fn fill(value: u64, count: usize, work: &mut [u64])
     requires { ⌜ count ≤ length (now work) ⌝ }
     ensures { λ r. ⌜ WrittenFront count (λ k. value) (now (work .entry)) (now (work .exit)) ⌝ }
 {
-    let mut k: usize = 0;
-    while k < count {
-        work[k] = value;
-        k += 1;
-    }
+    stretch(value, 0, count, work);
 }
 
 // Sets the first numbers to 0.

@@ -1,6 +1,6 @@
--- Document 01, 'Examples on both sides': M1, M2 and the lines marked *, with the numbers that they have by T-02, and T-02's own, in one
--- table. What a line claims of the definitions of this crate is `met`; what it claims of files and of texts stands in specs/Examples of
--- `merge` and of `demands`, which has the one statement over the whole table.
+-- Document 01, 'Examples on both sides': M1, M2 and the lines marked *, with the numbers that they have by T-02, T-02's own, and lines on
+-- T-09, in one table. What a line claims of the definitions of this crate is `met`; what it claims of files and of texts stands in
+-- specs/Examples of `merge` and of `demands`, which has the one statement over the whole table.
 use Prim.Native.Nat.{ℕ}
 use Prim.Native.String.{String}
 use mathlib.Core.Bool.{Bool, true, false, _&&_, Bool·beq}
@@ -134,4 +134,10 @@ lines =
     fraction M1 "PX&a1>PXa2#0/1;" (next (both a1 (compare greater Xa2 (constant 0 1)))) (0 ∷ 0 ∷ []) 4 16 ∷
     fraction M1 "PU0,2:TT" (until 0 2 always always) (0 ∷ 0 ∷ []) 1 1 ∷
     fraction M1 "PX!T" (next (negation always)) (0 ∷ 0 ∷ []) 0 1 ∷
+    -- T-09: with one step more than `PU0,2:Ta1` 7 × 4 and 9 more at state 0, just 16 × 4 at state 1
+    fraction M1 "PU0,3:Ta1" (until 0 3 always a1) (0 ∷ []) 37 64 ∷
+    fraction M1 "PU0,3:Ta1" (until 0 3 always a1) (1 ∷ []) 64 64 ∷
+    -- with k1 raised too runs may be lost: `PU0,0:!a1a1` at state 1 is 1/1, `PU1,1:!a1a1` 0/4
+    fraction M1 "PU0,0:!a1a1" (until 0 0 (negation a1) a1) (1 ∷ []) 1 1 ∷
+    fraction M1 "PU1,1:!a1a1" (until 1 1 (negation a1) a1) (1 ∷ []) 0 4 ∷
     []

@@ -117,4 +117,4 @@ examples =
     (further (number-modelM2 (0 ∷ 0 ∷ 1 ∷ []) ∙ groups-13 modelM2 (0 ∷ 0 ∷ 1 ∷ []) 3072 grouped-0-0-1 unlike-0-0-1)
     (further (number-modelM2 (0 ∷ 2 ∷ 2 ∷ []) ∙ groups-12 modelM2 (0 ∷ 2 ∷ 2 ∷ []) 3072 unused-0-2-2)
     (further (merging-modelM2 (0 ∷ 1 ∷ 2 ∷ []) M2 grouped-0-1-2 alike-0-1-2 merged-0-1-2)
-    (further tt (further tt (further tt (further tt nothing))))))))))))))))))))))))
+    (further tt (further tt (further tt (further tt (further tt (further tt (further tt (further tt nothing))))))))))))))))))))))))))))
