@@ -1,5 +1,4 @@
 -- What belongs to no one function.
 pub mod Sums
 pub mod Columns
-pub mod Namings
 pub mod Joint

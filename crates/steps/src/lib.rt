@@ -1,17 +1,17 @@
 // A joint step of some variables of a layer in place, one after another: for v of them v × N products a tuple, or v times as many
 // as a row has weights that are not 0, where each has few. The other variables stay.
-pub mod sparse;
-
 ghost use mathlib.Core.Path.{_≡_};
 ghost use mathlib.Core.Bool.{true, false};
 ghost use Prim.Native.Nat.{suc, _*_, _-_, _≤_, _<_};
 ghost use lib.ListN.{length, getD, take};
 ghost use Rattle.layers.specs.Held.{mostStates, mostVariables};
-ghost use Rattle.steps.specs.Sparse.{RowsNamed};
+ghost use Rattle.row_sums.specs.Sparse.{RowsNamed};
 ghost use Rattle.steps.specs.Columns.{ColumnIn, ColumnRead, ColumnFits, ColumnStepped, LayerFits, LayerStepped, LayerMoved};
 ghost use Rattle.steps.specs.Steps.{lastOf, StepFits, Stepped};
 use layers::STATES;
-use sparse::PLACES;
+use row_sums::PLACES;
+use row_sums::name_rows;
+use row_sums::row_sum;
 
 // Reads the numbers of a column.
 fn read_column(states: usize, stride: usize, at: usize, layer: &[u64], column: &mut [u64; STATES])
@@ -47,7 +47,7 @@ fn step_column(
     let mut place = at;
     let mut s: usize = 0;
     while s < states {
-        layer[place] = sparse::row_sum(&rows[s], &places[s], column, states, most);
+        layer[place] = row_sum(&rows[s], &places[s], column, states, most);
         place += stride;
         s += 1;
     }
@@ -153,7 +153,7 @@ pub fn joint_step(
     ensures { λ r. ⌜ Stepped (now (rows .entry)) states variables (take variables moving) tuples (now (work .entry)) (now (work .exit)) ⌝ }
 {
     let mut places = [[0u8; PLACES]; STATES];
-    let most = sparse::name_rows(rows, states, &mut places);
+    let most = name_rows(rows, states, &mut places);
     joint_named(
         rows,
         &places,

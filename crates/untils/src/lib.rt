@@ -5,15 +5,15 @@ ghost use Prim.Native.Nat.{_+_, _^_, _≤_, _<_};
 ghost use lib.ListN.{length, getD, take};
 ghost use Rattle.layers.specs.Layers.{WrittenAt};
 ghost use Rattle.layers.specs.Held.{mostVariables, mostTuples};
-ghost use Rattle.steps.specs.Sparse.{RowsNamed};
+ghost use Rattle.row_sums.specs.Sparse.{RowsNamed};
 ghost use Rattle.steps.specs.Steps.{lastOf};
 ghost use Rattle.untils.specs.Untils.{choice, choiceAt, TurnFits, Turned, UntilFits, UntilTaken, FromFirst, UntilRepeated};
 use layers::STATES;
 use layers::periods::repeat;
 use layers::power::scaled;
+use row_sums::PLACES;
+use row_sums::name_rows;
 use steps::joint_named;
-use steps::sparse::PLACES;
-use steps::sparse::name_rows;
 
 // What an until has at one tuple: all runs where the window is open and the second formula is met; else the number
 // that the step gave, where the first is met.

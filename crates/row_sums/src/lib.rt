@@ -5,7 +5,7 @@ ghost use lib.ListN.{length, getD};
 ghost use Rattle.counting.specs.Below.{sumBelow};
 ghost use Rattle.meaning.specs.Size.{sizeLimit};
 ghost use Rattle.layers.specs.Held.{mostStates};
-ghost use Rattle.steps.specs.Sparse.{placesInRow, mostNamed, productsAt, Naming, Named, RowsNamed};
+ghost use Rattle.row_sums.specs.Sparse.{placesInRow, mostNamed, productsAt, Naming, Named, RowsNamed};
 use layers::STATES;
 
 // The places of a row, which name states to which its weight is not 0.
@@ -75,7 +75,7 @@ fn dot_named(
 }
 
 // The sum over the states: by the places that name the weights, or where there are none (`most` is 0) by all states.
-pub(crate) fn row_sum(
+pub fn row_sum(
     row: &[u16; STATES],
     places: &[u8; PLACES],
     column: &[u64; STATES],

@@ -1,14 +1,14 @@
--- `steps::sparse::name_rows` meets its contract: row after row.
+-- `row_sums::name_rows` meets its contract: row after row.
 use borrow.Author.Needs.{needs}
 use Prim.Native.Nat.{ℕ, _-_, _≤_, _<_}
 use mathlib.Core.List.{[]}
 use mathlib.Core.Path.{_≡_, _∙_}
 use native.Mathlib.Omega.{arith}
 use lib.ListN.{length, getD, length-set}
-use Rattle.steps.proofs.Namings.{rows-next}
-use Rattle.steps.specs.Sparse.{Named}
-use Rattle.steps.proofs.sparse.name_rows.Statement.{statement}
-use Rattle.steps.proofs.sparse.name_rows.Tie as tie
+use Rattle.row_sums.proofs.Namings.{rows-next}
+use Rattle.row_sums.specs.Sparse.{Named}
+use Rattle.row_sums.proofs.name_rows.Statement.{statement}
+use Rattle.row_sums.proofs.name_rows.Tie as tie
 
 abbrev Inv-loop : tie.InvT-loop
 Inv-loop rows states places₀ most₀ s₀ places most s =

@@ -1,9 +1,9 @@
--- `steps::sparse::name` meets its contract.
+-- `row_sums::name` meets its contract.
 use mathlib.Core.Path.{refl}
-use Rattle.steps.proofs.Namings.{naming-skip, naming-full, naming-next}
+use Rattle.row_sums.proofs.Namings.{naming-skip, naming-full, naming-next}
 use borrow.Author.Needs.{needs}
-use Rattle.steps.proofs.sparse.name.Statement.{statement}
-use Rattle.steps.proofs.sparse.name.Tie as tie
+use Rattle.row_sums.proofs.name.Statement.{statement}
+use Rattle.row_sums.proofs.name.Tie as tie
 
 returns : tie.Need-returns
 returns c = naming-skip (c .before .before .pre .1) (c .if1 .taken)

@@ -1,11 +1,11 @@
--- `steps::sparse::name_row` meets its contract: state after state.
+-- `row_sums::name_row` meets its contract: state after state.
 use borrow.Author.Needs.{needs}
 use Prim.Native.Nat.{_-_, _≤_}
 use mathlib.Core.Path.{_≡_}
 use native.Mathlib.Omega.{arith}
-use Rattle.steps.specs.Sparse.{Naming}
-use Rattle.steps.proofs.sparse.name_row.Statement.{statement}
-use Rattle.steps.proofs.sparse.name_row.Tie as tie
+use Rattle.row_sums.specs.Sparse.{Naming}
+use Rattle.row_sums.proofs.name_row.Statement.{statement}
+use Rattle.row_sums.proofs.name_row.Tie as tie
 
 abbrev Inv-loop : tie.InvT-loop
 Inv-loop row states places₀ count₀ t₀ places count t = (t ≤ states) × Naming row t count places

@@ -1,4 +1,4 @@
--- `steps::sparse::dot` meets its contract. The invariant: the total is the sum so far.
+-- `row_sums::dot` meets its contract. The invariant: the total is the sum so far.
 use borrow.Author.Needs.{needs}
 use Prim.Native.Nat.{ℕ, _+_, _*_, _-_, _≤_}
 use mathlib.Core.Path.{_≡_, sym, ap, ap₂, _∙_}
@@ -6,9 +6,9 @@ use native.Mathlib.Omega.{arith}
 use lib.ListN.{getD}
 use Rattle.counting.specs.Below.{sumBelow}
 use Rattle.counting.proofs.Laws.{sum-none, sum-more}
-use Rattle.steps.proofs.Sums.{part-le}
-use Rattle.steps.proofs.sparse.dot.Statement.{statement}
-use Rattle.steps.proofs.sparse.dot.Tie as tie
+use Rattle.row_sums.proofs.Namings.{part-le}
+use Rattle.row_sums.proofs.dot.Statement.{statement}
+use Rattle.row_sums.proofs.dot.Tie as tie
 
 abbrev Inv-loop : tie.InvT-loop
 Inv-loop row column states total₀ t₀ total t = (t ≤ states) × (total ≡ sumBelow t (λ k. getD row k 0 * getD column k 0))

@@ -9,8 +9,19 @@ use lib.Seq.{getD-set-same, getD-set-other}
 use Rattle.meaning.specs.Size.{sizeLimit}
 use Rattle.counting.specs.Below.{sumBelow}
 use Rattle.counting.proofs.Laws.{sum-none, sum-more, sum-same}
-use Rattle.steps.specs.Sparse.{namedAt, productsAt, Naming, Named}
-use Rattle.steps.proofs.Sums.{part-le}
+use Rattle.row_sums.specs.Sparse.{namedAt, productsAt, Naming, Named}
+
+-- the terms up to one of them are at most the whole
+pub part-le : (n : ℕ) (f : ℕ → ℕ) (t : ℕ) → t < n → sumBelow t f + f t ≤ sumBelow n f
+unfolding sumBelow
+part-le zero f t l = omega arith
+part-le (suc n) f t l = here (λ less. part-le n f t less) (decLt t n)
+  where
+    here : (t < n → sumBelow t f + f t ≤ sumBelow n f) → Dec (t < n) → sumBelow t f + f t ≤ sumBelow n f + f n
+    here r (yes less) = omega (arith, r less)
+    here r (no more) =
+        let e : t ≡ n = omega arith in
+        omega (arith, ap (λ (x : ℕ). sumBelow x f + f x) e)
 
 -- two terms more, and they are at most the whole
 pub two-more : (i : ℕ) (f : ℕ → ℕ) → sumBelow (i + 2) f ≡ sumBelow i f + (f i + f (i + 1))

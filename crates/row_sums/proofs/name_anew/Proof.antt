@@ -1,10 +1,10 @@
--- `steps::sparse::name_anew` meets its contract: the places name a weight that is 0 before the row's are named.
+-- `row_sums::name_anew` meets its contract: the places name a weight that is 0 before the row's are named.
 use mathlib.Core.Path.{refl}
 use native.Mathlib.Omega.{arith}
-use Rattle.steps.proofs.Namings.{naming-none, naming-named, eight}
+use Rattle.row_sums.proofs.Namings.{naming-none, naming-named, eight}
 use borrow.Author.Needs.{needs}
-use Rattle.steps.proofs.sparse.name_anew.Statement.{statement}
-use Rattle.steps.proofs.sparse.name_anew.Tie as tie
+use Rattle.row_sums.proofs.name_anew.Statement.{statement}
+use Rattle.row_sums.proofs.name_anew.Tie as tie
 
 name-row-requires : tie.Need-name-row-requires
 name-row-requires c κs =

@@ -1,11 +1,11 @@
--- `steps::sparse::product` meets its contract.
+-- `row_sums::product` meets its contract.
 use Prim.Native.Nat.{ℕ, _*_}
 use mathlib.Core.Path.{ap}
 use native.Mathlib.Omega.{arith}
 use lib.ListN.{getD}
 use borrow.Author.Needs.{needs}
-use Rattle.steps.proofs.sparse.product.Statement.{statement}
-use Rattle.steps.proofs.sparse.product.Tie as tie
+use Rattle.row_sums.proofs.product.Statement.{statement}
+use Rattle.row_sums.proofs.product.Tie as tie
 
 mul-result-2 : tie.Need-mul-result-2
 mul-result-2 c =

@@ -1,8 +1,8 @@
--- `steps::sparse::row_sum` meets its contract.
+-- `row_sums::row_sum` meets its contract.
 use native.Mathlib.Omega.{arith}
 use borrow.Author.Needs.{needs}
-use Rattle.steps.proofs.sparse.row_sum.Statement.{statement}
-use Rattle.steps.proofs.sparse.row_sum.Tie as tie
+use Rattle.row_sums.proofs.row_sum.Statement.{statement}
+use Rattle.row_sums.proofs.row_sum.Tie as tie
 
 dot-named-requires : tie.Need-dot-named-requires
 dot-named-requires c κs = (c .before .pre .1, c .before .pre .2 (omega arith), c .before .pre .3)

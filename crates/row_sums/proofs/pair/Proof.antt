@@ -1,9 +1,9 @@
--- `steps::sparse::pair` meets its contract.
+-- `row_sums::pair` meets its contract.
 use Prim.Native.Nat.{_+_}
 use native.Mathlib.Omega.{arith}
 use borrow.Author.Needs.{needs}
-use Rattle.steps.proofs.sparse.pair.Statement.{statement}
-use Rattle.steps.proofs.sparse.pair.Tie as tie
+use Rattle.row_sums.proofs.pair.Statement.{statement}
+use Rattle.row_sums.proofs.pair.Tie as tie
 
 product-requires : tie.Need-product-requires
 product-requires c κs =

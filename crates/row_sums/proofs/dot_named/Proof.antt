@@ -1,14 +1,14 @@
--- `steps::sparse::dot_named` meets its contract: the total is the sum over the places so far.
+-- `row_sums::dot_named` meets its contract: the total is the sum over the places so far.
 use borrow.Author.Needs.{needs}
 use Prim.Native.Nat.{ℕ, _+_, _-_, _≤_}
 use mathlib.Core.Path.{_≡_, sym, ap₂, _∙_}
 use native.Mathlib.Omega.{arith}
 use lib.ListN.{getD}
 use Rattle.counting.specs.Below.{sumBelow}
-use Rattle.steps.specs.Sparse.{namedAt}
-use Rattle.steps.proofs.Namings.{two-first, two-more, pair-fits}
-use Rattle.steps.proofs.sparse.dot_named.Statement.{statement}
-use Rattle.steps.proofs.sparse.dot_named.Tie as tie
+use Rattle.row_sums.specs.Sparse.{namedAt}
+use Rattle.row_sums.proofs.Namings.{two-first, two-more, pair-fits}
+use Rattle.row_sums.proofs.dot_named.Statement.{statement}
+use Rattle.row_sums.proofs.dot_named.Tie as tie
 
 abbrev Inv-loop : tie.InvT-loop
 Inv-loop row places column states most total₀ i₀ total i =
