@@ -1,39 +1,36 @@
 -- An expression's node: what its operands are evaluated with, and what the layer and the denominator are after the call
 -- at the node.
-use Prim.Native.Nat.{ℕ, _+_, _*_, _≤_, _<_}
+use Prim.Native.Nat.{ℕ, _+_, _*_, _≤_}
 use mathlib.Core.Bool.{false}
 use mathlib.Core.List.{List}
-use mathlib.Core.Path.{_≡_, refl, sym, ap, ap₂, subst, _∙_}
+use mathlib.Core.Path.{_≡_, refl, sym, ap₂, subst, transport, transport⁻¹, _∙_}
 use native.Mathlib.Nat.{le-trans, le-of-eq}
 use native.Mathlib.Omega.{arith}
 use lib.ListN.{length}
+use Rattle.sentence.specs.declared.Kind.the-variants.{Expression as ExpressionKind, Path as PathKind}
 use Rattle.sentence.specs.declared.Slot.{Slot}
 use Rattle.sentence.specs.declared.Node.{Node}
 use Rattle.sentence.specs.declared.Node.the-variants.{Probability, Constant, Sum as SumNode}
 use Rattle.sentence.specs.declared.Node.the-variants.{Difference as DifferenceNode, Product as ProductNode}
-use Rattle.meaning.specs.Chain.{Chain}
-use Rattle.meaning.specs.Tree.{Expression, probability}
+use Rattle.meaning.specs.Tree.{Expression, probability, constant}
 use Rattle.meaning.specs.Size.{sizeLimit, size, addS, mulS, exceedsIn, exceedsFrom, largeSize}
 use Rattle.meaning.proofs.Bounds.{size-fits}
 use Rattle.meaning.proofs.Tests.{or-left}
-use Rattle.layers.specs.Layers.{Layer, WrittenFront}
+use Rattle.layers.specs.Layers.{WrittenFront}
 use Rattle.fractions.specs.declared.Operation.{Operation}
 use Rattle.fractions.specs.declared.Operation.the-variants.{Sum, Difference, Product}
 use Rattle.fractions.specs.Operations.{combinedAt, CombineFits}
-use Rattle.fractions.specs.Values.{numeratorCodes, expressionOf}
+use Rattle.fractions.specs.Values.{expressionOf}
 use Rattle.fractions.proofs.Values.{operands-small, combine-fits, combine-layer, constant-layer, probability-layer}
 use Rattle.trees.specs.Need.{paired, needIn}
 use Rattle.trees.specs.Ranged.{RangedIn}
 use Rattle.trees.specs.Standing.{nodeAt, ExpressionAt}
-use Rattle.trees.proofs.Cases.{ExpressionCase, expression-case, expression-place}
+use Rattle.trees.proofs.Cases.{ExpressionCase, expression-case}
 use Rattle.evaluate.specs.declared.Setting.{Setting}
-use Rattle.evaluate.specs.declared.Valued.{Valued}
-use Rattle.evaluate.specs.declared.ValuedTwo.{ValuedTwo}
-use Rattle.evaluate.specs.Evaluation.{Fixed, ExpressionReady, PathReady, CombinedReady}
-use Rattle.evaluate.specs.Evaluation.{ExpressionDone, ExpressionsDone, PathDone, CombinedDone}
-use Rattle.evaluate.proofs.Needing.{needIn-some, room-of}
+use Rattle.evaluate.specs.Evaluation.{TreeReady, PathReady, CombinedReady, TreeDone, TreesDone, CombinedDone}
 use Rattle.evaluate.proofs.Fixing.{tuple-count}
-use Rattle.evaluate.proofs.Operands.{expressions-room}
+use Rattle.evaluate.proofs.Trees.{tree-ready, trees-ready, known, by-case}
+use Rattle.evaluate.proofs.Operands.{trees-room, trees-left}
 
 -- ---- the three operations
 
@@ -65,64 +62,32 @@ OperationCase nodes at op f q =
 
 -- ---- what the operands are evaluated with
 module _ {nodes : List Slot} {g : Setting} {masks : List ℕ} {rows : List (List ℕ)} {at : ℕ} {w : List ℕ}
-    (ready : ExpressionReady nodes g masks rows at w) where
-  -- there is a place for the node
-  pub expression-inside : at < 64
-  expression-inside = expression-place nodes at (ready .stands)
-
-  -- there is room for its own layer
-  pub expression-room : g .tuples ≤ length w
-  expression-room =
-      let p = room-of (g .tuples) (needIn-some (ready .expression)) (ready .room) in
-      omega arith
-
+    (ready : TreeReady ExpressionKind nodes g masks rows at w) where
   -- what the path of a probability asks
   pub probability-ready : nodeAt nodes at ≡ Probability → PathReady nodes g masks rows (at + 1) w
-  unfolding exceedsIn needIn size
+  unfolding exceedsIn needIn size tree-ready
   probability-ready e =
       let it = expression-case nodes at Probability e (ready .stands) in
       let D = ready .chain .D in
       let n = g .variables in
-      let fits = subst (λ (a : Expression). exceedsIn a D n ≡ false) (it .1) (ready .fits) in
+      let h = known ready (it .1) in
       record {
-        chain = ready .chain;
-        fixed = ready .fixed;
-        few = ready .few;
-        path = it .0;
-        end = ready .end;
-        stands = it .2;
-        ranged = subst (λ (a : Expression). RangedIn n a) (it .1) (ready .ranged);
-        fits = or-left (exceedsFrom (it .0) D n) (largeSize (size (probability (it .0)) D n)) fits;
-        small = size-fits (probability (it .0)) D n fits .0;
-        room = subst (λ (a : Expression). needIn a * g .tuples ≤ length w) (it .1) (ready .room);
+        one = tree-ready (ready .fixed) (ready .few) PathKind (it .0) (ready .end) (it .2) (h .0)
+            (or-left (exceedsFrom (it .0) D n) (largeSize (size (probability (it .0)) D n)) (h .1)) (h .2);
+        small = size-fits (probability (it .0)) D n (h .1) .0;
       }
 
-  operation-ready : (op : Operation) → OperationCase nodes at op (ready .expression) (ready .end) →
+  operation-ready : (op : Operation) → OperationCase nodes at op (ready .tree) (ready .end) →
       CombinedReady op nodes g masks rows (at + 1) w
+  unfolding trees-ready
   operation-ready op it =
-      let D = ready .chain .D in
-      let n = g .variables in
-      let fits = subst (λ (a : Expression). exceedsIn a D n ≡ false) (it .3) (ready .fits) in
-      let small = operands-small op (it .0) (it .1) D n fits in
+      let h = known ready (it .3) in
       record {
-        two = record {
-          chain = ready .chain;
-          fixed = ready .fixed;
-          few = ready .few;
-          first = it .0;
-          second = it .1;
-          middle = it .2;
-          end = ready .end;
-          stands = it .4;
-          follows = it .5;
-          ranged = operation-ranged op n (it .0) (it .1)
-              (subst (λ (a : Expression). RangedIn n a) (it .3) (ready .ranged));
-          fits = small .0;
-          fits′ = small .1;
-          room = subst (λ (k : ℕ). k * g .tuples ≤ length w) (ap needIn (it .3) ∙ operation-need op (it .0) (it .1))
-              (ready .room);
-        };
-        fits = fits;
+        two = trees-ready (ready .fixed) (ready .few) ExpressionKind (it .0) (it .1) (it .2) (ready .end) (it .4) (it .5)
+            (operation-ranged op (g .variables) (it .0) (it .1) (h .0))
+            (operands-small op (it .0) (it .1) (ready .chain .D) (g .variables) (h .1))
+            (subst (λ (k : ℕ). k * g .tuples ≤ length w) (operation-need op (it .0) (it .1)) (h .2));
+        fits = h .1;
       }
 
   -- what the expressions of a sum ask
@@ -138,123 +103,85 @@ module _ {nodes : List Slot} {g : Setting} {masks : List ℕ} {rows : List (List
   product-ready e = operation-ready Product (expression-case nodes at ProductNode e (ready .stands))
 
 -- ---- two expressions and an operation on them
-module _ {op : Operation} {nodes : List Slot} {g : Setting} {masks : List ℕ} {rows : List (List ℕ)} {at : ℕ}
-    {mid : List ℕ} {two : ValuedTwo}
-    (done : ExpressionsDone nodes g masks rows at mid two) where
+module _ {op : Operation} {nodes : List Slot} {g : Setting} {masks : List ℕ} {rows : List (List ℕ)} {at : ℕ} {mid : List ℕ}
+    {next first second : ℕ} (done : TreesDone ExpressionKind nodes g masks rows at mid next first second) where
   -- what combining asks
   pub combining-ready : {w : List ℕ} → CombinedReady op nodes g masks rows at w → length mid ≡ length w →
-      CombineFits op (two .first) (two .second) (g .tuples) mid
+      CombineFits op first second (g .tuples) mid
   combining-ready ready long =
       let r = ready .two in
-      let c = r .chain in
-      let n = g .variables in
-      let room = expressions-room r in
-      let h = done .each c (r .first) (r .second) (r .middle) (r .end) (r .fixed) (r .stands) (r .follows) (r .fits)
-      (r .fits′) in
-      let m = combine-fits c (r .fixed .held .sound) (tuple-count (r .fixed)) (r .first) (r .second) (r .fits)
-      (r .fits′) (h .3) (h .4) op (ready .fits) (omega arith) in
-      subst (λ (d : ℕ). CombineFits op d (two .second) (g .tuples) mid) (sym (h .1))
-      (subst (λ (d : ℕ). CombineFits op (size (r .first) (c .D) n .d) d (g .tuples) mid) (sym (h .2)) m)
+      let h = trees-left r done in
+      let room = trees-room r in
+      transport⁻¹ (λ i. CombineFits op (h .1 i) (h .2 i) (g .tuples) mid)
+      (combine-fits (r .chain) (r .fixed .held .sound) (tuple-count (r .fixed)) (r .first) (r .second) (r .fits) (r .fits′) (h .3) (h .4) op
+      (ready .fits) (omega (arith, room, long)))
 
   -- the denominators' product is at most 2^62
-  pub bottoms-small : {w : List ℕ} → CombinedReady op nodes g masks rows at w → two .first * two .second ≤ sizeLimit
+  pub bottoms-small : {w : List ℕ} → CombinedReady op nodes g masks rows at w → first * second ≤ sizeLimit
   bottoms-small ready =
       let r = ready .two in
-      let c = r .chain in
+      let h = trees-left r done in
+      let D = r .chain .D in
       let n = g .variables in
-      let h = done .each c (r .first) (r .second) (r .middle) (r .end) (r .fixed) (r .stands) (r .follows) (r .fits)
-      (r .fits′) in
-      le-trans (le-of-eq (ap₂ _*_ (h .1) (h .2) ∙ sym (operation-bottom op (r .first) (r .second) (c .D) n)))
-      (size-fits (expressionOf op (r .first) (r .second)) (c .D) n (ready .fits) .0)
+      le-trans (le-of-eq (ap₂ _*_ (h .1) (h .2) ∙ sym (operation-bottom op (r .first) (r .second) D n)))
+      (size-fits (expressionOf op (r .first) (r .second)) D n (ready .fits) .0)
 
   -- what the operation leaves
-  pub combined-done : {after : List ℕ} → WrittenFront (g .tuples) (combinedAt op (two .first) (two .second) (g .tuples) mid)
-      mid after →
-      CombinedDone op nodes g masks rows at after (record { next = two .next; bottom = two .first * two .second })
+  pub combined-done : {after : List ℕ} → WrittenFront (g .tuples) (combinedAt op first second (g .tuples) mid) mid after →
+      CombinedDone op nodes g masks rows at after next (first * second)
   combined-done {after} written = record {
     each = λ c a b m q fixed p t fits.
-        let n = g .variables in
-        let small = operands-small op a b (c .D) n fits in
+        let small = operands-small op a b (c .D) (g .variables) fits in
         let h = done .each c a b m q fixed p t (small .0) (small .1) in
-        let w₁ = subst (λ (d : ℕ). WrittenFront (g .tuples) (combinedAt op d (two .second) (g .tuples) mid) mid after) (h .1)
-        written in
-        let w₂ = subst (λ (d : ℕ). WrittenFront (g .tuples) (combinedAt op (size a (c .D) n .d) d (g .tuples) mid) mid after)
-        (h .2) w₁ in (
+        let by-sizes = transport (λ i. WrittenFront (g .tuples) (combinedAt op (h .1 i) (h .2 i) (g .tuples) mid) mid after) written in (
           h .0,
-          ap₂ _*_ (h .1) (h .2) ∙ sym (operation-bottom op a b (c .D) n),
-          combine-layer c (fixed .held .sound) (tuple-count fixed) a b (small .0) (small .1) (h .3) (h .4) op w₂,
+          ap₂ _*_ (h .1) (h .2) ∙ sym (operation-bottom op a b (c .D) (g .variables)),
+          combine-layer c (fixed .held .sound) (tuple-count fixed) a b (small .0) (small .1) (h .3) (h .4) op by-sizes,
         );
   }
 
 -- ---- what is left, by the node at the place
 module _ {nodes : List Slot} {g : Setting} {masks : List ℕ} {rows : List (List ℕ)} {at : ℕ} where
-  expression-done : {after : List ℕ} {r : Valued} (n : Node) → nodeAt nodes at ≡ n →
-      ((c : Chain) (a : Expression) (q : ℕ) → Fixed c masks rows g → ExpressionCase nodes at n a q →
-      exceedsIn a (c .D) (g .variables) ≡ false →
-      (r .next ≡ q) × (r .bottom ≡ size a (c .D) (g .variables) .d) × Layer (c .N) (g .variables)
-      (numeratorCodes a c (g .variables)) after) →
-      ExpressionDone nodes g masks rows at after r
-  expression-done n e h = record {
-    each = λ c a q fixed stands fits. h c a q fixed (expression-case nodes at n e stands)
-        fits;
-  }
-
   -- a probability
-  pub probability-done : nodeAt nodes at ≡ Probability → {after : List ℕ} {r : Valued} →
-      PathDone nodes g masks rows (at + 1) after r → ExpressionDone nodes g masks rows at after r
+  pub probability-done : nodeAt nodes at ≡ Probability → {after : List ℕ} {next bottom : ℕ} →
+      TreeDone PathKind nodes g masks rows (at + 1) after next bottom → TreeDone ExpressionKind nodes g masks rows at after next bottom
   unfolding exceedsIn size
-  probability-done e {after} done = expression-done Probability e
-      (λ c a q fixed it fits.
+  probability-done e done = by-case Probability e
+      (λ c a q fixed stands it fits.
       let n = g .variables in
       let small = subst (λ (a : Expression). exceedsIn a (c .D) n ≡ false) (it .1) fits in
       let h = done .each c (it .0) q fixed (it .2)
-      (or-left (exceedsFrom (it .0) (c .D) n) (largeSize (size (probability (it .0)) (c .D) n)) small) in (
-        h .0,
-        h .1 ∙ ap (λ (a : Expression). size a (c .D) n .d) (sym (it .1)),
-        subst (λ (a : Expression). Layer (c .N) n (numeratorCodes a c n) after) (sym (it .1))
-            (probability-layer (it .0) c (h .2)),
-      ))
+      (or-left (exceedsFrom (it .0) (c .D) n) (largeSize (size (probability (it .0)) (c .D) n)) small) in
+      (probability (it .0), it .1, (h .0, h .1, probability-layer (it .0) c (h .2))))
 
   -- a constant
-  pub constant-done : (a b : ℕ) → nodeAt nodes at ≡ Constant a b → {before after : List ℕ} →
-      WrittenFront (g .tuples) (λ k. a) before after →
-      ExpressionDone nodes g masks rows at after (record { next = at + 1; bottom = b })
+  pub constant-done : (x y : ℕ) → nodeAt nodes at ≡ Constant x y → {before after : List ℕ} →
+      WrittenFront (g .tuples) (λ k. x) before after → TreeDone ExpressionKind nodes g masks rows at after (at + 1) y
   unfolding size
-  constant-done x y e {after = after} written = expression-done (Constant x y) e
-      (λ c a q fixed it fits.
-      let n = g .variables in (
-        sym (it .1),
-        ap (λ (a : Expression). size a (c .D) n .d) (sym (it .0)),
-        subst (λ (a : Expression). Layer (c .N) n (numeratorCodes a c n) after) (sym (it .0))
-            (constant-layer (tuple-count fixed) x y c written),
-      ))
+  constant-done x y e written = by-case (Constant x y) e
+      (λ c a q fixed stands it fits. (constant x y, it .0, (sym (it .1), refl, constant-layer (tuple-count fixed) x y c written)))
 
-  operation-done : {after : List ℕ} {r : Valued} (op : Operation) (n : Node) → nodeAt nodes at ≡ n →
-      ((a : Expression) (q : ℕ) → ExpressionCase nodes at n a q → OperationCase nodes at op a q) →
-      CombinedDone op nodes g masks rows (at + 1) after r → ExpressionDone nodes g masks rows at after r
-  operation-done {after} op node e case done = expression-done node e
-      (λ c a q fixed found fits.
-      let n = g .variables in
-      let it = case a q found in
-      let h = done .each c (it .0) (it .1) (it .2) q fixed (it .4) (it .5)
-      (subst (λ (a : Expression). exceedsIn a (c .D) n ≡ false) (it .3) fits) in (
-        h .0,
-        h .1 ∙ ap (λ (a : Expression). size a (c .D) n .d) (sym (it .3)),
-        subst (λ (a : Expression). Layer (c .N) n (numeratorCodes a c n) after) (sym (it .3)) (h .2),
-      ))
+  module _ {after : List ℕ} {next bottom : ℕ} where
+    operation-done : (op : Operation) (n : Node) → nodeAt nodes at ≡ n →
+        ((a : Expression) (q : ℕ) → ExpressionCase nodes at n a q → OperationCase nodes at op a q) →
+        CombinedDone op nodes g masks rows (at + 1) after next bottom → TreeDone ExpressionKind nodes g masks rows at after next bottom
+    operation-done op node e case done = by-case node e
+        (λ c a q fixed stands found fits.
+        let it = case a q found in
+        let small = subst (λ (a : Expression). exceedsIn a (c .D) (g .variables) ≡ false) (it .3) fits in
+        (expressionOf op (it .0) (it .1), it .3, done .each c (it .0) (it .1) (it .2) q fixed (it .4) (it .5) small))
 
-  module _ {after : List ℕ} {r : Valued} where
     -- a sum
-    pub sum-done : nodeAt nodes at ≡ SumNode → CombinedDone Sum nodes g masks rows (at + 1) after r →
-        ExpressionDone nodes g masks rows at after r
+    pub sum-done : nodeAt nodes at ≡ SumNode → CombinedDone Sum nodes g masks rows (at + 1) after next bottom →
+        TreeDone ExpressionKind nodes g masks rows at after next bottom
     sum-done e done = operation-done Sum SumNode e (λ a q it. it) done
 
     -- a difference
-    pub difference-done : nodeAt nodes at ≡ DifferenceNode →
-        CombinedDone Difference nodes g masks rows (at + 1) after r → ExpressionDone nodes g masks rows at after r
+    pub difference-done : nodeAt nodes at ≡ DifferenceNode → CombinedDone Difference nodes g masks rows (at + 1) after next bottom →
+        TreeDone ExpressionKind nodes g masks rows at after next bottom
     difference-done e done = operation-done Difference DifferenceNode e (λ a q it. it) done
 
     -- a product
-    pub product-done : nodeAt nodes at ≡ ProductNode → CombinedDone Product nodes g masks rows (at + 1) after r →
-        ExpressionDone nodes g masks rows at after r
+    pub product-done : nodeAt nodes at ≡ ProductNode → CombinedDone Product nodes g masks rows (at + 1) after next bottom →
+        TreeDone ExpressionKind nodes g masks rows at after next bottom
     product-done e done = operation-done Product ProductNode e (λ a q it. it) done

@@ -2,6 +2,7 @@
 pub mod Places
 pub mod Needing
 pub mod Fixing
+pub mod Trees
 pub mod Operands
 pub mod Others
 pub mod Formulas

@@ -5,27 +5,24 @@ use mathlib.Core.Bool.{true, false, true≢false}
 use mathlib.Core.List.{List}
 use mathlib.Core.Path.{_≡_, sym, ap, subst, _∙_}
 use native.Mathlib.Omega.{arith}
-use lib.ListN.{length, take, drop}
-use lib.ListN.{length-drop}
+use lib.ListN.{length, take, drop, length-drop}
+use Rattle.sentence.specs.declared.Kind.{Kind}
 use Rattle.sentence.specs.declared.Slot.{Slot}
-use Rattle.meaning.specs.Chain.{Tuple}
+use Rattle.meaning.specs.Chain.{Chain, Tuple}
 use Rattle.layers.specs.Layers.{Layer, Swapped}
 use Rattle.layers.proofs.Tails.{Back, lent-tail}
-use Rattle.trees.specs.Need.{paired, need, needIn}
-use Rattle.trees.specs.Standing.{FormulaAt, ExpressionAt}
-use Rattle.trees.proofs.Cases.{formula-place, expression-place}
-use Rattle.evaluate.specs.declared.Setting.{Setting}
-use Rattle.evaluate.specs.declared.Valued.{Valued}
+use Rattle.layers.proofs.Swapping.{front-swapped, next-swapped}
+use Rattle.trees.specs.Need.{paired}
+use Rattle.trees.proofs.Exists.{Tree}
 use Rattle.surveys.specs.declared.Extent.{Extent}
 use Rattle.surveys.specs.declared.Order.{Order}
 use Rattle.surveys.specs.Surveys.{TreeSurveyed, Chosen, standing, crossing, Ordered}
-use Rattle.evaluate.specs.Evaluation.{FormulaReady, FormulasReady, ExpressionReady}
-use Rattle.evaluate.specs.Evaluation.{ExpressionsReady}
-use Rattle.evaluate.specs.Evaluation.{FormulaDone, FormulasDone, ExpressionDone, ExpressionsDone}
-use Rattle.evaluate.proofs.Needing.{need-some, needIn-some, paired-first, paired-second, paired-smaller}
-use Rattle.evaluate.proofs.Needing.{paired-smaller-first, paired-two, room-of, room-past}
+use Rattle.evaluate.specs.declared.Setting.{Setting}
+use Rattle.evaluate.specs.Evaluation.{Fixed, TreeAt, treeNeed, EvaluatedTwo, TreeReady, TreesReady, TreeDone, TreesDone}
+use Rattle.evaluate.proofs.Needing.{paired-first, paired-second, paired-smaller, paired-smaller-first, paired-two}
+use Rattle.evaluate.proofs.Needing.{room-of, room-past}
 use Rattle.evaluate.proofs.Fixing.{tuple-count}
-use Rattle.layers.proofs.Swapping.{front-swapped, next-swapped}
+use Rattle.evaluate.proofs.Trees.{tree-need, tree-place, tree-surveyed, tree-ready}
 
 -- ---- the layers
 
@@ -43,23 +40,19 @@ two-room {a} {b} T p q room =
     let r = room-of T (paired-two a b p q) room in
     omega arith
 
-module _ {N n T : ℕ} (whole : T ≡ N ^ n) {f h : Tuple → ℕ} {mid lent after : List ℕ} (back : Back T mid lent after)
+module _ {N n T : ℕ} (whole : T ≡ N ^ n) {mid lent after : List ℕ} (back : Back T mid lent after) {f h : Tuple → ℕ}
     (one : Layer N n f mid) (two : Layer N n h lent) where
-  -- one is in the front layer, and the other was lent the tail: the front layer stays
-  pub front-stays : Layer N n f after
-  front-stays = record { at = λ k l. back .low k (omega arith) ∙ one .at k l }
+  -- one is in the front layer, and the other was lent the tail: the front layer stays, and the second holds the other
+  layers-stay : Layer N n f after × Layer N n h (drop T after)
+  layers-stay = (
+    record { at = λ k l. back .low k (omega arith) ∙ one .at k l },
+    subst (λ (w : List ℕ). Layer N n h w) (sym (back .tail)) two,
+  )
 
-  -- and the second layer holds the other
-  pub tail-comes : Layer N n h (drop T after)
-  tail-comes = subst (λ (w : List ℕ). Layer N n h w) (sym (back .tail)) two
-
-  -- and then they are exchanged: the front layer holds the other
-  pub front-crossed : {last : List ℕ} → Swapped T after last → Layer N n h last
-  front-crossed s = front-swapped (λ k l. omega arith) s h tail-comes
-
-  -- and the second layer the one
-  pub tail-crossed : {last : List ℕ} → Swapped T after last → Layer N n f (drop T last)
-  tail-crossed s = next-swapped (λ k l. omega arith) s f front-stays
+  -- and then they are exchanged
+  layers-cross : {last : List ℕ} → Swapped T after last → Layer N n h last × Layer N n f (drop T last)
+  layers-cross s =
+      (front-swapped (λ k l. omega arith) s h (layers-stay .1), next-swapped (λ k l. omega arith) s f (layers-stay .0))
 
 -- ---- by the order of the two
 
@@ -95,229 +88,95 @@ forward-then {at = at} o = at-then (λ k. at ≤ k) (o .chosen) (λ h. o .survey
 
 -- ---- two trees of a kind
 
--- the second where the survey of the first ends
-module _ {Tree : Type 0} (At : ℕ → Tree → ℕ → Type 0) {at : ℕ} {one : Extent} (needs : Tree → ℕ)
-    (found : (x : Tree) (q : ℕ) → At at x q → (one .next ≡ q) × (one .layers ≡ needs x)) where
-  follows-survey : {x y : Tree} {m q : ℕ} → At at x m → At m y q → At (one .next) y q
-  follows-survey {x} {y} {m} {q} stands follows = subst (λ (m : ℕ). At m y q) (sym (found x m stands .0)) follows
+-- the second stands where the survey of the first ends
+follows-survey : (k : Kind) {nodes : List Slot} {at : ℕ} {one : Extent} → TreeSurveyed nodes at one → (t u : Tree k) (m q : ℕ) →
+    TreeAt k nodes at t m → TreeAt k nodes m u q → TreeAt k nodes (one .next) u q
+follows-survey k {nodes} s t u m q stands follows =
+    subst (λ (p : ℕ). TreeAt k nodes p u q) (sym (tree-surveyed k s t m stands .0)) follows
 
--- Each may be evaluated where there is room for the layers that it needs. So the one that comes first may be evaluated in all of the work
--- area, and then the other past the front layer, since it needs no more layers.
-module _ {Tree : Type 0} (At : ℕ → Tree → ℕ → Type 0) (needs : Tree → ℕ) (Ready : ℕ → List ℕ → Type 0) {slots : List Slot} {at : ℕ}
-    {r : Order} (o : Ordered slots at r)
-    (found : (x : Tree) (q : ℕ) → At at x q → (o .one .next ≡ q) × (o .one .layers ≡ needs x))
-    (found′ : (y : Tree) (q : ℕ) → At (o .one .next) y q → (o .two .next ≡ q) × (o .two .layers ≡ needs y))
-    {x y : Tree} {m q : ℕ} (stands : At at x m) (follows : At m y q) (T : ℕ) (w : List ℕ)
-    (room : paired (needs x) (needs y) * T ≤ length w) (one : (v : List ℕ) → needs x * T ≤ length v → Ready at v)
-    (two : (v : List ℕ) → needs y * T ≤ length v → Ready (o .one .next) v) where
-  ready-first : Ready (r .first) w
-  ready-first =
-      at-first (λ k. Ready k w) (o .chosen) (one w (room-of T (paired-first (needs x) (needs y)) room))
-      (two w (room-of T (paired-second (needs x) (needs y)) room))
-
-  ready-then : (mid : List ℕ) → length mid ≡ length w → Ready (r .then) (take (length mid - T) (drop T mid))
-  ready-then mid same =
-      let a = found x m stands .1 in
-      let b = found′ y q (follows-survey At needs found stands follows) .1 in
-      at-then (λ k. Ready k (take (length mid - T) (drop T mid))) (o .chosen)
-      (λ h. two _ (past-room T mid same (room-past (needs y) T (paired-smaller (needs x) (needs y) (omega (arith, a, b, h))) room)))
-      (λ h. one _ (past-room T mid same (room-past (needs x) T (paired-smaller-first (needs x) (needs y) (omega (arith, a, b, h))) room)))
-
--- ---- two state formulas
-module _ {nodes : List Slot} {g : Setting} {masks : List ℕ} {rows : List (List ℕ)} {at : ℕ} {w : List ℕ}
-    (ready : FormulasReady nodes g masks rows at w) where
+module _ {k : Kind} {nodes : List Slot} {g : Setting} {masks : List ℕ} {rows : List (List ℕ)} {at : ℕ} {w : List ℕ}
+    (ready : TreesReady k nodes g masks rows at w) where
   -- there is a place for the first node
-  pub formulas-inside : at < 64
-  formulas-inside = formula-place nodes at (ready .stands)
+  pub trees-inside : at < 64
+  trees-inside = tree-place k nodes at (ready .first) (ready .middle) (ready .stands)
 
   -- room for both layers
-  pub formulas-room : g .tuples + g .tuples ≤ length w
-  formulas-room = two-room (g .tuples) (need-some (ready .first)) (need-some (ready .second)) (ready .room)
+  pub trees-room : g .tuples + g .tuples ≤ length w
+  trees-room = two-room (g .tuples) (tree-need k (ready .first)) (tree-need k (ready .second)) (ready .room)
 
-  first-formula : {v : List ℕ} → need (ready .first) * g .tuples ≤ length v → FormulaReady nodes g masks rows at v
-  first-formula room = record {
-    chain = ready .chain;
-    fixed = ready .fixed;
-    few = ready .few;
-    formula = ready .first;
-    end = ready .middle;
-    stands = ready .stands;
-    ranged = ready .ranged .0;
-    fits = ready .fits;
-    room = room;
-  }
+  -- what is left of both
+  pub trees-left : {after : List ℕ} {next first second : ℕ} → TreesDone k nodes g masks rows at after next first second →
+      EvaluatedTwo k g (ready .chain) (ready .first) (ready .second) (ready .end) after next first second
+  trees-left done =
+      done .each (ready .chain) (ready .first) (ready .second) (ready .middle) (ready .end) (ready .fixed) (ready .stands) (ready .follows)
+      (ready .fits) (ready .fits′)
 
-  module _ {one : Extent} (s : TreeSurveyed nodes at one) where
-    second-formula : {v : List ℕ} → need (ready .second) * g .tuples ≤ length v →
-        FormulaReady nodes g masks rows (one .next) v
-    second-formula room = record {
-      chain = ready .chain;
-      fixed = ready .fixed;
-      few = ready .few;
-      formula = ready .second;
-      end = ready .end;
-      stands = follows-survey (FormulaAt nodes) need (s .formula) (ready .stands) (ready .follows);
-      ranged = ready .ranged .1;
-      fits = ready .fits′;
-      room = room;
-    }
-
-  -- so the one that comes first, and then the other past it
   module _ {r : Order} (o : Ordered nodes at r) where
-    pub formula-first : FormulaReady nodes g masks rows (r .first) w
-    formula-first =
-        ready-first (FormulaAt nodes) need (FormulaReady nodes g masks rows) o (o .surveyed .formula) (o .follows .formula)
-        (ready .stands) (ready .follows) (g .tuples) w (ready .room) (λ v. first-formula) (λ v. second-formula (o .surveyed))
+    after-first : TreeAt k nodes (o .one .next) (ready .second) (ready .end)
+    after-first =
+        follows-survey k (o .surveyed) (ready .first) (ready .second) (ready .middle) (ready .end) (ready .stands) (ready .follows)
 
-    pub formula-then : (mid : List ℕ) → length mid ≡ length w →
-        FormulaReady nodes g masks rows (r .then) (take (length mid - g .tuples) (drop (g .tuples) mid))
-    formula-then =
-        ready-then (FormulaAt nodes) need (FormulaReady nodes g masks rows) o (o .surveyed .formula) (o .follows .formula)
-        (ready .stands) (ready .follows) (g .tuples) w (ready .room) (λ v. first-formula) (λ v. second-formula (o .surveyed))
+    -- each may be evaluated where there is room for the layers that it needs
+    first-ready : (v : List ℕ) → treeNeed k (ready .first) * g .tuples ≤ length v → TreeReady k nodes g masks rows at v
+    first-ready v =
+        tree-ready (ready .fixed) (ready .few) k (ready .first) (ready .middle) (ready .stands) (ready .ranged .0) (ready .fits)
 
-module _ {nodes : List Slot} {g : Setting} {masks : List ℕ} {rows : List (List ℕ)} {at : ℕ} {one : Extent}
-    (s : TreeSurveyed nodes at one)
-    {mid lent after : List ℕ} {r1 r2 : ℕ} (back : Back (g .tuples) mid lent after) where
-  -- both, where the first was evaluated first
-  formulas-in-order : FormulaDone nodes g masks rows at mid r1 →
-      FormulaDone nodes g masks rows (one .next) lent r2 → FormulasDone nodes g masks rows at after r2
-  formulas-in-order first second = record {
-    each = λ c f h m q fixed p t small small′.
-        let a = first .each c f m fixed p small in
-        let b = second .each c h q fixed (follows-survey (FormulaAt nodes) need (s .formula) p t) small′ in
-        (b .0, front-stays (tuple-count fixed) back (a .1) (b .1), tail-comes (tuple-count fixed) back (a .1) (b .1));
+    second-ready : (v : List ℕ) → treeNeed k (ready .second) * g .tuples ≤ length v → TreeReady k nodes g masks rows (o .one .next) v
+    second-ready v = tree-ready (ready .fixed) (ready .few) k (ready .second) (ready .end) after-first (ready .ranged .1) (ready .fits′)
+
+    -- so the one that comes first in all of the work area,
+    pub comes-first : TreeReady k nodes g masks rows (r .first) w
+    comes-first =
+        let a = treeNeed k (ready .first) in
+        let b = treeNeed k (ready .second) in
+        at-first (λ p. TreeReady k nodes g masks rows p w) (o .chosen)
+        (first-ready w (room-of (g .tuples) (paired-first a b) (ready .room)))
+        (second-ready w (room-of (g .tuples) (paired-second a b) (ready .room)))
+
+    -- and then the other past the front layer, since it needs no more layers
+    pub comes-then : (mid : List ℕ) → length mid ≡ length w →
+        TreeReady k nodes g masks rows (r .then) (take (length mid - g .tuples) (drop (g .tuples) mid))
+    comes-then mid same =
+        let T = g .tuples in
+        let a = treeNeed k (ready .first) in
+        let b = treeNeed k (ready .second) in
+        let of-a = tree-surveyed k (o .surveyed) (ready .first) (ready .middle) (ready .stands) .1 in
+        let of-b = tree-surveyed k (o .follows) (ready .second) (ready .end) after-first .1 in
+        at-then (λ p. TreeReady k nodes g masks rows p (take (length mid - T) (drop T mid))) (o .chosen)
+        (λ h. second-ready _ (past-room T mid same (room-past b T (paired-smaller a b (omega (arith, of-a, of-b, h))) (ready .room))))
+        (λ h. first-ready _ (past-room T mid same (room-past a T (paired-smaller-first a b (omega (arith, of-a, of-b, h))) (ready .room))))
+
+module _ {k : Kind} {nodes : List Slot} {g : Setting} {masks : List ℕ} {rows : List (List ℕ)} {at : ℕ} where
+  -- both, by what is left of each and where their layers come to lie
+  both-left : {one : Extent} → TreeSurveyed nodes at one → {v v′ after : List ℕ} {next bottom next′ bottom′ : ℕ} →
+      ((c : Chain) → Fixed c masks rows g → (f h : Tuple → ℕ) → Layer (c .N) (g .variables) f v → Layer (c .N) (g .variables) h v′ →
+      Layer (c .N) (g .variables) f after × Layer (c .N) (g .variables) h (drop (g .tuples) after)) →
+      TreeDone k nodes g masks rows at v next bottom → TreeDone k nodes g masks rows (one .next) v′ next′ bottom′ →
+      TreesDone k nodes g masks rows at after next′ bottom bottom′
+  both-left s lie first second = record {
+    each = λ c t u m q fixed stands follows small small′.
+        let x = first .each c t m fixed stands small in
+        let y = second .each c u q fixed (follows-survey k s t u m q stands follows) small′ in
+        let both = lie c fixed _ _ (x .2) (y .2) in
+        (y .0, x .1, y .1, both .0, both .1);
   }
 
-  -- both, where the second was evaluated first and the layers then exchanged
-  formulas-crossed : {last : List ℕ} → FormulaDone nodes g masks rows (one .next) mid r1 →
-      FormulaDone nodes g masks rows at lent r2 →
-      Swapped (g .tuples) after last → FormulasDone nodes g masks rows at last r1
-  formulas-crossed second first swapped = record {
-    each = λ c f h m q fixed p t small small′.
-        let a = first .each c f m fixed p small in
-        let b = second .each c h q fixed (follows-survey (FormulaAt nodes) need (s .formula) p t) small′ in (
-          b .0,
-          front-crossed (tuple-count fixed) back (b .1) (a .1) swapped,
-          tail-crossed (tuple-count fixed) back (b .1) (a .1) swapped,
-        );
-  }
+  module _ {r : Order} (o : Ordered nodes at r) {mid lent after : List ℕ} (back : Back (g .tuples) mid lent after)
+      {next bottom next′ bottom′ : ℕ} (one : TreeDone k nodes g masks rows (r .first) mid next bottom)
+      (other : TreeDone k nodes g masks rows (r .then) lent next′ bottom′) where
+    abbrev Left : (v : List ℕ) (next bottom p : ℕ) → Type 0
+    Left v next bottom p = TreeDone k nodes g masks rows p v next bottom
 
-module _ {nodes : List Slot} {g : Setting} {masks : List ℕ} {rows : List (List ℕ)} {at : ℕ} {r : Order} (o : Ordered nodes at r)
-    {mid lent after : List ℕ} {r1 r2 : ℕ} (back : Back (g .tuples) mid lent after)
-    (one : FormulaDone nodes g masks rows (r .first) mid r1) (other : FormulaDone nodes g masks rows (r .then) lent r2) where
-  -- both, by whether they were crossed
-  pub formulas-standing : r .crossed ≡ false → FormulasDone nodes g masks rows at after r2
-  formulas-standing as-is =
-      by-standing (λ k. FormulaDone nodes g masks rows k mid r1) (λ k. FormulaDone nodes g masks rows k lent r2) (o .chosen) as-is
-      (formulas-in-order (o .surveyed) back) one other
+    -- both, where they were evaluated as they stand
+    pub trees-standing : r .crossed ≡ false → TreesDone k nodes g masks rows at after next′ bottom bottom′
+    trees-standing as-is =
+        by-standing (Left mid next bottom) (Left lent next′ bottom′) (o .chosen) as-is
+        (both-left (o .surveyed) (λ c fixed f h x y. layers-stay (tuple-count fixed) back x y)) one other
 
-  pub formulas-exchanged : {last : List ℕ} → r .crossed ≡ true → Swapped (g .tuples) after last →
-      FormulasDone nodes g masks rows at last r1
-  formulas-exchanged turned swapped =
-      by-crossing (λ k. FormulaDone nodes g masks rows k mid r1) (λ k. FormulaDone nodes g masks rows k lent r2) (o .chosen) turned
-      (λ a b. formulas-crossed (o .surveyed) back a b swapped) one other
-
--- ---- two expressions
-module _ {nodes : List Slot} {g : Setting} {masks : List ℕ} {rows : List (List ℕ)} {at : ℕ} {w : List ℕ}
-    (ready : ExpressionsReady nodes g masks rows at w) where
-  -- there is a place for the first node
-  pub expressions-inside : at < 64
-  expressions-inside = expression-place nodes at (ready .stands)
-
-  -- room for both layers
-  pub expressions-room : g .tuples + g .tuples ≤ length w
-  expressions-room = two-room (g .tuples) (needIn-some (ready .first)) (needIn-some (ready .second)) (ready .room)
-
-  first-expression : {v : List ℕ} → needIn (ready .first) * g .tuples ≤ length v →
-      ExpressionReady nodes g masks rows at v
-  first-expression room = record {
-    chain = ready .chain;
-    fixed = ready .fixed;
-    few = ready .few;
-    expression = ready .first;
-    end = ready .middle;
-    stands = ready .stands;
-    ranged = ready .ranged .0;
-    fits = ready .fits;
-    room = room;
-  }
-
-  module _ {one : Extent} (s : TreeSurveyed nodes at one) where
-    second-expression : {v : List ℕ} → needIn (ready .second) * g .tuples ≤ length v →
-        ExpressionReady nodes g masks rows (one .next) v
-    second-expression room = record {
-      chain = ready .chain;
-      fixed = ready .fixed;
-      few = ready .few;
-      expression = ready .second;
-      end = ready .end;
-      stands = follows-survey (ExpressionAt nodes) needIn (s .expression) (ready .stands) (ready .follows);
-      ranged = ready .ranged .1;
-      fits = ready .fits′;
-      room = room;
-    }
-
-  -- so the one that comes first, and then the other past it
-  module _ {r : Order} (o : Ordered nodes at r) where
-    pub expression-first : ExpressionReady nodes g masks rows (r .first) w
-    expression-first =
-        ready-first (ExpressionAt nodes) needIn (ExpressionReady nodes g masks rows) o (o .surveyed .expression) (o .follows .expression)
-        (ready .stands) (ready .follows) (g .tuples) w (ready .room) (λ v. first-expression) (λ v. second-expression (o .surveyed))
-
-    pub expression-then : (mid : List ℕ) → length mid ≡ length w →
-        ExpressionReady nodes g masks rows (r .then) (take (length mid - g .tuples) (drop (g .tuples) mid))
-    expression-then =
-        ready-then (ExpressionAt nodes) needIn (ExpressionReady nodes g masks rows) o (o .surveyed .expression) (o .follows .expression)
-        (ready .stands) (ready .follows) (g .tuples) w (ready .room) (λ v. first-expression) (λ v. second-expression (o .surveyed))
-
-module _ {nodes : List Slot} {g : Setting} {masks : List ℕ} {rows : List (List ℕ)} {at : ℕ} {one : Extent}
-    (s : TreeSurveyed nodes at one)
-    {mid lent after : List ℕ} {r1 r2 : Valued} (back : Back (g .tuples) mid lent after) where
-  -- both, where the first was evaluated first
-  expressions-in-order : ExpressionDone nodes g masks rows at mid r1 →
-      ExpressionDone nodes g masks rows (one .next) lent r2 →
-      ExpressionsDone nodes g masks rows at after (record { next = r2 .next; first = r1 .bottom; second = r2 .bottom })
-  expressions-in-order first second = record {
-    each = λ c x y m q fixed p t small small′.
-        let a = first .each c x m fixed p small in
-        let b = second .each c y q fixed (follows-survey (ExpressionAt nodes) needIn (s .expression) p t) small′ in (
-          b .0,
-          a .1,
-          b .1,
-          front-stays (tuple-count fixed) back (a .2) (b .2),
-          tail-comes (tuple-count fixed) back (a .2) (b .2),
-        );
-  }
-
-  -- both, where the second was evaluated first and the layers then exchanged
-  expressions-crossed : {last : List ℕ} → ExpressionDone nodes g masks rows (one .next) mid r1 →
-      ExpressionDone nodes g masks rows at lent r2 →
-      Swapped (g .tuples) after last → ExpressionsDone nodes g masks rows at last
-      (record { next = r1 .next; first = r2 .bottom; second = r1 .bottom })
-  expressions-crossed second first swapped = record {
-    each = λ c x y m q fixed p t small small′.
-        let a = first .each c x m fixed p small in
-        let b = second .each c y q fixed (follows-survey (ExpressionAt nodes) needIn (s .expression) p t) small′ in (
-          b .0,
-          a .1,
-          b .1,
-          front-crossed (tuple-count fixed) back (b .2) (a .2) swapped,
-          tail-crossed (tuple-count fixed) back (b .2) (a .2) swapped,
-        );
-  }
-
-module _ {nodes : List Slot} {g : Setting} {masks : List ℕ} {rows : List (List ℕ)} {at : ℕ} {r : Order} (o : Ordered nodes at r)
-    {mid lent after : List ℕ} {r1 r2 : Valued} (back : Back (g .tuples) mid lent after)
-    (one : ExpressionDone nodes g masks rows (r .first) mid r1) (other : ExpressionDone nodes g masks rows (r .then) lent r2) where
-  -- both, by whether they were crossed
-  pub expressions-standing : r .crossed ≡ false → ExpressionsDone nodes g masks rows at after
-      (record { next = r2 .next; first = r1 .bottom; second = r2 .bottom })
-  expressions-standing as-is =
-      by-standing (λ k. ExpressionDone nodes g masks rows k mid r1) (λ k. ExpressionDone nodes g masks rows k lent r2) (o .chosen) as-is
-      (expressions-in-order (o .surveyed) back) one other
-
-  pub expressions-exchanged : {last : List ℕ} → r .crossed ≡ true → Swapped (g .tuples) after last →
-      ExpressionsDone nodes g masks rows at last (record { next = r1 .next; first = r2 .bottom; second = r1 .bottom })
-  expressions-exchanged turned swapped =
-      by-crossing (λ k. ExpressionDone nodes g masks rows k mid r1) (λ k. ExpressionDone nodes g masks rows k lent r2) (o .chosen) turned
-      (λ a b. expressions-crossed (o .surveyed) back a b swapped) one other
+    -- both, where they were crossed and the layers then exchanged
+    pub trees-exchanged : {last : List ℕ} → r .crossed ≡ true → Swapped (g .tuples) after last →
+        TreesDone k nodes g masks rows at last next bottom′ bottom
+    trees-exchanged turned swapped =
+        by-crossing (Left mid next bottom) (Left lent next′ bottom′) (o .chosen) turned
+        (λ second first. both-left (o .surveyed) (λ c fixed f h x y. layers-cross (tuple-count fixed) back y x swapped) first second)
+        one other

@@ -8,26 +8,21 @@ use mir.Val.{hasKey}
 use types.Run.{OneOf, miss}
 use denote.Enum.Declared.{tagOf}
 use Rattle.sentence.proofs.Node.{the-type}
+use Rattle.sentence.specs.declared.Kind.{Kind}
+use Rattle.sentence.specs.declared.Kind.the-variants.{State, Expression as ExpressionKind, Path as PathKind}
 use Rattle.sentence.specs.declared.Slot.{Slot}
 use Rattle.sentence.specs.declared.Node.{Node}
-use Rattle.meaning.specs.Tree.{Formula, Expression, PathFormula}
-use Rattle.trees.specs.Standing.{nodeAt, FormulaAt, always-at, labelled-at, negation-at, both-at, compare-at}
-use Rattle.trees.specs.Standing.{ExpressionAt, probability-at, constant-at, sum-at, difference-at, product-at, PathAt, next-at, until-at}
+use Rattle.trees.specs.Standing.{nodeAt, always-at, labelled-at, negation-at, both-at, compare-at}
+use Rattle.trees.specs.Standing.{probability-at, constant-at, sum-at, difference-at, product-at, next-at, until-at}
+use Rattle.trees.proofs.Exists.{Tree}
 use Rattle.evaluate.specs.declared.Setting.{Setting}
-use Rattle.evaluate.specs.declared.Valued.{Valued}
-use Rattle.evaluate.specs.Evaluation.{FormulaDone, ExpressionDone, PathDone}
+use Rattle.evaluate.specs.Evaluation.{TreeAt, TreeDone}
 
--- the tags of the nodes that are no state formulas
-abbrev noFormulas : List ℕ
-noFormulas = 5 ∷ 6 ∷ 7 ∷ 8 ∷ 9 ∷ 10 ∷ 11 ∷ []
-
--- no expressions
-abbrev noExpressions : List ℕ
-noExpressions = 0 ∷ 1 ∷ 2 ∷ 3 ∷ 4 ∷ 10 ∷ 11 ∷ []
-
--- no paths
-abbrev noPaths : List ℕ
-noPaths = 0 ∷ 1 ∷ 2 ∷ 3 ∷ 4 ∷ 5 ∷ 6 ∷ 7 ∷ 8 ∷ 9 ∷ []
+-- the tags of the nodes of the other kinds
+abbrev others : Kind → List ℕ
+others State = 5 ∷ 6 ∷ 7 ∷ 8 ∷ 9 ∷ 10 ∷ 11 ∷ []
+others ExpressionKind = 0 ∷ 1 ∷ 2 ∷ 3 ∷ 4 ∷ 10 ∷ 11 ∷ []
+others PathKind = 0 ∷ 1 ∷ 2 ∷ 3 ∷ 4 ∷ 5 ∷ 6 ∷ 7 ∷ 8 ∷ 9 ∷ []
 
 module _ (nodes : List Slot) (at : ℕ) where
   -- the node at the place has one of the tags
@@ -38,36 +33,22 @@ module _ (nodes : List Slot) (at : ℕ) where
   other : (ks : List ℕ) {n : Node} → nodeAt nodes at ≡ n → T (not (hasKey ks (tagOf the-type n))) → Tagged ks → ⊥
   other ks {n} e h o = miss ks (tagOf the-type n) h (subst (λ (n : Node). OneOf ks (tagOf the-type n)) e o)
 
-  -- a place where a state formula stands has no tag of the others
-  other-formula : {f : Formula} {q : ℕ} → FormulaAt nodes at f q → Tagged noFormulas → ⊥
-  other-formula (always-at h e) = other noFormulas e tt
-  other-formula (labelled-at h e) = other noFormulas e tt
-  other-formula (negation-at h e v) = other noFormulas e tt
-  other-formula (both-at h e v w) = other noFormulas e tt
-  other-formula (compare-at h e v w) = other noFormulas e tt
+  -- a place where a tree stands has no tag of the other kinds
+  other-kind : (k : Kind) (t : Tree k) (q : ℕ) → TreeAt k nodes at t q → Tagged (others k) → ⊥
+  other-kind State _ _ (always-at h e) = other (others State) e tt
+  other-kind State _ _ (labelled-at h e) = other (others State) e tt
+  other-kind State _ _ (negation-at h e v) = other (others State) e tt
+  other-kind State _ _ (both-at h e v w) = other (others State) e tt
+  other-kind State _ _ (compare-at h e v w) = other (others State) e tt
+  other-kind ExpressionKind _ _ (probability-at h e v) = other (others ExpressionKind) e tt
+  other-kind ExpressionKind _ _ (constant-at h e) = other (others ExpressionKind) e tt
+  other-kind ExpressionKind _ _ (sum-at h e v w) = other (others ExpressionKind) e tt
+  other-kind ExpressionKind _ _ (difference-at h e v w) = other (others ExpressionKind) e tt
+  other-kind ExpressionKind _ _ (product-at h e v w) = other (others ExpressionKind) e tt
+  other-kind PathKind _ _ (next-at h e v) = other (others PathKind) e tt
+  other-kind PathKind _ _ (until-at h e v w) = other (others PathKind) e tt
 
-  -- where an expression stands
-  other-expression : {a : Expression} {q : ℕ} → ExpressionAt nodes at a q → Tagged noExpressions → ⊥
-  other-expression (probability-at h e v) = other noExpressions e tt
-  other-expression (constant-at h e) = other noExpressions e tt
-  other-expression (sum-at h e v w) = other noExpressions e tt
-  other-expression (difference-at h e v w) = other noExpressions e tt
-  other-expression (product-at h e v w) = other noExpressions e tt
-
-  -- where a path stands
-  other-path : {p : PathFormula} {q : ℕ} → PathAt nodes at p q → Tagged noPaths → ⊥
-  other-path (next-at h e v) = other noPaths e tt
-  other-path (until-at h e v w) = other noPaths e tt
-
-module _ {nodes : List Slot} {g : Setting} {masks : List ℕ} {rows : List (List ℕ)} {at : ℕ} {after : List ℕ} where
-  -- no state formula stands at a node of another kind
-  pub no-formula : {r : ℕ} → Tagged nodes at noFormulas → FormulaDone nodes g masks rows at after r
-  no-formula o = record { each = λ c f q fixed stands fits. absurd (other-formula nodes at stands o) }
-
-  -- no expression
-  pub no-expression : {r : Valued} → Tagged nodes at noExpressions → ExpressionDone nodes g masks rows at after r
-  no-expression o = record { each = λ c a q fixed stands fits. absurd (other-expression nodes at stands o) }
-
-  -- no path
-  pub no-path : {r : Valued} → Tagged nodes at noPaths → PathDone nodes g masks rows at after r
-  no-path o = record { each = λ c p q fixed stands fits. absurd (other-path nodes at stands o) }
+-- no tree of the kind stands at a node of another
+pub no-tree : (k : Kind) {nodes : List Slot} {g : Setting} {masks : List ℕ} {rows : List (List ℕ)} {at : ℕ} {after : List ℕ}
+    {next bottom : ℕ} → Tagged nodes at (others k) → TreeDone k nodes g masks rows at after next bottom
+no-tree k {nodes} {at = at} o = record { each = λ c t q fixed stands fits. absurd (other-kind nodes at k t q stands o) }

@@ -3,14 +3,16 @@
 -- What evaluating a tree's nodes asks and leaves: the front layer of the work area holds, at every tuple, the meaning's
 -- own function of the tree that stands at the place.
 use Prim.Native.Nat.{ℕ, _*_, _^_, _≤_, _<_}
-use mathlib.Core.Bool.{false}
+use mathlib.Core.Bool.{Bool, false}
 use mathlib.Core.List.{List}
 use mathlib.Core.Path.{_≡_}
 use lib.Dec.{eqb}
 use lib.ListN.{length, take, drop}
+use Rattle.sentence.specs.declared.Kind.{Kind}
+use Rattle.sentence.specs.declared.Kind.the-variants.{State, Expression as ExpressionKind, Path as PathKind}
 use Rattle.sentence.specs.declared.Slot.{Slot}
-use Rattle.meaning.specs.Chain.{Chain}
-use Rattle.meaning.specs.Tree.{Formula, Expression, PathFormula}
+use Rattle.meaning.specs.Chain.{Chain, Tuple}
+use Rattle.meaning.specs.Tree.{Expression}
 use Rattle.meaning.specs.Named.{Some, count}
 use Rattle.meaning.specs.Meaning.{holds, numerator, denominator}
 use Rattle.meaning.specs.Size.{sizeLimit, size, exceeds, exceedsIn, exceedsFrom}
@@ -24,9 +26,8 @@ use Rattle.names.specs.Names.{namesBetween}
 use Rattle.trees.specs.Need.{paired, need, needIn, needFrom}
 use Rattle.trees.specs.Ranged.{Ranged, RangedIn, RangedFrom}
 use Rattle.trees.specs.Standing.{FormulaAt, ExpressionAt, PathAt}
+use Rattle.trees.proofs.Exists.{Tree}
 use Rattle.evaluate.specs.declared.Setting.{Setting}
-use Rattle.evaluate.specs.declared.Valued.{Valued}
-use Rattle.evaluate.specs.declared.ValuedTwo.{ValuedTwo}
 
 -- the chain is the one that the masks and the rows hold, in this setting
 pub record Fixed (c : Chain) (masks : List ℕ) (rows : List (List ℕ)) (g : Setting) : Type 0 where
@@ -36,116 +37,105 @@ pub record Fixed (c : Chain) (masks : List ℕ) (rows : List (List ℕ)) (g : Se
   pub weighed : 1 ≤ g .d
   pub sizes : LayerSizes (g .states) (g .variables) (g .tuples)
 
--- ---- a node
+-- ---- what each kind of trees brings
 
-module _ (nodes : List Slot) (g : Setting) (masks : List ℕ) (rows : List (List ℕ)) where
-  -- a state formula stands at the place; its numbers are in their ranges, the size rule does not refuse it, and there is
+-- the tree stands from place p on, up to place q
+abbrev pub TreeAt : (k : Kind) → List Slot → ℕ → Tree k → ℕ → Type 0
+TreeAt State slots p f q = FormulaAt slots p f q
+TreeAt ExpressionKind slots p a q = ExpressionAt slots p a q
+TreeAt PathKind slots p w q = PathAt slots p w q
+
+-- its numbers are in their ranges, in a sentence of n letters
+abbrev pub TreeRanged : (k : Kind) → ℕ → Tree k → Type 0
+TreeRanged State n f = Ranged n f
+TreeRanged ExpressionKind n a = RangedIn n a
+TreeRanged PathKind n w = RangedFrom n w
+
+-- the size rule refuses it
+abbrev pub treeExceeds : (k : Kind) → Tree k → (D n : ℕ) → Bool
+treeExceeds State f D n = exceeds f D n
+treeExceeds ExpressionKind a D n = exceedsIn a D n
+treeExceeds PathKind w D n = exceedsFrom w D n
+
+-- how many layers it needs
+abbrev pub treeNeed : (k : Kind) → Tree k → ℕ
+treeNeed State f = need f
+treeNeed ExpressionKind a = needIn a
+treeNeed PathKind w = needFrom w
+
+-- the number that stands for its value at a tuple: a state formula's truth, the code of an expression's numerator, a path's numerator
+abbrev pub treeNumber : (k : Kind) → Tree k → Chain → ℕ → Tuple → ℕ
+treeNumber State f c n = truth (λ t. holds f c n t)
+treeNumber ExpressionKind a c n = numeratorCodes a c n
+treeNumber PathKind w c n = numerator w c n
+
+-- its denominator; a state formula's is 1
+abbrev pub treeDenominator : (k : Kind) → Tree k → (D n : ℕ) → ℕ
+treeDenominator State f D n = 1
+treeDenominator ExpressionKind a D n = size a D n .d
+treeDenominator PathKind w D n = denominator w D n
+
+-- ---- trees of a kind
+
+module _ (k : Kind) (g : Setting) (c : Chain) where
+  -- a tree that ends at q: the place after it, its denominator, and its numbers in the front layer
+  abbrev pub Evaluated : (t : Tree k) (q : ℕ) (after : List ℕ) (next bottom : ℕ) → Type 0
+  Evaluated t q after next bottom =
+      (next ≡ q) × (bottom ≡ treeDenominator k t (c .D) (g .variables)) ×
+      Layer (c .N) (g .variables) (treeNumber k t c (g .variables)) after
+
+  -- two, the second of which ends at q: the place after both, their denominators, and their numbers in the first two layers
+  abbrev pub EvaluatedTwo : (t u : Tree k) (q : ℕ) (after : List ℕ) (next first second : ℕ) → Type 0
+  EvaluatedTwo t u q after next first second =
+      (next ≡ q) × (first ≡ treeDenominator k t (c .D) (g .variables)) × (second ≡ treeDenominator k u (c .D) (g .variables)) ×
+      Layer (c .N) (g .variables) (treeNumber k t c (g .variables)) after ×
+      Layer (c .N) (g .variables) (treeNumber k u c (g .variables)) (drop (g .tuples) after)
+
+module _ (k : Kind) (nodes : List Slot) (g : Setting) (masks : List ℕ) (rows : List (List ℕ)) where
+  -- a tree of the kind stands at the place; its numbers are in their ranges, the size rule does not refuse it, and there is
   -- room for the layers that it needs
-  pub record FormulaReady (at : ℕ) (w : List ℕ) : Type 0 where
+  pub record TreeReady (at : ℕ) (w : List ℕ) : Type 0 where
     pub chain : Chain
     pub fixed : Fixed chain masks rows g
     pub few : g .variables ≤ mostVariables
-    pub formula : Formula
+    pub tree : Tree k
     pub end : ℕ
-    pub stands : FormulaAt nodes at formula end
-    pub ranged : Ranged (g .variables) formula
-    pub fits : exceeds formula (chain .D) (g .variables) ≡ false
-    pub room : need formula * g .tuples ≤ length w
+    pub stands : TreeAt k nodes at tree end
+    pub ranged : TreeRanged k (g .variables) tree
+    pub fits : treeExceeds k tree (chain .D) (g .variables) ≡ false
+    pub room : treeNeed k tree * g .tuples ≤ length w
 
-  -- an expression stands there, likewise
-  pub record ExpressionReady (at : ℕ) (w : List ℕ) : Type 0 where
+  -- two of them, one after another
+  pub record TreesReady (at : ℕ) (w : List ℕ) : Type 0 where
     pub chain : Chain
     pub fixed : Fixed chain masks rows g
     pub few : g .variables ≤ mostVariables
-    pub expression : Expression
-    pub end : ℕ
-    pub stands : ExpressionAt nodes at expression end
-    pub ranged : RangedIn (g .variables) expression
-    pub fits : exceedsIn expression (chain .D) (g .variables) ≡ false
-    pub room : needIn expression * g .tuples ≤ length w
-
-  -- a path stands there, likewise, and its denominator is at most 2^62
-  pub record PathReady (at : ℕ) (w : List ℕ) : Type 0 where
-    pub chain : Chain
-    pub fixed : Fixed chain masks rows g
-    pub few : g .variables ≤ mostVariables
-    pub path : PathFormula
-    pub end : ℕ
-    pub stands : PathAt nodes at path end
-    pub ranged : RangedFrom (g .variables) path
-    pub fits : exceedsFrom path (chain .D) (g .variables) ≡ false
-    pub small : denominator path (chain .D) (g .variables) ≤ sizeLimit
-    pub room : needFrom path * g .tuples ≤ length w
-
-  -- two state formulas, one after another
-  pub record FormulasReady (at : ℕ) (w : List ℕ) : Type 0 where
-    pub chain : Chain
-    pub fixed : Fixed chain masks rows g
-    pub few : g .variables ≤ mostVariables
-    pub first : Formula
-    pub second : Formula
+    pub first : Tree k
+    pub second : Tree k
     pub middle : ℕ
     pub end : ℕ
-    pub stands : FormulaAt nodes at first middle
-    pub follows : FormulaAt nodes middle second end
-    pub ranged : Ranged (g .variables) first × Ranged (g .variables) second
-    pub fits : exceeds first (chain .D) (g .variables) ≡ false
-    pub fits′ : exceeds second (chain .D) (g .variables) ≡ false
-    pub room : paired (need first) (need second) * g .tuples ≤ length w
+    pub stands : TreeAt k nodes at first middle
+    pub follows : TreeAt k nodes middle second end
+    pub ranged : TreeRanged k (g .variables) first × TreeRanged k (g .variables) second
+    pub fits : treeExceeds k first (chain .D) (g .variables) ≡ false
+    pub fits′ : treeExceeds k second (chain .D) (g .variables) ≡ false
+    pub room : paired (treeNeed k first) (treeNeed k second) * g .tuples ≤ length w
 
-  -- two expressions, one after another
-  pub record ExpressionsReady (at : ℕ) (w : List ℕ) : Type 0 where
-    pub chain : Chain
-    pub fixed : Fixed chain masks rows g
-    pub few : g .variables ≤ mostVariables
-    pub first : Expression
-    pub second : Expression
-    pub middle : ℕ
-    pub end : ℕ
-    pub stands : ExpressionAt nodes at first middle
-    pub follows : ExpressionAt nodes middle second end
-    pub ranged : RangedIn (g .variables) first × RangedIn (g .variables) second
-    pub fits : exceedsIn first (chain .D) (g .variables) ≡ false
-    pub fits′ : exceedsIn second (chain .D) (g .variables) ≡ false
-    pub room : paired (needIn first) (needIn second) * g .tuples ≤ length w
+  -- what is left of whatever tree of the kind stands there and of whatever chain is held
+  pub record TreeDone (at : ℕ) (after : List ℕ) (next bottom : ℕ) : Type 0 where
+    pub each : (c : Chain) (t : Tree k) (q : ℕ) → Fixed c masks rows g → TreeAt k nodes at t q →
+        treeExceeds k t (c .D) (g .variables) ≡ false → Evaluated k g c t q after next bottom
 
-  -- Of whatever tree stands there and of whatever chain is held. A state formula: the place after it, and its truth in the
-  -- front layer
-  pub record FormulaDone (at : ℕ) (after : List ℕ) (r : ℕ) : Type 0 where
-    pub each : (c : Chain) (f : Formula) (q : ℕ) → Fixed c masks rows g → FormulaAt nodes at f q →
-        exceeds f (c .D) (g .variables) ≡ false →
-        (r ≡ q) × Layer (c .N) (g .variables) (truth (λ t. holds f c (g .variables) t)) after
+  -- of two of them
+  pub record TreesDone (at : ℕ) (after : List ℕ) (next first second : ℕ) : Type 0 where
+    pub each : (c : Chain) (t u : Tree k) (m q : ℕ) → Fixed c masks rows g → TreeAt k nodes at t m → TreeAt k nodes m u q →
+        treeExceeds k t (c .D) (g .variables) ≡ false → treeExceeds k u (c .D) (g .variables) ≡ false →
+        EvaluatedTwo k g c t u q after next first second
 
-  -- an expression: the place after it, its denominator, and its numerators in the front layer
-  pub record ExpressionDone (at : ℕ) (after : List ℕ) (r : Valued) : Type 0 where
-    pub each : (c : Chain) (a : Expression) (q : ℕ) → Fixed c masks rows g → ExpressionAt nodes at a q →
-        exceedsIn a (c .D) (g .variables) ≡ false →
-        (r .next ≡ q) × (r .bottom ≡ size a (c .D) (g .variables) .d) ×
-        Layer (c .N) (g .variables) (numeratorCodes a c (g .variables)) after
-
-  -- a path, likewise
-  pub record PathDone (at : ℕ) (after : List ℕ) (r : Valued) : Type 0 where
-    pub each : (c : Chain) (w : PathFormula) (q : ℕ) → Fixed c masks rows g → PathAt nodes at w q →
-        exceedsFrom w (c .D) (g .variables) ≡ false →
-        (r .next ≡ q) × (r .bottom ≡ denominator w (c .D) (g .variables)) ×
-        Layer (c .N) (g .variables) (numerator w c (g .variables)) after
-
-  -- two state formulas: the place after both, and their truths in the first two layers
-  pub record FormulasDone (at : ℕ) (after : List ℕ) (r : ℕ) : Type 0 where
-    pub each : (c : Chain) (f h : Formula) (m q : ℕ) → Fixed c masks rows g → FormulaAt nodes at f m →
-        FormulaAt nodes m h q →
-        exceeds f (c .D) (g .variables) ≡ false → exceeds h (c .D) (g .variables) ≡ false →
-        (r ≡ q) × Layer (c .N) (g .variables) (truth (λ t. holds f c (g .variables) t)) after ×
-        Layer (c .N) (g .variables) (truth (λ t. holds h c (g .variables) t)) (drop (g .tuples) after)
-
-  -- two expressions: the place after both, their denominators, and their numerators in the first two layers
-  pub record ExpressionsDone (at : ℕ) (after : List ℕ) (r : ValuedTwo) : Type 0 where
-    pub each : (c : Chain) (a b : Expression) (m q : ℕ) → Fixed c masks rows g → ExpressionAt nodes at a m →
-        ExpressionAt nodes m b q →
-        exceedsIn a (c .D) (g .variables) ≡ false → exceedsIn b (c .D) (g .variables) ≡ false →
-        (r .next ≡ q) × (r .first ≡ size a (c .D) (g .variables) .d) × (r .second ≡ size b (c .D) (g .variables) .d) ×
-        Layer (c .N) (g .variables) (numeratorCodes a c (g .variables)) after ×
-        Layer (c .N) (g .variables) (numeratorCodes b c (g .variables)) (drop (g .tuples) after)
+-- a path, whose denominator is at most 2^62 besides
+pub record PathReady (nodes : List Slot) (g : Setting) (masks : List ℕ) (rows : List (List ℕ)) (at : ℕ) (w : List ℕ) : Type 0 where
+  pub one : TreeReady PathKind nodes g masks rows at w
+  pub small : denominator (one .tree) (one .chain .D) (g .variables) ≤ sizeLimit
 
 -- ---- the path that stands at the places at..end, from the truth of its formulas
 
@@ -184,13 +174,11 @@ module _ (nodes : List Slot) (g : Setting) (rows : List (List ℕ)) where
 module _ (op : Operation) (nodes : List Slot) (g : Setting) (masks : List ℕ) (rows : List (List ℕ)) where
   -- they stand one after another, and the size rule does not refuse what is made of them
   pub record CombinedReady (at : ℕ) (w : List ℕ) : Type 0 where
-    pub two : ExpressionsReady nodes g masks rows at w
+    pub two : TreesReady ExpressionKind nodes g masks rows at w
     pub fits : exceedsIn (expressionOf op (two .first) (two .second)) (two .chain .D) (g .variables) ≡ false
 
   -- the place after both, the denominator of what is made of them, and its numerators in the front layer
-  pub record CombinedDone (at : ℕ) (after : List ℕ) (r : Valued) : Type 0 where
+  pub record CombinedDone (at : ℕ) (after : List ℕ) (next bottom : ℕ) : Type 0 where
     pub each : (c : Chain) (a b : Expression) (m q : ℕ) → Fixed c masks rows g → ExpressionAt nodes at a m →
-        ExpressionAt nodes m b q →
-        exceedsIn (expressionOf op a b) (c .D) (g .variables) ≡ false →
-        (r .next ≡ q) × (r .bottom ≡ size (expressionOf op a b) (c .D) (g .variables) .d) ×
-        Layer (c .N) (g .variables) (numeratorCodes (expressionOf op a b) c (g .variables)) after
+        ExpressionAt nodes m b q → exceedsIn (expressionOf op a b) (c .D) (g .variables) ≡ false →
+        Evaluated ExpressionKind g c (expressionOf op a b) q after next bottom

@@ -2,8 +2,8 @@
 // falling. Each evaluates the node at a place, with its own nodes, into the front layer of the work area, and returns the
 // place after them.
 ghost use mathlib.Core.Path.{_≡_};
-ghost use Rattle.evaluate.specs.Evaluation.{FormulaReady, ExpressionReady, PathReady, FormulasReady, ExpressionsReady, CombinedReady};
-ghost use Rattle.evaluate.specs.Evaluation.{FormulaDone, ExpressionDone, PathDone, FormulasDone, ExpressionsDone, CombinedDone};
+ghost use Rattle.sentence.specs.declared.Kind.the-variants.{State, Expression, Path};
+ghost use Rattle.evaluate.specs.Evaluation.{TreeReady, TreesReady, PathReady, CombinedReady, TreeDone, TreesDone, CombinedDone};
 use crate::Setting;
 use crate::Valued;
 use crate::ValuedTwo;
@@ -33,8 +33,8 @@ pub fn state_formula(
     at: usize,
     work: &mut [u64],
 ) -> usize
-    requires { ⌜ FormulaReady nodes g (now masks) (now rows) at (now work) ⌝ }
-    ensures { λ r. ⌜ FormulaDone nodes g (now (masks .entry)) (now (rows .entry)) at (now (work .exit)) r ⌝ }
+    requires { ⌜ TreeReady State nodes g (now masks) (now rows) at (now work) ⌝ }
+    ensures { λ r. ⌜ TreeDone State nodes g (now (masks .entry)) (now (rows .entry)) at (now (work .exit)) r 1 ⌝ }
 {
     let slot = nodes[at];
     let node = slot.node;
@@ -76,8 +76,8 @@ fn two_formulas(
     at: usize,
     work: &mut [u64],
 ) -> usize
-    requires { ⌜ FormulasReady nodes g (now masks) (now rows) at (now work) ⌝ }
-    ensures { λ r. ⌜ FormulasDone nodes g (now (masks .entry)) (now (rows .entry)) at (now (work .exit)) r ⌝ }
+    requires { ⌜ TreesReady State nodes g (now masks) (now rows) at (now work) ⌝ }
+    ensures { λ r. ⌜ TreesDone State nodes g (now (masks .entry)) (now (rows .entry)) at (now (work .exit)) r 1 1 ⌝ }
 {
     let tuples = g.tuples;
     let order = order_of(nodes, at);
@@ -99,8 +99,8 @@ fn expression(
     at: usize,
     work: &mut [u64],
 ) -> Valued
-    requires { ⌜ ExpressionReady nodes g (now masks) (now rows) at (now work) ⌝ }
-    ensures { λ r. ⌜ ExpressionDone nodes g (now (masks .entry)) (now (rows .entry)) at (now (work .exit)) r ⌝ }
+    requires { ⌜ TreeReady Expression nodes g (now masks) (now rows) at (now work) ⌝ }
+    ensures { λ r. ⌜ TreeDone Expression nodes g (now (masks .entry)) (now (rows .entry)) at (now (work .exit)) (r .next) (r .bottom) ⌝ }
 {
     let slot = nodes[at];
     let node = slot.node;
@@ -141,7 +141,7 @@ fn combined(
     work: &mut [u64],
 ) -> Valued
     requires { ⌜ CombinedReady op nodes g (now masks) (now rows) at (now work) ⌝ }
-    ensures { λ r. ⌜ CombinedDone op nodes g (now (masks .entry)) (now (rows .entry)) at (now (work .exit)) r ⌝ }
+    ensures { λ r. ⌜ CombinedDone op nodes g (now (masks .entry)) (now (rows .entry)) at (now (work .exit)) (r .next) (r .bottom) ⌝ }
 {
     let two = two_expressions(nodes, g, masks, rows, at, work);
     combine(op, two.first, two.second, g.tuples, work);
@@ -160,8 +160,9 @@ fn two_expressions(
     at: usize,
     work: &mut [u64],
 ) -> ValuedTwo
-    requires { ⌜ ExpressionsReady nodes g (now masks) (now rows) at (now work) ⌝ }
-    ensures { λ r. ⌜ ExpressionsDone nodes g (now (masks .entry)) (now (rows .entry)) at (now (work .exit)) r ⌝ }
+    requires { ⌜ TreesReady Expression nodes g (now masks) (now rows) at (now work) ⌝ }
+    ensures { λ r. ⌜ TreesDone Expression nodes g (now (masks .entry)) (now (rows .entry)) at (now (work .exit)) (r .next)
+        (r .first) (r .second) ⌝ }
 {
     let tuples = g.tuples;
     let order = order_of(nodes, at);
@@ -192,7 +193,7 @@ pub fn path(
     work: &mut [u64],
 ) -> Valued
     requires { ⌜ PathReady nodes g (now masks) (now rows) at (now work) ⌝ }
-    ensures { λ r. ⌜ PathDone nodes g (now (masks .entry)) (now (rows .entry)) at (now (work .exit)) r ⌝ }
+    ensures { λ r. ⌜ TreeDone Path nodes g (now (masks .entry)) (now (rows .entry)) at (now (work .exit)) (r .next) (r .bottom) ⌝ }
 {
     let slot = nodes[at];
     let node = slot.node;

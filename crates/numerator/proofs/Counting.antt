@@ -6,13 +6,13 @@ use native.Mathlib.Omega.{arith}
 use borrow.Author.Tests.{ltb-true, lt-ltb}
 use lib.ListN.{length, getD}
 use Rattle.model.specs.declared.Model.{Model}
+use Rattle.sentence.specs.declared.Kind.the-variants.{Path}
 use Rattle.sentence.specs.declared.Sentence.{Sentence}
 use Rattle.meaning.specs.Tree.{Formula, always, PathFormula, next, pathsOf}
 use Rattle.meaning.specs.Meaning.{numerator, denominator}
 use Rattle.meaning.specs.Size.{exceeds}
 use Rattle.evaluate.specs.declared.Setting.{Setting}
-use Rattle.evaluate.specs.declared.Valued.{Valued}
-use Rattle.evaluate.specs.Evaluation.{PathReady, PathDone}
+use Rattle.evaluate.specs.Evaluation.{PathReady, TreeDone}
 use Rattle.trees.specs.Ranged.{Ranged}
 use Rattle.chain.specs.Of.{chainOf, filledRows}
 use Rattle.paths.specs.Places.{PathPlace, TupleReady, TuplePlace}
@@ -67,23 +67,25 @@ module _ {m : Model} {s : Sentence} {g : Setting} {tuple : List ℕ} {number : �
         let f = found place in
         let few = sizes (a .ready) so .few in
         record {
-          chain = chainOf m;
-          fixed = fixed (a .ready) so e;
-          few = variables-few (a .ready) so;
-          path = getD (pathsOf body) number (next always);
-          end = f .end;
-          stands = f .stands;
-          ranged = f .ranged;
-          fits = f .fits;
+          one = record {
+            chain = chainOf m;
+            fixed = fixed (a .ready) so e;
+            few = variables-few (a .ready) so;
+            tree = getD (pathsOf body) number (next always);
+            end = f .end;
+            stands = f .stands;
+            ranged = f .ranged;
+            fits = f .fits;
+            room = layers-fit (a .ready) so (f .room) (omega (arith, few, long));
+          };
           small = f .small;
-          room = layers-fit (a .ready) so (f .room) (omega (arith, few, long));
         }
 
     -- the numerator at the tuple, and the denominator
-    pub counted-so : {after : List ℕ} {r : Valued} {k : ℕ} → PathDone (s .nodes) g (m .masks) rows at after r →
+    pub counted-so : {after : List ℕ} {end bottom k : ℕ} → TreeDone Path (s .nodes) g (m .masks) rows at after end bottom →
         TuplePlace (g .states) tuple k → {text : List ℕ} (b : TextOfSentence text s) →
         (getD after k 0 ≡ numerator (numbered (b .body) number) (chainOf m) (s .letters) tuple) ×
-        (r .bottom ≡ denominator (numbered (b .body) number) (m .d) (s .letters))
+        (bottom ≡ denominator (numbered (b .body) number) (m .d) (s .letters))
     unfolding numbered
     counted-so {k = k} done index b =
         let c = chainOf m in

@@ -6,6 +6,7 @@ use mathlib.Core.Path.{_≡_, sym, ap, ap₂, subst, _∙_}
 use native.Mathlib.Omega.{arith}
 use lib.ListN.{length, take, length-map}
 use Rattle.model.specs.declared.Model.{Model}
+use Rattle.sentence.specs.declared.Kind.the-variants.{State}
 use Rattle.sentence.specs.declared.Sentence.{Sentence}
 use Rattle.sentence.specs.Record.{prefixOf}
 use Rattle.sentence.proofs.Records.{same-sentence}
@@ -14,7 +15,7 @@ use Rattle.meaning.specs.Meaning.{holds, verdict}
 use Rattle.meaning.specs.Size.{exceeds}
 use Rattle.layers.specs.Layers.{Layer, truth}
 use Rattle.evaluate.specs.declared.Setting.{Setting}
-use Rattle.evaluate.specs.Evaluation.{FormulaReady, FormulaDone}
+use Rattle.evaluate.specs.Evaluation.{TreeReady, TreeDone}
 use Rattle.descent.specs.Descent.{descended, lettersFrom, DescentReady}
 use Rattle.descent.proofs.Laws.{descent-is}
 use Rattle.trees.specs.Listed.{formulaNodes}
@@ -29,7 +30,7 @@ use Rattle.question.specs.Contract.{areaSize}
 module _ {m : Model} {s : Sentence} {g : Setting} {rows : List (List ℕ)} (r : Ready m s) (so : SettingOf m s g)
     (e : rows ≡ filledRows m) where
   -- the body can be evaluated
-  pub formula-ready : {w : List ℕ} → length w ≡ areaSize → FormulaReady (s .nodes) g (m .masks) rows 0 w
+  pub formula-ready : {w : List ℕ} → length w ≡ areaSize → TreeReady State (s .nodes) g (m .masks) rows 0 w
   formula-ready long =
       let b = r .read .sentence in
       let few = sizes r so .few in
@@ -37,7 +38,7 @@ module _ {m : Model} {s : Sentence} {g : Setting} {rows : List (List ℕ)} (r : 
         chain = chainOf m;
         fixed = fixed r so e;
         few = variables-few r so;
-        formula = b .body;
+        tree = b .body;
         end = length (formulaNodes (b .body));
         stands = stands b;
         ranged = subst (λ (k : ℕ). Ranged k (b .body)) (sym (so .variables)) (body-ranged b);
@@ -68,7 +69,7 @@ module _ {m : Model} {s : Sentence} {g : Setting} {rows : List (List ℕ)} (r : 
       ap (map letterOf) (same-sentence (b .prefix) (formulaNodes (b .body)) .0)
 
   -- the descent over the body's layer decides the sentence
-  pub judged-so : {after : List ℕ} {next : ℕ} {t : Bool} → FormulaDone (s .nodes) g (m .masks) rows 0 after next →
+  pub judged-so : {after : List ℕ} {next : ℕ} {t : Bool} → TreeDone State (s .nodes) g (m .masks) rows 0 after next 1 →
       t ≡ descended (g .states) (lettersFrom (s .exists) (g .variables) 0) 0 after → {text : List ℕ} (b : TextOfSentence text s) →
       t ≡ verdict (chainOf m) (map letterOf (b .prefix)) (b .body)
   unfolding verdict
@@ -78,7 +79,7 @@ module _ {m : Model} {s : Sentence} {g : Setting} {rows : List (List ℕ)} (r : 
       let fits = ap₂ (λ (f : Formula) (k : ℕ). exceeds f (m .d) k) (same .1) (so .variables) ∙ r .small in
       let long : g .variables ≡ length (map letterOf (b .prefix)) = so .variables ∙ letters-length b ∙
       sym (length-map (b .prefix) letterOf) in
-      let layer = done .each c (b .body) _ (fixed r so e) (stands b) fits .1 in
+      let layer = done .each c (b .body) _ (fixed r so e) (stands b) fits .2 in
       h ∙
       ap₂ (λ (n : ℕ) (ls : List Letter). descended n ls 0 after) (so .states) (letters-are b) ∙
       descent-is c (holds (b .body) c (length (map letterOf (b .prefix)))) after (map letterOf (b .prefix))

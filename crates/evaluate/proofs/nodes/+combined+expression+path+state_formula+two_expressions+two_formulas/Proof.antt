@@ -4,20 +4,19 @@ use borrow.Author.Needs.{needs}
 use mathlib.Core.List.{_++_}
 use lib.ListN.{length, take, drop}
 use Rattle.layers.proofs.Tails.{Back, put-back}
-use Rattle.evaluate.proofs.Expressions.{expression-inside, expression-room, probability-ready, sum-ready}
-use Rattle.evaluate.proofs.Expressions.{difference-ready, product-ready}
+use Rattle.evaluate.proofs.Trees.{tree-inside, tree-room}
+use Rattle.evaluate.proofs.Expressions.{probability-ready, sum-ready, difference-ready, product-ready}
 use Rattle.evaluate.proofs.Expressions.{combining-ready, bottoms-small, combined-done, probability-done}
 use Rattle.evaluate.proofs.Expressions.{constant-done, sum-done, difference-done, product-done}
-use Rattle.evaluate.proofs.Formulas.{formula-inside, formula-room, label-ready, not-ready, and-ready}
-use Rattle.evaluate.proofs.Formulas.{compare-ready, comparing-ready}
+use Rattle.evaluate.proofs.Formulas.{label-ready, not-ready, and-ready, compare-ready, comparing-ready}
 use Rattle.evaluate.proofs.Formulas.{true-done, label-done, not-done, and-done, compare-done}
-use Rattle.evaluate.proofs.Operands.{forward-first, forward-then, formulas-inside, formulas-room, formula-first, formula-then}
-use Rattle.evaluate.proofs.Operands.{formulas-standing, formulas-exchanged, expressions-inside, expressions-room}
-use Rattle.evaluate.proofs.Operands.{expression-first, expression-then, expressions-standing, expressions-exchanged}
-use Rattle.evaluate.proofs.Others.{no-formula, no-expression, no-path}
-use Rattle.evaluate.proofs.Pathways.{path-inside, next-ready, stepping-ready, until-ready, taking-ready, next-done, until-done}
+use Rattle.evaluate.proofs.Operands.{forward-first, forward-then, trees-inside, trees-room, comes-first, comes-then}
+use Rattle.evaluate.proofs.Operands.{trees-standing, trees-exchanged}
+use Rattle.evaluate.proofs.Others.{no-tree}
+use Rattle.evaluate.proofs.Pathways.{next-ready, stepping-ready, until-ready, taking-ready, next-done, until-done}
 use Rattle.evaluate.proofs.Places.{to-operand, to-operands, to-operation, to-each, place-most, next-fits}
 use Rattle.evaluate.proofs.Places.{place-fits, small-fits, room-kept, front-kept}
+use Rattle.sentence.specs.declared.Kind.the-variants.{State, Expression, Path}
 use Prim.Native.Nat.{ℕ, _+_, _-_, _*_, _<_}
 use mir.Syntax.{w64}
 use mir.Val.{Fits}
@@ -237,32 +236,32 @@ combined-returns t c =
 -- the place after the node is a number of 64 bits
 expression-next : (t : ℕ) (start : expression-lts.Start (expression-claims t) (expression-at t) expression.Post) →
     Fits w64 (start .args .at + 1)
-expression-next t start = next-fits (start .args .at) (expression-inside (start .pre .1))
+expression-next t start = next-fits (start .args .at) (tree-inside (start .pre .1))
 
 expression-mul-slot : (t : ℕ) → expression-lts.Need-mul-slot (expression-claims t) (expression-at t) expression.Post
-expression-mul-slot t c = place-fits (c .before .args .at) (expression-inside (c .before .pre .1))
+expression-mul-slot t c = place-fits (c .before .args .at) (tree-inside (c .before .pre .1))
 
 expression-array-copy-out-slot : (t : ℕ) → expression-lts.Need-array-copy-out-slot (expression-claims t)
     (expression-at t) expression.Post
-expression-array-copy-out-slot t c = expression-inside (c .before .pre .1)
+expression-array-copy-out-slot t c = tree-inside (c .before .pre .1)
 
 expression-path-requires : (t : ℕ) → expression-lts.Need-path-requires (expression-claims t) (expression-at t)
     expression.Post
 expression-path-requires t c κs =
     let start = c .before .before .before .before .before in (
-      to-operand (start .args .at) t (expression-inside (start .pre .1)) (start .pre .0),
+      to-operand (start .args .at) t (tree-inside (start .pre .1)) (start .pre .0),
       probability-ready (start .pre .1) (c .before .enum-told .given .1),
     )
 
 expression-constant-requires : (t : ℕ) → expression-lts.Need-constant-requires (expression-claims t) (expression-at t)
     expression.Post
-expression-constant-requires t c κs = expression-room (c .before .before .before .before .before .before .pre .1)
+expression-constant-requires t c κs = tree-room (c .before .before .before .before .before .before .pre .1)
 
 expression-combined-requires : (t : ℕ) → expression-lts.Need-combined-requires (expression-claims t) (expression-at t)
     expression.Post
 expression-combined-requires t c κs =
     let start = c .before .before .before .before .before in (
-      to-operation (start .args .at) t (expression-inside (start .pre .1)) (start .pre .0),
+      to-operation (start .args .at) t (tree-inside (start .pre .1)) (start .pre .0),
       sum-ready (start .pre .1) (c .before .enum-told2 .given .1),
     )
 
@@ -270,7 +269,7 @@ expression-combined-requires-2 : (t : ℕ) → expression-lts.Need-combined-requ
     (expression-at t) expression.Post
 expression-combined-requires-2 t c κs =
     let start = c .before .before .before .before .before in (
-      to-operation (start .args .at) t (expression-inside (start .pre .1)) (start .pre .0),
+      to-operation (start .args .at) t (tree-inside (start .pre .1)) (start .pre .0),
       difference-ready (start .pre .1) (c .before .enum-told3 .given .1),
     )
 
@@ -278,7 +277,7 @@ expression-combined-requires-3 : (t : ℕ) → expression-lts.Need-combined-requ
     (expression-at t) expression.Post
 expression-combined-requires-3 t c κs =
     let start = c .before .before .before .before .before in (
-      to-operation (start .args .at) t (expression-inside (start .pre .1)) (start .pre .0),
+      to-operation (start .args .at) t (tree-inside (start .pre .1)) (start .pre .0),
       product-ready (start .pre .1) (c .before .enum-told4 .given .1),
     )
 
@@ -304,22 +303,22 @@ expression-returns-5 t c =
     product-done (c .before .before .before .before .enum-told4 .given .1) (c .before .before .combined3 .ensures)
 
 expression-returns-6 : (t : ℕ) → expression-lts.Need-returns-6 (expression-claims t) (expression-at t) expression.Post
-expression-returns-6 t c = no-expression (c .before .match .keys6)
+expression-returns-6 t c = no-tree Expression (c .before .match .keys6)
 
 -- the place after the node is a number of 64 bits
 path-next : (t : ℕ) (start : path-lts.Start (path-claims t) (path-at t) path.Post) → Fits w64 (start .args .at + 1)
-path-next t start = next-fits (start .args .at) (path-inside (start .pre .1))
+path-next t start = next-fits (start .args .at) (tree-inside (start .pre .1 .one))
 
 path-mul-slot : (t : ℕ) → path-lts.Need-mul-slot (path-claims t) (path-at t) path.Post
-path-mul-slot t c = place-fits (c .before .args .at) (path-inside (c .before .pre .1))
+path-mul-slot t c = place-fits (c .before .args .at) (tree-inside (c .before .pre .1 .one))
 
 path-array-copy-out-slot : (t : ℕ) → path-lts.Need-array-copy-out-slot (path-claims t) (path-at t) path.Post
-path-array-copy-out-slot t c = path-inside (c .before .pre .1)
+path-array-copy-out-slot t c = tree-inside (c .before .pre .1 .one)
 
 path-state-formula-requires : (t : ℕ) → path-lts.Need-state-formula-requires (path-claims t) (path-at t) path.Post
 path-state-formula-requires t c κs =
     let start = c .before .before .before .before .before in (
-      to-operand (start .args .at) t (path-inside (start .pre .1)) (start .pre .0),
+      to-operand (start .args .at) t (tree-inside (start .pre .1 .one)) (start .pre .0),
       next-ready (start .pre .1) (c .before .enum-told .given .1),
     )
 
@@ -334,7 +333,7 @@ path-two-formulas-requires : (t : ℕ) → path-lts.Need-two-formulas-requires (
 path-two-formulas-requires t c κs =
     let start = c .before .before .before .before .before .before in
     let node = c .before .before .node .given in (
-      to-operands (start .args .at) t (path-inside (start .pre .1)) (start .pre .0),
+      to-operands (start .args .at) t (tree-inside (start .pre .1 .one)) (start .pre .0),
       until-ready (start .pre .1) (node .0 .0) (node .0 .1 .0) (node .1),
     )
 
@@ -348,36 +347,36 @@ path-until-within-requires t c κs =
 path-returns : (t : ℕ) → path-lts.Need-returns (path-claims t) (path-at t) path.Post
 path-returns t c =
     let told = c .before .before .before .before .before .before .before .before in
-    next-done (told .before .before .before .before .pre .1 .few) (told .enum-told .given .1)
+    next-done (told .before .before .before .before .pre .1 .one .few) (told .enum-told .given .1)
     (c .before .before .before .before .before .before .state-formula .ensures) (c .before .before .next-within .ensures)
 
 path-returns-2 : (t : ℕ) → path-lts.Need-returns-2 (path-claims t) (path-at t) path.Post
 path-returns-2 t c =
     let told = c .before .before .before .before .before .before .before .before .before in
     let node = told .node .given in
-    until-done (told .before .before .before .before .pre .1 .few) (node .0 .0) (node .0 .1 .0) (node .1)
+    until-done (told .before .before .before .before .pre .1 .one .few) (node .0 .0) (node .0 .1 .0) (node .1)
     (c .before .before .before .before .before .before .two-formulas .ensures) (c .before .before .until-within .ensures)
 
 path-returns-3 : (t : ℕ) → path-lts.Need-returns-3 (path-claims t) (path-at t) path.Post
-path-returns-3 t c = no-path (c .before .match .keys3)
+path-returns-3 t c = no-tree Path (c .before .match .keys3)
 
 -- the place after the node is a number of 64 bits
 state-formula-next : (t : ℕ)
     (start : state-formula-lts.Start (state-formula-claims t) (state-formula-at t) state-formula.Post) →
     Fits w64 (start .args .at + 1)
-state-formula-next t start = next-fits (start .args .at) (formula-inside (start .pre .1))
+state-formula-next t start = next-fits (start .args .at) (tree-inside (start .pre .1))
 
 state-formula-mul-slot : (t : ℕ) → state-formula-lts.Need-mul-slot (state-formula-claims t) (state-formula-at t)
     state-formula.Post
-state-formula-mul-slot t c = place-fits (c .before .args .at) (formula-inside (c .before .pre .1))
+state-formula-mul-slot t c = place-fits (c .before .args .at) (tree-inside (c .before .pre .1))
 
 state-formula-array-copy-out-slot : (t : ℕ) → state-formula-lts.Need-array-copy-out-slot (state-formula-claims t)
     (state-formula-at t) state-formula.Post
-state-formula-array-copy-out-slot t c = formula-inside (c .before .pre .1)
+state-formula-array-copy-out-slot t c = tree-inside (c .before .pre .1)
 
 state-formula-always-requires : (t : ℕ) → state-formula-lts.Need-always-requires (state-formula-claims t)
     (state-formula-at t) state-formula.Post
-state-formula-always-requires t c κs = formula-room (c .before .before .before .before .before .pre .1)
+state-formula-always-requires t c κs = tree-room (c .before .before .before .before .before .pre .1)
 
 state-formula-label-requires : (t : ℕ) → state-formula-lts.Need-label-requires (state-formula-claims t)
     (state-formula-at t) state-formula.Post
@@ -390,28 +389,28 @@ state-formula-state-formula-requires : (t : ℕ) → state-formula-lts.Need-stat
     (state-formula-at t) state-formula.Post
 state-formula-state-formula-requires t c κs =
     let start = c .before .before .before .before .before in (
-      to-operand (start .args .at) t (formula-inside (start .pre .1)) (start .pre .0),
+      to-operand (start .args .at) t (tree-inside (start .pre .1)) (start .pre .0),
       not-ready (start .pre .1) (c .before .enum-told2 .given .1),
     )
 
 state-formula-negated-requires : (t : ℕ) → state-formula-lts.Need-negated-requires (state-formula-claims t)
     (state-formula-at t) state-formula.Post
 state-formula-negated-requires t c κs =
-    room-kept (formula-room (c .before .before .before .before .before .before .before .before .before .pre .1))
+    room-kept (tree-room (c .before .before .before .before .before .before .before .before .before .pre .1))
     (c .before .before .before .state-formula .kept .1 .1 .1 .1 .1 .0)
 
 state-formula-two-formulas-requires : (t : ℕ) → state-formula-lts.Need-two-formulas-requires (state-formula-claims t)
     (state-formula-at t) state-formula.Post
 state-formula-two-formulas-requires t c κs =
     let start = c .before .before .before .before .before in (
-      to-operands (start .args .at) t (formula-inside (start .pre .1)) (start .pre .0),
+      to-operands (start .args .at) t (tree-inside (start .pre .1)) (start .pre .0),
       and-ready (start .pre .1) (c .before .enum-told3 .given .1),
     )
 
 state-formula-both-requires : (t : ℕ) → state-formula-lts.Need-both-requires (state-formula-claims t)
     (state-formula-at t) state-formula.Post
 state-formula-both-requires t c κs =
-    room-kept (formulas-room (and-ready
+    room-kept (trees-room (and-ready
     (c .before .before .before .before .before .before .before .before .before .pre .1)
     (c .before .before .before .before .before .enum-told3 .given .1)))
     (c .before .before .before .two-formulas .kept .1 .1 .1 .1 .1 .0)
@@ -421,7 +420,7 @@ state-formula-two-expressions-requires : (t : ℕ) →
 state-formula-two-expressions-requires t c κs =
     let start = c .before .before .before .before .before .before in
     let node = c .before .before .node2 .given in (
-      to-operands (start .args .at) t (formula-inside (start .pre .1)) (start .pre .0),
+      to-operands (start .args .at) t (tree-inside (start .pre .1)) (start .pre .0),
       compare-ready (start .pre .1) (node .0 .0) (node .1),
     )
 
@@ -470,13 +469,13 @@ state-formula-returns-5 t c =
 
 state-formula-returns-6 : (t : ℕ) → state-formula-lts.Need-returns-6 (state-formula-claims t) (state-formula-at t)
     state-formula.Post
-state-formula-returns-6 t c = no-formula (c .match .keys6)
+state-formula-returns-6 t c = no-tree State (c .match .keys6)
 
 -- ---- two expressions
 
 two-expressions-order-of-requires : (t : ℕ) → two-expressions-lts.Need-order-of-requires (two-expressions-claims t) (two-expressions-at t)
     two-expressions.Post
-two-expressions-order-of-requires t c κs = place-most (c .before .args .at) (expressions-inside (c .before .pre .1))
+two-expressions-order-of-requires t c κs = place-most (c .before .args .at) (trees-inside (c .before .pre .1))
 
 two-expressions-expression-requires : (t : ℕ) →
     two-expressions-lts.Need-expression-requires (two-expressions-claims t) (two-expressions-at t)
@@ -484,14 +483,14 @@ two-expressions-expression-requires : (t : ℕ) →
 two-expressions-expression-requires t c κs =
     let order = c .before .order-of .ensures in
     let start = c .before .before .before in
-    (to-each (start .args .at) _ t (start .pre .0) (forward-first order), expression-first (start .pre .1) order)
+    (to-each (start .args .at) _ t (start .pre .0) (forward-first order), comes-first (start .pre .1) order)
 
 two-expressions-sub-expression : (t : ℕ) → two-expressions-lts.Need-sub-expression (two-expressions-claims t) (two-expressions-at t)
     two-expressions.Post
 two-expressions-sub-expression t c =
     let called = c .before .before in
     let start = called .before .before .before .before in
-    front-kept (start .args .g .tuples) (expressions-room (start .pre .1)) (called .expression .kept .1 .1 .1 .1 .1 .0)
+    front-kept (start .args .g .tuples) (trees-room (start .pre .1)) (called .expression .kept .1 .1 .1 .1 .1 .0)
 
 two-expressions-expression-requires-2 : (t : ℕ) →
     two-expressions-lts.Need-expression-requires-2 (two-expressions-claims t) (two-expressions-at t)
@@ -501,7 +500,7 @@ two-expressions-expression-requires-2 t c κs =
     let order = called .before .before .order-of .ensures in
     let start = called .before .before .before .before in (
       to-each (start .args .at) _ t (start .pre .0) (forward-then order),
-      expression-then (start .pre .1) order (called .expression .last .1 .1 .1 .1 .1 .0) (called .expression .kept .1 .1 .1 .1 .1 .0),
+      comes-then (start .pre .1) order (called .expression .last .1 .1 .1 .1 .1 .0) (called .expression .kept .1 .1 .1 .1 .1 .0),
     )
 
 -- the work area after both
@@ -517,7 +516,7 @@ two-expressions-back t c =
     let start = called .before .before .before .before in
     let T = start .args .g .tuples in
     put-back T (called .expression .last .1 .1 .1 .1 .1 .0) (c .expression2 .last .1 .1 .1 .1 .1 .0)
-    (front-kept T (expressions-room (start .pre .1)) (called .expression .kept .1 .1 .1 .1 .1 .0)) (c .expression2 .kept .1 .1 .1 .1 .1 .0)
+    (front-kept T (trees-room (start .pre .1)) (called .expression .kept .1 .1 .1 .1 .1 .0)) (c .expression2 .kept .1 .1 .1 .1 .1 .0)
 
 two-expressions-swap-requires : (t : ℕ) → two-expressions-lts.Need-swap-requires (two-expressions-claims t) (two-expressions-at t)
     two-expressions.Post
@@ -525,7 +524,7 @@ two-expressions-swap-requires t c κs =
     let other = c .before .before .before .before in
     let called = other .before .before .before .before in
     let start = called .before .before .before .before in
-    room-kept (room-kept (expressions-room (start .pre .1)) (called .expression .kept .1 .1 .1 .1 .1 .0))
+    room-kept (room-kept (trees-room (start .pre .1)) (called .expression .kept .1 .1 .1 .1 .1 .0))
     (two-expressions-back t other .long)
 
 two-expressions-returns : (t : ℕ) → two-expressions-lts.Need-returns (two-expressions-claims t) (two-expressions-at t)
@@ -534,7 +533,7 @@ two-expressions-returns t c =
     let swapped = c .before .before in
     let other = swapped .before .before .before .before .before in
     let called = other .before .before .before .before in
-    expressions-exchanged (called .before .before .order-of .ensures) (two-expressions-back t other) (called .expression .ensures)
+    trees-exchanged (called .before .before .order-of .ensures) (two-expressions-back t other) (called .expression .ensures)
     (other .expression2 .ensures) (swapped .before .before .if1 .taken) (swapped .swap .ensures)
 
 two-expressions-returns-2 : (t : ℕ) → two-expressions-lts.Need-returns-2 (two-expressions-claims t) (two-expressions-at t)
@@ -542,28 +541,28 @@ two-expressions-returns-2 : (t : ℕ) → two-expressions-lts.Need-returns-2 (tw
 two-expressions-returns-2 t c =
     let other = c .before .before .before in
     let called = other .before .before .before .before in
-    expressions-standing (called .before .before .order-of .ensures) (two-expressions-back t other) (called .expression .ensures)
+    trees-standing (called .before .before .order-of .ensures) (two-expressions-back t other) (called .expression .ensures)
     (other .expression2 .ensures) (c .if1 .left)
 
 -- ---- two state formulas
 
 two-formulas-order-of-requires : (t : ℕ) → two-formulas-lts.Need-order-of-requires (two-formulas-claims t) (two-formulas-at t)
     two-formulas.Post
-two-formulas-order-of-requires t c κs = place-most (c .before .args .at) (formulas-inside (c .before .pre .1))
+two-formulas-order-of-requires t c κs = place-most (c .before .args .at) (trees-inside (c .before .pre .1))
 
 two-formulas-state-formula-requires : (t : ℕ) → two-formulas-lts.Need-state-formula-requires (two-formulas-claims t) (two-formulas-at t)
     two-formulas.Post
 two-formulas-state-formula-requires t c κs =
     let order = c .before .order-of .ensures in
     let start = c .before .before .before in
-    (to-each (start .args .at) _ t (start .pre .0) (forward-first order), formula-first (start .pre .1) order)
+    (to-each (start .args .at) _ t (start .pre .0) (forward-first order), comes-first (start .pre .1) order)
 
 two-formulas-sub-state-formula : (t : ℕ) → two-formulas-lts.Need-sub-state-formula (two-formulas-claims t) (two-formulas-at t)
     two-formulas.Post
 two-formulas-sub-state-formula t c =
     let called = c .before .before in
     let start = called .before .before .before .before in
-    front-kept (start .args .g .tuples) (formulas-room (start .pre .1)) (called .state-formula .kept .1 .1 .1 .1 .1 .0)
+    front-kept (start .args .g .tuples) (trees-room (start .pre .1)) (called .state-formula .kept .1 .1 .1 .1 .1 .0)
 
 two-formulas-state-formula-requires-2 : (t : ℕ) → two-formulas-lts.Need-state-formula-requires-2 (two-formulas-claims t) (two-formulas-at t)
     two-formulas.Post
@@ -572,7 +571,7 @@ two-formulas-state-formula-requires-2 t c κs =
     let order = called .before .before .order-of .ensures in
     let start = called .before .before .before .before in (
       to-each (start .args .at) _ t (start .pre .0) (forward-then order),
-      formula-then (start .pre .1) order (called .state-formula .last .1 .1 .1 .1 .1 .0) (called .state-formula .kept .1 .1 .1 .1 .1 .0),
+      comes-then (start .pre .1) order (called .state-formula .last .1 .1 .1 .1 .1 .0) (called .state-formula .kept .1 .1 .1 .1 .1 .0),
     )
 
 -- the work area after both
@@ -587,7 +586,7 @@ two-formulas-back t c =
     let start = called .before .before .before .before in
     let T = start .args .g .tuples in
     put-back T (called .state-formula .last .1 .1 .1 .1 .1 .0) (c .state-formula2 .last .1 .1 .1 .1 .1 .0)
-    (front-kept T (formulas-room (start .pre .1)) (called .state-formula .kept .1 .1 .1 .1 .1 .0))
+    (front-kept T (trees-room (start .pre .1)) (called .state-formula .kept .1 .1 .1 .1 .1 .0))
     (c .state-formula2 .kept .1 .1 .1 .1 .1 .0)
 
 two-formulas-swap-requires : (t : ℕ) → two-formulas-lts.Need-swap-requires (two-formulas-claims t) (two-formulas-at t)
@@ -596,7 +595,7 @@ two-formulas-swap-requires t c κs =
     let other = c .before .before .before .before in
     let called = other .before .before .before .before in
     let start = called .before .before .before .before in
-    room-kept (room-kept (formulas-room (start .pre .1)) (called .state-formula .kept .1 .1 .1 .1 .1 .0)) (two-formulas-back t other .long)
+    room-kept (room-kept (trees-room (start .pre .1)) (called .state-formula .kept .1 .1 .1 .1 .1 .0)) (two-formulas-back t other .long)
 
 two-formulas-returns : (t : ℕ) → two-formulas-lts.Need-returns (two-formulas-claims t) (two-formulas-at t)
     two-formulas.Post
@@ -604,7 +603,7 @@ two-formulas-returns t c =
     let swapped = c .before .before in
     let other = swapped .before .before .before .before .before in
     let called = other .before .before .before .before in
-    formulas-exchanged (called .before .before .order-of .ensures) (two-formulas-back t other) (called .state-formula .ensures)
+    trees-exchanged (called .before .before .order-of .ensures) (two-formulas-back t other) (called .state-formula .ensures)
     (other .state-formula2 .ensures) (swapped .before .before .if1 .taken) (swapped .swap .ensures)
 
 two-formulas-returns-2 : (t : ℕ) → two-formulas-lts.Need-returns-2 (two-formulas-claims t) (two-formulas-at t)
@@ -612,7 +611,7 @@ two-formulas-returns-2 : (t : ℕ) → two-formulas-lts.Need-returns-2 (two-form
 two-formulas-returns-2 t c =
     let other = c .before .before .before in
     let called = other .before .before .before .before in
-    formulas-standing (called .before .before .order-of .ensures) (two-formulas-back t other) (called .state-formula .ensures)
+    trees-standing (called .before .before .order-of .ensures) (two-formulas-back t other) (called .state-formula .ensures)
     (other .state-formula2 .ensures) (c .if1 .left)
 
 -- ---- all six
