@@ -2,7 +2,7 @@
 -- both.
 use Prim.Native.Nat.{ℕ, _+_, _-_, _*_, _^_, _≤_, _<_}
 use mathlib.Core.Bool.{true, false, true≢false}
-use mathlib.Core.List.{List}
+use mathlib.Core.List.{List, _++_}
 use mathlib.Core.Path.{_≡_, sym, ap, subst, _∙_}
 use native.Mathlib.Omega.{arith}
 use lib.ListN.{length, take, drop, length-drop}
@@ -10,7 +10,7 @@ use Rattle.sentence.specs.declared.Kind.{Kind}
 use Rattle.sentence.specs.declared.Slot.{Slot}
 use Rattle.meaning.specs.Chain.{Chain, Tuple}
 use Rattle.layers.specs.Layers.{Layer, Swapped}
-use Rattle.layers.proofs.Tails.{Back, lent-tail}
+use Rattle.layers.proofs.Tails.{Back, lent-tail, put-back}
 use Rattle.layers.proofs.Swapping.{front-swapped, next-swapped}
 use Rattle.trees.specs.Need.{paired}
 use Rattle.trees.proofs.Exists.{Tree}
@@ -21,6 +21,7 @@ use Rattle.evaluate.specs.declared.Setting.{Setting}
 use Rattle.evaluate.specs.Evaluation.{Fixed, TreeAt, treeNeed, EvaluatedTwo, TreeReady, TreesReady, TreeDone, TreesDone}
 use Rattle.evaluate.proofs.Needing.{paired-first, paired-second, paired-smaller, paired-smaller-first, paired-two}
 use Rattle.evaluate.proofs.Needing.{room-of, room-past}
+use Rattle.evaluate.proofs.Places.{to-each, room-kept, front-kept}
 use Rattle.evaluate.proofs.Fixing.{tuple-count}
 use Rattle.evaluate.proofs.Trees.{tree-need, tree-place, tree-surveyed, tree-ready}
 
@@ -80,10 +81,10 @@ by-crossing A B (standing e f c h) turned go a b = absurd (true≢false (sym tur
 by-crossing A B (crossing e f c h) turned go a b = go (subst A e a) (subst B f b)
 
 -- both begin at the place or past it
-pub forward-first : {slots : List Slot} {at : ℕ} {r : Order} → Ordered slots at r → at ≤ r .first
+forward-first : {slots : List Slot} {at : ℕ} {r : Order} → Ordered slots at r → at ≤ r .first
 forward-first {at = at} o = at-first (λ k. at ≤ k) (o .chosen) (omega arith) (o .surveyed .forward)
 
-pub forward-then : {slots : List Slot} {at : ℕ} {r : Order} → Ordered slots at r → at ≤ r .then
+forward-then : {slots : List Slot} {at : ℕ} {r : Order} → Ordered slots at r → at ≤ r .then
 forward-then {at = at} o = at-then (λ k. at ≤ k) (o .chosen) (λ h. o .surveyed .forward) (λ h. omega arith)
 
 -- ---- two trees of a kind
@@ -94,15 +95,36 @@ follows-survey : (k : Kind) {nodes : List Slot} {at : ℕ} {one : Extent} → Tr
 follows-survey k {nodes} s t u m q stands follows =
     subst (λ (p : ℕ). TreeAt k nodes p u q) (sym (tree-surveyed k s t m stands .0)) follows
 
+-- what is left of both, by what is left of each and where their layers come to lie
+both-left : {k : Kind} {nodes : List Slot} {g : Setting} {masks : List ℕ} {rows : List (List ℕ)} {at : ℕ} {one : Extent} →
+    TreeSurveyed nodes at one → {v v′ after : List ℕ} {next bottom next′ bottom′ : ℕ} →
+    ((c : Chain) → Fixed c masks rows g → (f h : Tuple → ℕ) → Layer (c .N) (g .variables) f v → Layer (c .N) (g .variables) h v′ →
+    Layer (c .N) (g .variables) f after × Layer (c .N) (g .variables) h (drop (g .tuples) after)) →
+    TreeDone k nodes g masks rows at v next bottom → TreeDone k nodes g masks rows (one .next) v′ next′ bottom′ →
+    TreesDone k nodes g masks rows at after next′ bottom bottom′
+both-left {k} s lie first second = record {
+  each = λ c t u m q fixed stands follows small small′.
+      let x = first .each c t m fixed stands small in
+      let y = second .each c u q fixed (follows-survey k s t u m q stands follows) small′ in
+      let both = lie c fixed _ _ (x .2) (y .2) in
+      (y .0, x .1, y .1, both .0, both .1);
+}
+
 module _ {k : Kind} {nodes : List Slot} {g : Setting} {masks : List ℕ} {rows : List (List ℕ)} {at : ℕ} {w : List ℕ}
     (ready : TreesReady k nodes g masks rows at w) where
   -- there is a place for the first node
-  pub trees-inside : at < 64
-  trees-inside = tree-place k nodes at (ready .first) (ready .middle) (ready .stands)
+  pub trees-inside : at ≤ 64
+  trees-inside =
+      let h = tree-place k nodes at (ready .first) (ready .middle) (ready .stands) in
+      omega arith
 
   -- room for both layers
   pub trees-room : g .tuples + g .tuples ≤ length w
   trees-room = two-room (g .tuples) (tree-need k (ready .first)) (tree-need k (ready .second)) (ready .room)
+
+  -- and for the front one, after a call
+  pub front-room : {long : ℕ} → long ≡ length w → g .tuples ≤ long
+  front-room = front-kept (g .tuples) trees-room
 
   -- what is left of both
   pub trees-left : {after : List ℕ} {next first second : ℕ} → TreesDone k nodes g masks rows at after next first second →
@@ -125,58 +147,59 @@ module _ {k : Kind} {nodes : List Slot} {g : Setting} {masks : List ℕ} {rows :
     second-ready v = tree-ready (ready .fixed) (ready .few) k (ready .second) (ready .end) after-first (ready .ranged .1) (ready .fits′)
 
     -- so the one that comes first in all of the work area,
-    pub comes-first : TreeReady k nodes g masks rows (r .first) w
-    comes-first =
+    pub comes-first : {t : ℕ} → 3 * (64 - at) + 1 ≡ t → (3 * (64 - r .first) < t) × TreeReady k nodes g masks rows (r .first) w
+    comes-first {t} measure =
         let a = treeNeed k (ready .first) in
-        let b = treeNeed k (ready .second) in
-        at-first (λ p. TreeReady k nodes g masks rows p w) (o .chosen)
-        (first-ready w (room-of (g .tuples) (paired-first a b) (ready .room)))
-        (second-ready w (room-of (g .tuples) (paired-second a b) (ready .room)))
+        let b = treeNeed k (ready .second) in (
+          to-each at (r .first) t measure (forward-first o),
+          at-first (λ p. TreeReady k nodes g masks rows p w) (o .chosen)
+              (first-ready w (room-of (g .tuples) (paired-first a b) (ready .room)))
+              (second-ready w (room-of (g .tuples) (paired-second a b) (ready .room))),
+        )
 
     -- and then the other past the front layer, since it needs no more layers
-    pub comes-then : (mid : List ℕ) → length mid ≡ length w →
-        TreeReady k nodes g masks rows (r .then) (take (length mid - g .tuples) (drop (g .tuples) mid))
-    comes-then mid same =
+    pub comes-then : {t : ℕ} → 3 * (64 - at) + 1 ≡ t → (mid : List ℕ) → length mid ≡ length w →
+        (3 * (64 - r .then) < t) × TreeReady k nodes g masks rows (r .then) (take (length mid - g .tuples) (drop (g .tuples) mid))
+    comes-then {t} measure mid same =
         let T = g .tuples in
         let a = treeNeed k (ready .first) in
         let b = treeNeed k (ready .second) in
         let of-a = tree-surveyed k (o .surveyed) (ready .first) (ready .middle) (ready .stands) .1 in
-        let of-b = tree-surveyed k (o .follows) (ready .second) (ready .end) after-first .1 in
-        at-then (λ p. TreeReady k nodes g masks rows p (take (length mid - T) (drop T mid))) (o .chosen)
-        (λ h. second-ready _ (past-room T mid same (room-past b T (paired-smaller a b (omega (arith, of-a, of-b, h))) (ready .room))))
-        (λ h. first-ready _ (past-room T mid same (room-past a T (paired-smaller-first a b (omega (arith, of-a, of-b, h))) (ready .room))))
+        let of-b = tree-surveyed k (o .follows) (ready .second) (ready .end) after-first .1 in (
+          to-each at (r .then) t measure (forward-then o),
+          at-then (λ p. TreeReady k nodes g masks rows p (take (length mid - T) (drop T mid))) (o .chosen)
+              (λ h. second-ready _ (past-room T mid same (room-past b T (paired-smaller a b (omega (arith, of-a, of-b, h))) (ready .room))))
+              (λ h. first-ready _ (past-room T mid same
+              (room-past a T (paired-smaller-first a b (omega (arith, of-a, of-b, h))) (ready .room)))),
+        )
 
-module _ {k : Kind} {nodes : List Slot} {g : Setting} {masks : List ℕ} {rows : List (List ℕ)} {at : ℕ} where
-  -- both, by what is left of each and where their layers come to lie
-  both-left : {one : Extent} → TreeSurveyed nodes at one → {v v′ after : List ℕ} {next bottom next′ bottom′ : ℕ} →
-      ((c : Chain) → Fixed c masks rows g → (f h : Tuple → ℕ) → Layer (c .N) (g .variables) f v → Layer (c .N) (g .variables) h v′ →
-      Layer (c .N) (g .variables) f after × Layer (c .N) (g .variables) h (drop (g .tuples) after)) →
-      TreeDone k nodes g masks rows at v next bottom → TreeDone k nodes g masks rows (one .next) v′ next′ bottom′ →
-      TreesDone k nodes g masks rows at after next′ bottom bottom′
-  both-left s lie first second = record {
-    each = λ c t u m q fixed stands follows small small′.
-        let x = first .each c t m fixed stands small in
-        let y = second .each c u q fixed (follows-survey k s t u m q stands follows) small′ in
-        let both = lie c fixed _ _ (x .2) (y .2) in
-        (y .0, x .1, y .1, both .0, both .1);
-  }
+    -- after both calls: the one left `mid`, and the other `lent` of its tail
+    module _ {mid lent : List ℕ} {next bottom next′ bottom′ : ℕ} (one : TreeDone k nodes g masks rows (r .first) mid next bottom)
+        (same : length mid ≡ length w) (other : TreeDone k nodes g masks rows (r .then) lent next′ bottom′)
+        (long : length lent ≡ length (take (length mid - g .tuples) (drop (g .tuples) mid))) where
+      abbrev whole : List ℕ
+      whole = take (g .tuples) mid ++ (lent ++ drop (length mid - g .tuples) (drop (g .tuples) mid))
 
-  module _ {r : Order} (o : Ordered nodes at r) {mid lent after : List ℕ} (back : Back (g .tuples) mid lent after)
-      {next bottom next′ bottom′ : ℕ} (one : TreeDone k nodes g masks rows (r .first) mid next bottom)
-      (other : TreeDone k nodes g masks rows (r .then) lent next′ bottom′) where
-    abbrev Left : (v : List ℕ) (next bottom p : ℕ) → Type 0
-    Left v next bottom p = TreeDone k nodes g masks rows p v next bottom
+      back : Back (g .tuples) mid lent whole
+      back = put-back (g .tuples) mid lent (front-room same) long
 
-    -- both, where they were evaluated as they stand
-    pub trees-standing : r .crossed ≡ false → TreesDone k nodes g masks rows at after next′ bottom bottom′
-    trees-standing as-is =
-        by-standing (Left mid next bottom) (Left lent next′ bottom′) (o .chosen) as-is
-        (both-left (o .surveyed) (λ c fixed f h x y. layers-stay (tuple-count fixed) back x y)) one other
+      abbrev Left : (v : List ℕ) (next bottom p : ℕ) → Type 0
+      Left v next bottom p = TreeDone k nodes g masks rows p v next bottom
 
-    -- both, where they were crossed and the layers then exchanged
-    pub trees-exchanged : {last : List ℕ} → r .crossed ≡ true → Swapped (g .tuples) after last →
-        TreesDone k nodes g masks rows at last next bottom′ bottom
-    trees-exchanged turned swapped =
-        by-crossing (Left mid next bottom) (Left lent next′ bottom′) (o .chosen) turned
-        (λ second first. both-left (o .surveyed) (λ c fixed f h x y. layers-cross (tuple-count fixed) back y x swapped) first second)
-        one other
+      -- there is room for both layers still
+      pub both-room : g .tuples + g .tuples ≤ length whole
+      both-room = room-kept (room-kept trees-room same) (back .long)
+
+      -- where they were evaluated as they stand
+      pub trees-standing : r .crossed ≡ false → TreesDone k nodes g masks rows at whole next′ bottom bottom′
+      trees-standing as-is =
+          by-standing (Left mid next bottom) (Left lent next′ bottom′) (o .chosen) as-is
+          (both-left (o .surveyed) (λ c fixed f h x y. layers-stay (tuple-count fixed) back x y)) one other
+
+      -- where they were crossed and the layers then exchanged
+      pub trees-exchanged : {last : List ℕ} → r .crossed ≡ true → Swapped (g .tuples) whole last →
+          TreesDone k nodes g masks rows at last next bottom′ bottom
+      trees-exchanged turned swapped =
+          by-crossing (Left mid next bottom) (Left lent next′ bottom′) (o .chosen) turned
+          (λ second first. both-left (o .surveyed) (λ c fixed f h x y. layers-cross (tuple-count fixed) back y x swapped) first second)
+          one other

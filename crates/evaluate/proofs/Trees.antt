@@ -1,11 +1,13 @@
 -- A tree of any kind: its place, its need and its survey, what the trees under it are evaluated with, and what is left, by the
 -- node at the place.
-use Prim.Native.Nat.{ℕ, _*_, _≤_, _<_}
+use Prim.Native.Nat.{ℕ, _+_, _-_, _*_, _≤_, _<_}
 use mathlib.Core.Bool.{false, _||_}
 use mathlib.Core.List.{List}
 use mathlib.Core.Path.{_≡_, sym, subst}
 use native.Mathlib.Omega.{arith}
 use lib.ListN.{length}
+use mir.Syntax.{w64}
+use mir.Val.{Fits}
 use Rattle.sentence.specs.declared.Kind.{Kind}
 use Rattle.sentence.specs.declared.Kind.the-variants.{State, Expression as ExpressionKind, Path as PathKind}
 use Rattle.sentence.specs.declared.Slot.{Slot}
@@ -104,6 +106,27 @@ module _ {k : Kind} {nodes : List Slot} {g : Setting} {masks : List ℕ} {rows :
   -- there is a place for the node
   pub tree-inside : at < 64
   tree-inside = tree-place k nodes at (ready .tree) (ready .end) (ready .stands)
+
+  -- the place after the node is a number of 64 bits
+  pub next-fits : Fits w64 (at + 1)
+  next-fits = let h = tree-inside in record { fits = omega arith }
+
+  -- so is where the node lies in the array
+  pub place-fits : Fits w64 (at * 12)
+  place-fits = let h = tree-inside in record { fits = omega arith }
+
+  -- a node is counted three times, so that the functions for two operands and for an operation on them stand between a node and the
+  -- next: the count falls from the node to its one operand,
+  pub to-operand : {t : ℕ} → 3 * (64 - at) ≡ t → 3 * (64 - (at + 1)) < t
+  to-operand measure = let h = tree-inside in omega arith
+
+  -- to its two operands,
+  pub to-operands : {t : ℕ} → 3 * (64 - at) ≡ t → 3 * (64 - (at + 1)) + 1 < t
+  to-operands measure = let h = tree-inside in omega arith
+
+  -- and to an operation on them
+  pub to-operation : {t : ℕ} → 3 * (64 - at) ≡ t → 3 * (64 - (at + 1)) + 2 < t
+  to-operation measure = let h = tree-inside in omega arith
 
   -- there is room for its own layer
   pub tree-room : g .tuples ≤ length w

@@ -1,25 +1,19 @@
 -- Evaluation meets its contracts, node by node: what the operands are evaluated with, and what the call at the node
 -- leaves, are laws about lists and records. The measure is the number of places left, counted three times.
 use borrow.Author.Needs.{needs}
-use mathlib.Core.List.{_++_}
-use lib.ListN.{length, take, drop}
-use Rattle.layers.proofs.Tails.{Back, put-back}
-use Rattle.evaluate.proofs.Trees.{tree-inside, tree-room}
+use Rattle.evaluate.proofs.Trees.{tree-inside, next-fits, place-fits, to-operand, to-operands, to-operation, tree-room}
 use Rattle.evaluate.proofs.Expressions.{probability-ready, sum-ready, difference-ready, product-ready}
 use Rattle.evaluate.proofs.Expressions.{combining-ready, bottoms-small, combined-done, probability-done}
 use Rattle.evaluate.proofs.Expressions.{constant-done, sum-done, difference-done, product-done}
 use Rattle.evaluate.proofs.Formulas.{label-ready, not-ready, and-ready, compare-ready, comparing-ready}
 use Rattle.evaluate.proofs.Formulas.{true-done, label-done, not-done, and-done, compare-done}
-use Rattle.evaluate.proofs.Operands.{forward-first, forward-then, trees-inside, trees-room, comes-first, comes-then}
+use Rattle.evaluate.proofs.Operands.{trees-inside, trees-room, front-room, comes-first, comes-then, both-room}
 use Rattle.evaluate.proofs.Operands.{trees-standing, trees-exchanged}
 use Rattle.evaluate.proofs.Others.{no-tree}
 use Rattle.evaluate.proofs.Pathways.{next-ready, stepping-ready, until-ready, taking-ready, next-done, until-done}
-use Rattle.evaluate.proofs.Places.{to-operand, to-operands, to-operation, to-each, place-most, next-fits}
-use Rattle.evaluate.proofs.Places.{place-fits, small-fits, room-kept, front-kept}
+use Rattle.evaluate.proofs.Places.{small-fits, room-kept}
 use Rattle.sentence.specs.declared.Kind.the-variants.{State, Expression, Path}
 use Prim.Native.Nat.{ℕ, _+_, _-_, _*_, _<_}
-use mir.Syntax.{w64}
-use mir.Val.{Fits}
 use borrow.Fn.Kinds.{In}
 use borrow.Fn.PlainCycle.{Measures, is, falls, and}
 use Rattle.evaluate.proofs.nodes.combined.Reads as combined
@@ -216,6 +210,8 @@ two-formulas-claims t = (
   swap-reads.Learnt,
 )
 
+-- ---- two expressions, and what an operation makes of them
+
 combined-combine-requires : (t : ℕ) → combined-lts.Need-combine-requires (combined-claims t) (combined-at t)
     combined.Post
 combined-combine-requires t c κs =
@@ -225,102 +221,58 @@ combined-combine-requires t c κs =
 
 combined-mul-t14 : (t : ℕ) → combined-lts.Need-mul-t14 (combined-claims t) (combined-at t) combined.Post
 combined-mul-t14 t c =
-    small-fits _ (bottoms-small (c .before .before .before .before .before .before .before .two-expressions .ensures)
-    (c .before .before .before .before .before .before .before .before .before .before .pre .1))
+    let two = c .before .before .before .before .before .before .before in
+    small-fits _ (bottoms-small (two .two-expressions .ensures) (two .before .before .before .pre .1))
 
-combined-returns : (t : ℕ) → combined-lts.Need-returns (combined-claims t) (combined-at t) combined.Post
-combined-returns t c =
-    combined-done (c .before .before .before .before .before .before .before .two-expressions .ensures)
-    (c .before .before .before .combine .ensures)
+two-expressions-sub-expression : (t : ℕ) → two-expressions-lts.Need-sub-expression (two-expressions-claims t) (two-expressions-at t)
+    two-expressions.Post
+two-expressions-sub-expression t c =
+    let one = c .before .before in
+    front-room (one .before .before .before .before .pre .1) (one .expression .kept .1 .1 .1 .1 .1 .0)
 
--- the place after the node is a number of 64 bits
-expression-next : (t : ℕ) (start : expression-lts.Start (expression-claims t) (expression-at t) expression.Post) →
-    Fits w64 (start .args .at + 1)
-expression-next t start = next-fits (start .args .at) (tree-inside (start .pre .1))
+two-expressions-expression-requires-2 : (t : ℕ) →
+    two-expressions-lts.Need-expression-requires-2 (two-expressions-claims t) (two-expressions-at t)
+    two-expressions.Post
+two-expressions-expression-requires-2 t c κs =
+    let one = c .before .before .before in
+    let start = one .before .before .before .before in
+    comes-then (start .pre .1) (one .before .before .order-of .ensures) (start .pre .0) (one .expression .last .1 .1 .1 .1 .1 .0)
+    (one .expression .kept .1 .1 .1 .1 .1 .0)
 
-expression-mul-slot : (t : ℕ) → expression-lts.Need-mul-slot (expression-claims t) (expression-at t) expression.Post
-expression-mul-slot t c = place-fits (c .before .args .at) (tree-inside (c .before .pre .1))
+two-expressions-swap-requires : (t : ℕ) → two-expressions-lts.Need-swap-requires (two-expressions-claims t) (two-expressions-at t)
+    two-expressions.Post
+two-expressions-swap-requires t c κs =
+    let other = c .before .before .before .before in
+    let one = other .before .before .before .before in
+    both-room (one .before .before .before .before .pre .1) (one .before .before .order-of .ensures) (one .expression .ensures)
+    (one .expression .kept .1 .1 .1 .1 .1 .0) (other .expression2 .ensures) (other .expression2 .kept .1 .1 .1 .1 .1 .0)
 
-expression-array-copy-out-slot : (t : ℕ) → expression-lts.Need-array-copy-out-slot (expression-claims t)
-    (expression-at t) expression.Post
-expression-array-copy-out-slot t c = tree-inside (c .before .pre .1)
+two-expressions-returns : (t : ℕ) → two-expressions-lts.Need-returns (two-expressions-claims t) (two-expressions-at t)
+    two-expressions.Post
+two-expressions-returns t c =
+    let swapped = c .before .before in
+    let other = swapped .before .before .before .before .before in
+    let one = other .before .before .before .before in
+    trees-exchanged (one .before .before .before .before .pre .1) (one .before .before .order-of .ensures) (one .expression .ensures)
+    (one .expression .kept .1 .1 .1 .1 .1 .0) (other .expression2 .ensures) (other .expression2 .kept .1 .1 .1 .1 .1 .0)
+    (swapped .before .before .if1 .taken) (swapped .swap .ensures)
 
-expression-path-requires : (t : ℕ) → expression-lts.Need-path-requires (expression-claims t) (expression-at t)
-    expression.Post
-expression-path-requires t c κs =
-    let start = c .before .before .before .before .before in (
-      to-operand (start .args .at) t (tree-inside (start .pre .1)) (start .pre .0),
-      probability-ready (start .pre .1) (c .before .enum-told .given .1),
-    )
+two-expressions-returns-2 : (t : ℕ) → two-expressions-lts.Need-returns-2 (two-expressions-claims t) (two-expressions-at t)
+    two-expressions.Post
+two-expressions-returns-2 t c =
+    let other = c .before .before .before in
+    let one = other .before .before .before .before in
+    trees-standing (one .before .before .before .before .pre .1) (one .before .before .order-of .ensures) (one .expression .ensures)
+    (one .expression .kept .1 .1 .1 .1 .1 .0) (other .expression2 .ensures) (other .expression2 .kept .1 .1 .1 .1 .1 .0) (c .if1 .left)
 
-expression-constant-requires : (t : ℕ) → expression-lts.Need-constant-requires (expression-claims t) (expression-at t)
-    expression.Post
-expression-constant-requires t c κs = tree-room (c .before .before .before .before .before .before .pre .1)
-
-expression-combined-requires : (t : ℕ) → expression-lts.Need-combined-requires (expression-claims t) (expression-at t)
-    expression.Post
-expression-combined-requires t c κs =
-    let start = c .before .before .before .before .before in (
-      to-operation (start .args .at) t (tree-inside (start .pre .1)) (start .pre .0),
-      sum-ready (start .pre .1) (c .before .enum-told2 .given .1),
-    )
-
-expression-combined-requires-2 : (t : ℕ) → expression-lts.Need-combined-requires-2 (expression-claims t)
-    (expression-at t) expression.Post
-expression-combined-requires-2 t c κs =
-    let start = c .before .before .before .before .before in (
-      to-operation (start .args .at) t (tree-inside (start .pre .1)) (start .pre .0),
-      difference-ready (start .pre .1) (c .before .enum-told3 .given .1),
-    )
-
-expression-combined-requires-3 : (t : ℕ) → expression-lts.Need-combined-requires-3 (expression-claims t)
-    (expression-at t) expression.Post
-expression-combined-requires-3 t c κs =
-    let start = c .before .before .before .before .before in (
-      to-operation (start .args .at) t (tree-inside (start .pre .1)) (start .pre .0),
-      product-ready (start .pre .1) (c .before .enum-told4 .given .1),
-    )
-
-expression-returns : (t : ℕ) → expression-lts.Need-returns (expression-claims t) (expression-at t) expression.Post
-expression-returns t c =
-    probability-done (c .before .before .before .before .enum-told .given .1) (c .before .before .path .ensures)
+-- ---- an expression
 
 expression-returns-2 : (t : ℕ) → expression-lts.Need-returns-2 (expression-claims t) (expression-at t) expression.Post
 expression-returns-2 t c =
     let node = c .before .before .before .before .before .node .given in
     constant-done (node .0 .0) (node .0 .1 .0) (node .1) (c .before .before .constant .ensures)
 
-expression-returns-3 : (t : ℕ) → expression-lts.Need-returns-3 (expression-claims t) (expression-at t) expression.Post
-expression-returns-3 t c =
-    sum-done (c .before .before .before .before .enum-told2 .given .1) (c .before .before .combined .ensures)
-
-expression-returns-4 : (t : ℕ) → expression-lts.Need-returns-4 (expression-claims t) (expression-at t) expression.Post
-expression-returns-4 t c =
-    difference-done (c .before .before .before .before .enum-told3 .given .1) (c .before .before .combined2 .ensures)
-
-expression-returns-5 : (t : ℕ) → expression-lts.Need-returns-5 (expression-claims t) (expression-at t) expression.Post
-expression-returns-5 t c =
-    product-done (c .before .before .before .before .enum-told4 .given .1) (c .before .before .combined3 .ensures)
-
-expression-returns-6 : (t : ℕ) → expression-lts.Need-returns-6 (expression-claims t) (expression-at t) expression.Post
-expression-returns-6 t c = no-tree Expression (c .before .match .keys6)
-
--- the place after the node is a number of 64 bits
-path-next : (t : ℕ) (start : path-lts.Start (path-claims t) (path-at t) path.Post) → Fits w64 (start .args .at + 1)
-path-next t start = next-fits (start .args .at) (tree-inside (start .pre .1 .one))
-
-path-mul-slot : (t : ℕ) → path-lts.Need-mul-slot (path-claims t) (path-at t) path.Post
-path-mul-slot t c = place-fits (c .before .args .at) (tree-inside (c .before .pre .1 .one))
-
-path-array-copy-out-slot : (t : ℕ) → path-lts.Need-array-copy-out-slot (path-claims t) (path-at t) path.Post
-path-array-copy-out-slot t c = tree-inside (c .before .pre .1 .one)
-
-path-state-formula-requires : (t : ℕ) → path-lts.Need-state-formula-requires (path-claims t) (path-at t) path.Post
-path-state-formula-requires t c κs =
-    let start = c .before .before .before .before .before in (
-      to-operand (start .args .at) t (tree-inside (start .pre .1 .one)) (start .pre .0),
-      next-ready (start .pre .1) (c .before .enum-told .given .1),
-    )
+-- ---- a path
 
 path-next-within-requires : (t : ℕ) → path-lts.Need-next-within-requires (path-claims t) (path-at t) path.Post
 path-next-within-requires t c κs =
@@ -331,18 +283,17 @@ path-next-within-requires t c κs =
 
 path-two-formulas-requires : (t : ℕ) → path-lts.Need-two-formulas-requires (path-claims t) (path-at t) path.Post
 path-two-formulas-requires t c κs =
-    let start = c .before .before .before .before .before .before in
-    let node = c .before .before .node .given in (
-      to-operands (start .args .at) t (tree-inside (start .pre .1 .one)) (start .pre .0),
-      until-ready (start .pre .1) (node .0 .0) (node .0 .1 .0) (node .1),
-    )
+    let pre = c .before .before .before .before .before .before .pre in
+    let node = c .before .before .node .given in
+    (to-operands (pre .1 .one) (pre .0), until-ready (pre .1) (node .0 .0) (node .0 .1 .0) (node .1))
 
 path-until-within-requires : (t : ℕ) → path-lts.Need-until-within-requires (path-claims t) (path-at t) path.Post
 path-until-within-requires t c κs =
-    let node = c .before .before .before .before .before .before .node .given in
+    let told = c .before .before .before .before .before .before in
+    let node = told .node .given in
     let call = c .before .before .before .two-formulas in
-    taking-ready (c .before .before .before .before .before .before .before .before .before .before .pre .1)
-    (node .0 .0) (node .0 .1 .0) (node .1) (call .ensures) (call .kept .1 .1 .1 .1 .1 .0)
+    taking-ready (told .before .before .before .before .pre .1) (node .0 .0) (node .0 .1 .0) (node .1) (call .ensures)
+    (call .kept .1 .1 .1 .1 .1 .0)
 
 path-returns : (t : ℕ) → path-lts.Need-returns (path-claims t) (path-at t) path.Post
 path-returns t c =
@@ -357,87 +308,37 @@ path-returns-2 t c =
     until-done (told .before .before .before .before .pre .1 .one .few) (node .0 .0) (node .0 .1 .0) (node .1)
     (c .before .before .before .before .before .before .two-formulas .ensures) (c .before .before .until-within .ensures)
 
-path-returns-3 : (t : ℕ) → path-lts.Need-returns-3 (path-claims t) (path-at t) path.Post
-path-returns-3 t c = no-tree Path (c .before .match .keys3)
-
--- the place after the node is a number of 64 bits
-state-formula-next : (t : ℕ)
-    (start : state-formula-lts.Start (state-formula-claims t) (state-formula-at t) state-formula.Post) →
-    Fits w64 (start .args .at + 1)
-state-formula-next t start = next-fits (start .args .at) (tree-inside (start .pre .1))
-
-state-formula-mul-slot : (t : ℕ) → state-formula-lts.Need-mul-slot (state-formula-claims t) (state-formula-at t)
-    state-formula.Post
-state-formula-mul-slot t c = place-fits (c .before .args .at) (tree-inside (c .before .pre .1))
-
-state-formula-array-copy-out-slot : (t : ℕ) → state-formula-lts.Need-array-copy-out-slot (state-formula-claims t)
-    (state-formula-at t) state-formula.Post
-state-formula-array-copy-out-slot t c = tree-inside (c .before .pre .1)
-
-state-formula-always-requires : (t : ℕ) → state-formula-lts.Need-always-requires (state-formula-claims t)
-    (state-formula-at t) state-formula.Post
-state-formula-always-requires t c κs = tree-room (c .before .before .before .before .before .pre .1)
+-- ---- a state formula
 
 state-formula-label-requires : (t : ℕ) → state-formula-lts.Need-label-requires (state-formula-claims t)
     (state-formula-at t) state-formula.Post
 state-formula-label-requires t c κs =
-    let start = c .before .before .before .before .before .before in
     let node = c .before .before .node .given in
-    label-ready (start .pre .1) (node .0 .0) (node .0 .1 .0) (node .1)
-
-state-formula-state-formula-requires : (t : ℕ) → state-formula-lts.Need-state-formula-requires (state-formula-claims t)
-    (state-formula-at t) state-formula.Post
-state-formula-state-formula-requires t c κs =
-    let start = c .before .before .before .before .before in (
-      to-operand (start .args .at) t (tree-inside (start .pre .1)) (start .pre .0),
-      not-ready (start .pre .1) (c .before .enum-told2 .given .1),
-    )
-
-state-formula-negated-requires : (t : ℕ) → state-formula-lts.Need-negated-requires (state-formula-claims t)
-    (state-formula-at t) state-formula.Post
-state-formula-negated-requires t c κs =
-    room-kept (tree-room (c .before .before .before .before .before .before .before .before .before .pre .1))
-    (c .before .before .before .state-formula .kept .1 .1 .1 .1 .1 .0)
-
-state-formula-two-formulas-requires : (t : ℕ) → state-formula-lts.Need-two-formulas-requires (state-formula-claims t)
-    (state-formula-at t) state-formula.Post
-state-formula-two-formulas-requires t c κs =
-    let start = c .before .before .before .before .before in (
-      to-operands (start .args .at) t (tree-inside (start .pre .1)) (start .pre .0),
-      and-ready (start .pre .1) (c .before .enum-told3 .given .1),
-    )
+    label-ready (c .before .before .before .before .before .before .pre .1) (node .0 .0) (node .0 .1 .0) (node .1)
 
 state-formula-both-requires : (t : ℕ) → state-formula-lts.Need-both-requires (state-formula-claims t)
     (state-formula-at t) state-formula.Post
 state-formula-both-requires t c κs =
-    room-kept (trees-room (and-ready
-    (c .before .before .before .before .before .before .before .before .before .pre .1)
-    (c .before .before .before .before .before .enum-told3 .given .1)))
+    let told = c .before .before .before .before .before in
+    room-kept (trees-room (and-ready (told .before .before .before .before .pre .1) (told .enum-told3 .given .1)))
     (c .before .before .before .two-formulas .kept .1 .1 .1 .1 .1 .0)
 
 state-formula-two-expressions-requires : (t : ℕ) →
     state-formula-lts.Need-two-expressions-requires (state-formula-claims t) (state-formula-at t) state-formula.Post
 state-formula-two-expressions-requires t c κs =
-    let start = c .before .before .before .before .before .before in
-    let node = c .before .before .node2 .given in (
-      to-operands (start .args .at) t (tree-inside (start .pre .1)) (start .pre .0),
-      compare-ready (start .pre .1) (node .0 .0) (node .1),
-    )
+    let pre = c .before .before .before .before .before .before .pre in
+    let node = c .before .before .node2 .given in
+    (to-operands (pre .1) (pre .0), compare-ready (pre .1) (node .0 .0) (node .1))
 
 state-formula-compare-requires : (t : ℕ) → state-formula-lts.Need-compare-requires (state-formula-claims t)
     (state-formula-at t) state-formula.Post
 state-formula-compare-requires t c κs =
-    let start = c .before .before .before .before .before .before .before .before .before .before .before in
-    let node = c .before .before .before .before .before .before .before .node2 .given in
+    let told = c .before .before .before .before .before .before .before in
+    let node = told .node2 .given in
     let two = c .before .before .before .before .two-expressions in
     let relation = c .before .relation-of in
-    comparing-ready (start .pre .1) (node .0 .0) (node .1) (two .ensures) (two .kept .1 .1 .1 .1 .1 .0)
-    (relation .result) (relation .ensures)
-
-state-formula-returns : (t : ℕ) → state-formula-lts.Need-returns (state-formula-claims t) (state-formula-at t)
-    state-formula.Post
-state-formula-returns t c =
-    true-done (c .before .before .before .before .enum-told .given .1) (c .before .before .always .ensures)
+    comparing-ready (told .before .before .before .before .pre .1) (node .0 .0) (node .1) (two .ensures)
+    (two .kept .1 .1 .1 .1 .1 .0) (relation .result) (relation .ensures)
 
 state-formula-returns-2 : (t : ℕ) → state-formula-lts.Need-returns-2 (state-formula-claims t) (state-formula-at t)
     state-formula.Post
@@ -448,173 +349,68 @@ state-formula-returns-2 t c =
 state-formula-returns-3 : (t : ℕ) → state-formula-lts.Need-returns-3 (state-formula-claims t) (state-formula-at t)
     state-formula.Post
 state-formula-returns-3 t c =
-    not-done (c .before .before .before .before .before .before .before .before .enum-told2 .given .1)
-    (c .before .before .before .before .before .before .state-formula .ensures)
-    (c .before .before .negated .ensures)
+    let call = c .before .before .before .before .before .before in
+    not-done (call .before .before .enum-told2 .given .1) (call .state-formula .ensures) (c .before .before .negated .ensures)
 
 state-formula-returns-4 : (t : ℕ) → state-formula-lts.Need-returns-4 (state-formula-claims t) (state-formula-at t)
     state-formula.Post
 state-formula-returns-4 t c =
-    and-done (c .before .before .before .before .before .before .before .before .enum-told3 .given .1)
-    (c .before .before .before .before .before .before .two-formulas .ensures) (c .before .before .both .ensures)
+    let call = c .before .before .before .before .before .before in
+    and-done (call .before .before .enum-told3 .given .1) (call .two-formulas .ensures) (c .before .before .both .ensures)
 
 state-formula-returns-5 : (t : ℕ) → state-formula-lts.Need-returns-5 (state-formula-claims t) (state-formula-at t)
     state-formula.Post
 state-formula-returns-5 t c =
-    let node = c .before .before .before .before .before .before .before .before .before .before .node2 .given in
-    let two = c .before .before .before .before .before .before .before .two-expressions in
+    let two = c .before .before .before .before .before .before .before in
+    let node = two .before .before .before .node2 .given in
     let relation = c .before .before .before .before .relation-of in
-    compare-done (node .0 .0) (node .1) (two .ensures) (relation .result) (relation .ensures)
+    compare-done (node .0 .0) (node .1) (two .two-expressions .ensures) (relation .result) (relation .ensures)
     (c .before .before .compare .ensures)
 
-state-formula-returns-6 : (t : ℕ) → state-formula-lts.Need-returns-6 (state-formula-claims t) (state-formula-at t)
-    state-formula.Post
-state-formula-returns-6 t c = no-tree State (c .match .keys6)
-
--- ---- two expressions
-
-two-expressions-order-of-requires : (t : ℕ) → two-expressions-lts.Need-order-of-requires (two-expressions-claims t) (two-expressions-at t)
-    two-expressions.Post
-two-expressions-order-of-requires t c κs = place-most (c .before .args .at) (trees-inside (c .before .pre .1))
-
-two-expressions-expression-requires : (t : ℕ) →
-    two-expressions-lts.Need-expression-requires (two-expressions-claims t) (two-expressions-at t)
-    two-expressions.Post
-two-expressions-expression-requires t c κs =
-    let order = c .before .order-of .ensures in
-    let start = c .before .before .before in
-    (to-each (start .args .at) _ t (start .pre .0) (forward-first order), comes-first (start .pre .1) order)
-
-two-expressions-sub-expression : (t : ℕ) → two-expressions-lts.Need-sub-expression (two-expressions-claims t) (two-expressions-at t)
-    two-expressions.Post
-two-expressions-sub-expression t c =
-    let called = c .before .before in
-    let start = called .before .before .before .before in
-    front-kept (start .args .g .tuples) (trees-room (start .pre .1)) (called .expression .kept .1 .1 .1 .1 .1 .0)
-
-two-expressions-expression-requires-2 : (t : ℕ) →
-    two-expressions-lts.Need-expression-requires-2 (two-expressions-claims t) (two-expressions-at t)
-    two-expressions.Post
-two-expressions-expression-requires-2 t c κs =
-    let called = c .before .before .before in
-    let order = called .before .before .order-of .ensures in
-    let start = called .before .before .before .before in (
-      to-each (start .args .at) _ t (start .pre .0) (forward-then order),
-      comes-then (start .pre .1) order (called .expression .last .1 .1 .1 .1 .1 .0) (called .expression .kept .1 .1 .1 .1 .1 .0),
-    )
-
--- the work area after both
-two-expressions-back : (t : ℕ)
-    (c : two-expressions-lts.After-expression2 (two-expressions-claims t) (two-expressions-at t) two-expressions.Post) →
-    let called = c .before .before .before .before in
-    let T = called .before .before .before .before .args .g .tuples in
-    let mid = called .expression .last .1 .1 .1 .1 .1 .0 in
-    let lent = c .expression2 .last .1 .1 .1 .1 .1 .0 in
-    Back T mid lent (take T mid ++ (lent ++ drop (length mid - T) (drop T mid)))
-two-expressions-back t c =
-    let called = c .before .before .before .before in
-    let start = called .before .before .before .before in
-    let T = start .args .g .tuples in
-    put-back T (called .expression .last .1 .1 .1 .1 .1 .0) (c .expression2 .last .1 .1 .1 .1 .1 .0)
-    (front-kept T (trees-room (start .pre .1)) (called .expression .kept .1 .1 .1 .1 .1 .0)) (c .expression2 .kept .1 .1 .1 .1 .1 .0)
-
-two-expressions-swap-requires : (t : ℕ) → two-expressions-lts.Need-swap-requires (two-expressions-claims t) (two-expressions-at t)
-    two-expressions.Post
-two-expressions-swap-requires t c κs =
-    let other = c .before .before .before .before in
-    let called = other .before .before .before .before in
-    let start = called .before .before .before .before in
-    room-kept (room-kept (trees-room (start .pre .1)) (called .expression .kept .1 .1 .1 .1 .1 .0))
-    (two-expressions-back t other .long)
-
-two-expressions-returns : (t : ℕ) → two-expressions-lts.Need-returns (two-expressions-claims t) (two-expressions-at t)
-    two-expressions.Post
-two-expressions-returns t c =
-    let swapped = c .before .before in
-    let other = swapped .before .before .before .before .before in
-    let called = other .before .before .before .before in
-    trees-exchanged (called .before .before .order-of .ensures) (two-expressions-back t other) (called .expression .ensures)
-    (other .expression2 .ensures) (swapped .before .before .if1 .taken) (swapped .swap .ensures)
-
-two-expressions-returns-2 : (t : ℕ) → two-expressions-lts.Need-returns-2 (two-expressions-claims t) (two-expressions-at t)
-    two-expressions.Post
-two-expressions-returns-2 t c =
-    let other = c .before .before .before in
-    let called = other .before .before .before .before in
-    trees-standing (called .before .before .order-of .ensures) (two-expressions-back t other) (called .expression .ensures)
-    (other .expression2 .ensures) (c .if1 .left)
-
 -- ---- two state formulas
-
-two-formulas-order-of-requires : (t : ℕ) → two-formulas-lts.Need-order-of-requires (two-formulas-claims t) (two-formulas-at t)
-    two-formulas.Post
-two-formulas-order-of-requires t c κs = place-most (c .before .args .at) (trees-inside (c .before .pre .1))
-
-two-formulas-state-formula-requires : (t : ℕ) → two-formulas-lts.Need-state-formula-requires (two-formulas-claims t) (two-formulas-at t)
-    two-formulas.Post
-two-formulas-state-formula-requires t c κs =
-    let order = c .before .order-of .ensures in
-    let start = c .before .before .before in
-    (to-each (start .args .at) _ t (start .pre .0) (forward-first order), comes-first (start .pre .1) order)
 
 two-formulas-sub-state-formula : (t : ℕ) → two-formulas-lts.Need-sub-state-formula (two-formulas-claims t) (two-formulas-at t)
     two-formulas.Post
 two-formulas-sub-state-formula t c =
-    let called = c .before .before in
-    let start = called .before .before .before .before in
-    front-kept (start .args .g .tuples) (trees-room (start .pre .1)) (called .state-formula .kept .1 .1 .1 .1 .1 .0)
+    let one = c .before .before in
+    front-room (one .before .before .before .before .pre .1) (one .state-formula .kept .1 .1 .1 .1 .1 .0)
 
 two-formulas-state-formula-requires-2 : (t : ℕ) → two-formulas-lts.Need-state-formula-requires-2 (two-formulas-claims t) (two-formulas-at t)
     two-formulas.Post
 two-formulas-state-formula-requires-2 t c κs =
-    let called = c .before .before .before in
-    let order = called .before .before .order-of .ensures in
-    let start = called .before .before .before .before in (
-      to-each (start .args .at) _ t (start .pre .0) (forward-then order),
-      comes-then (start .pre .1) order (called .state-formula .last .1 .1 .1 .1 .1 .0) (called .state-formula .kept .1 .1 .1 .1 .1 .0),
-    )
-
--- the work area after both
-two-formulas-back : (t : ℕ) (c : two-formulas-lts.After-state-formula2 (two-formulas-claims t) (two-formulas-at t) two-formulas.Post) →
-    let called = c .before .before .before .before in
-    let T = called .before .before .before .before .args .g .tuples in
-    let mid = called .state-formula .last .1 .1 .1 .1 .1 .0 in
-    let lent = c .state-formula2 .last .1 .1 .1 .1 .1 .0 in
-    Back T mid lent (take T mid ++ (lent ++ drop (length mid - T) (drop T mid)))
-two-formulas-back t c =
-    let called = c .before .before .before .before in
-    let start = called .before .before .before .before in
-    let T = start .args .g .tuples in
-    put-back T (called .state-formula .last .1 .1 .1 .1 .1 .0) (c .state-formula2 .last .1 .1 .1 .1 .1 .0)
-    (front-kept T (trees-room (start .pre .1)) (called .state-formula .kept .1 .1 .1 .1 .1 .0))
-    (c .state-formula2 .kept .1 .1 .1 .1 .1 .0)
+    let one = c .before .before .before in
+    let start = one .before .before .before .before in
+    comes-then (start .pre .1) (one .before .before .order-of .ensures) (start .pre .0) (one .state-formula .last .1 .1 .1 .1 .1 .0)
+    (one .state-formula .kept .1 .1 .1 .1 .1 .0)
 
 two-formulas-swap-requires : (t : ℕ) → two-formulas-lts.Need-swap-requires (two-formulas-claims t) (two-formulas-at t)
     two-formulas.Post
 two-formulas-swap-requires t c κs =
     let other = c .before .before .before .before in
-    let called = other .before .before .before .before in
-    let start = called .before .before .before .before in
-    room-kept (room-kept (trees-room (start .pre .1)) (called .state-formula .kept .1 .1 .1 .1 .1 .0)) (two-formulas-back t other .long)
+    let one = other .before .before .before .before in
+    both-room (one .before .before .before .before .pre .1) (one .before .before .order-of .ensures) (one .state-formula .ensures)
+    (one .state-formula .kept .1 .1 .1 .1 .1 .0) (other .state-formula2 .ensures) (other .state-formula2 .kept .1 .1 .1 .1 .1 .0)
 
 two-formulas-returns : (t : ℕ) → two-formulas-lts.Need-returns (two-formulas-claims t) (two-formulas-at t)
     two-formulas.Post
 two-formulas-returns t c =
     let swapped = c .before .before in
     let other = swapped .before .before .before .before .before in
-    let called = other .before .before .before .before in
-    trees-exchanged (called .before .before .order-of .ensures) (two-formulas-back t other) (called .state-formula .ensures)
-    (other .state-formula2 .ensures) (swapped .before .before .if1 .taken) (swapped .swap .ensures)
+    let one = other .before .before .before .before in
+    trees-exchanged (one .before .before .before .before .pre .1) (one .before .before .order-of .ensures) (one .state-formula .ensures)
+    (one .state-formula .kept .1 .1 .1 .1 .1 .0) (other .state-formula2 .ensures) (other .state-formula2 .kept .1 .1 .1 .1 .1 .0)
+    (swapped .before .before .if1 .taken) (swapped .swap .ensures)
 
 two-formulas-returns-2 : (t : ℕ) → two-formulas-lts.Need-returns-2 (two-formulas-claims t) (two-formulas-at t)
     two-formulas.Post
 two-formulas-returns-2 t c =
     let other = c .before .before .before in
-    let called = other .before .before .before .before in
-    trees-standing (called .before .before .order-of .ensures) (two-formulas-back t other) (called .state-formula .ensures)
-    (other .state-formula2 .ensures) (c .if1 .left)
+    let one = other .before .before .before .before in
+    trees-standing (one .before .before .before .before .pre .1) (one .before .before .order-of .ensures) (one .state-formula .ensures)
+    (one .state-formula .kept .1 .1 .1 .1 .1 .0) (other .state-formula2 .ensures) (other .state-formula2 .kept .1 .1 .1 .1 .1 .0)
+    (c .if1 .left)
 
--- ---- all six
+-- ---- all six; a need of one line stands in the list without a name
 
 pub +combined+expression+path+state-formula+two-expressions+two-formulas-spec :
     {M : Type 1} → statement M
@@ -633,52 +429,58 @@ pub +combined+expression+path+state-formula+two-expressions+two-formulas-spec :
     (combined-combine-requires t)
     (combined-mul-t14 t)
     (λ c. search needs)
-    (combined-returns t))
+    (λ c. combined-done (c .before .before .before .before .before .before .before .two-expressions .ensures)
+    (c .before .before .before .combine .ensures)))
     (λ t. expression-lts.spec (expression-claims t)
     (expression-at t)
     expression.Post
-    (expression-mul-slot t)
-    (expression-array-copy-out-slot t)
+    (λ c. place-fits (c .before .pre .1))
+    (λ c. tree-inside (c .before .pre .1))
     (λ c. search needs)
-    (λ c. expression-next t (c .before .before .before .before))
-    (expression-path-requires t)
-    (λ c. search needs)
-    (λ c. search needs)
-    (expression-constant-requires t)
-    (λ c. expression-next t (c .before .before .before .before .before .before .before .before .before))
+    (λ c. next-fits (c .before .before .before .before .pre .1))
+    (λ c κs. let pre = c .before .before .before .before .before .pre in
+    (to-operand (pre .1) (pre .0), probability-ready (pre .1) (c .before .enum-told .given .1)))
     (λ c. search needs)
     (λ c. search needs)
-    (λ c. expression-next t (c .before .before .before .before))
-    (expression-combined-requires t)
+    (λ c κs. tree-room (c .before .before .before .before .before .before .pre .1))
+    (λ c. next-fits (c .before .before .before .before .before .before .before .before .before .pre .1))
     (λ c. search needs)
-    (λ c. expression-next t (c .before .before .before .before))
-    (expression-combined-requires-2 t)
     (λ c. search needs)
-    (λ c. expression-next t (c .before .before .before .before))
-    (expression-combined-requires-3 t)
+    (λ c. next-fits (c .before .before .before .before .pre .1))
+    (λ c κs. let pre = c .before .before .before .before .before .pre in
+    (to-operation (pre .1) (pre .0), sum-ready (pre .1) (c .before .enum-told2 .given .1)))
+    (λ c. search needs)
+    (λ c. next-fits (c .before .before .before .before .pre .1))
+    (λ c κs. let pre = c .before .before .before .before .before .pre in
+    (to-operation (pre .1) (pre .0), difference-ready (pre .1) (c .before .enum-told3 .given .1)))
+    (λ c. search needs)
+    (λ c. next-fits (c .before .before .before .before .pre .1))
+    (λ c κs. let pre = c .before .before .before .before .before .pre in
+    (to-operation (pre .1) (pre .0), product-ready (pre .1) (c .before .enum-told4 .given .1)))
     (λ c κs. search needs)
     (λ c. search needs)
-    (expression-returns t)
+    (λ c. probability-done (c .before .before .before .before .enum-told .given .1) (c .before .before .path .ensures))
     (λ c. search needs)
     (expression-returns-2 t)
     (λ c. search needs)
-    (expression-returns-3 t)
+    (λ c. sum-done (c .before .before .before .before .enum-told2 .given .1) (c .before .before .combined .ensures))
     (λ c. search needs)
-    (expression-returns-4 t)
+    (λ c. difference-done (c .before .before .before .before .enum-told3 .given .1) (c .before .before .combined2 .ensures))
     (λ c. search needs)
-    (expression-returns-5 t)
-    (expression-returns-6 t))
+    (λ c. product-done (c .before .before .before .before .enum-told4 .given .1) (c .before .before .combined3 .ensures))
+    (λ c. no-tree Expression (c .before .match .keys6)))
     (λ t. path-lts.spec (path-claims t)
     (path-at t)
     path.Post
-    (path-mul-slot t)
-    (path-array-copy-out-slot t)
+    (λ c. place-fits (c .before .pre .1 .one))
+    (λ c. tree-inside (c .before .pre .1 .one))
     (λ c. search needs)
-    (λ c. path-next t (c .before .before .before .before))
-    (path-state-formula-requires t)
+    (λ c. next-fits (c .before .before .before .before .pre .1 .one))
+    (λ c κs. let pre = c .before .before .before .before .before .pre in
+    (to-operand (pre .1 .one) (pre .0), next-ready (pre .1) (c .before .enum-told .given .1)))
     (path-next-within-requires t)
     (λ c. search needs)
-    (λ c. path-next t (c .before .before .before .before .before))
+    (λ c. next-fits (c .before .before .before .before .before .pre .1 .one))
     (path-two-formulas-requires t)
     (path-until-within-requires t)
     (λ c κs. search needs)
@@ -686,33 +488,36 @@ pub +combined+expression+path+state-formula+two-expressions+two-formulas-spec :
     (path-returns t)
     (λ c. search needs)
     (path-returns-2 t)
-    (path-returns-3 t))
+    (λ c. no-tree Path (c .before .match .keys3)))
     (λ t. state-formula-lts.spec (state-formula-claims t)
     (state-formula-at t)
     state-formula.Post
-    (state-formula-mul-slot t)
-    (state-formula-array-copy-out-slot t)
+    (λ c. place-fits (c .before .pre .1))
+    (λ c. tree-inside (c .before .pre .1))
     (λ c. search needs)
-    (state-formula-always-requires t)
-    (λ c. state-formula-next t (c .before .before .before .before .before .before .before .before))
+    (λ c κs. tree-room (c .before .before .before .before .before .pre .1))
+    (λ c. next-fits (c .before .before .before .before .before .before .before .before .pre .1))
     (λ c. search needs)
     (state-formula-label-requires t)
-    (λ c. state-formula-next t (c .before .before .before .before .before .before .before .before .before))
+    (λ c. next-fits (c .before .before .before .before .before .before .before .before .before .pre .1))
     (λ c. search needs)
-    (λ c. state-formula-next t (c .before .before .before .before))
-    (state-formula-state-formula-requires t)
-    (state-formula-negated-requires t)
+    (λ c. next-fits (c .before .before .before .before .pre .1))
+    (λ c κs. let pre = c .before .before .before .before .before .pre in
+    (to-operand (pre .1) (pre .0), not-ready (pre .1) (c .before .enum-told2 .given .1)))
+    (λ c κs. room-kept (tree-room (c .before .before .before .before .before .before .before .before .before .pre .1))
+    (c .before .before .before .state-formula .kept .1 .1 .1 .1 .1 .0))
     (λ c. search needs)
-    (λ c. state-formula-next t (c .before .before .before .before))
-    (state-formula-two-formulas-requires t)
+    (λ c. next-fits (c .before .before .before .before .pre .1))
+    (λ c κs. let pre = c .before .before .before .before .before .pre in
+    (to-operands (pre .1) (pre .0), and-ready (pre .1) (c .before .enum-told3 .given .1)))
     (state-formula-both-requires t)
     (λ c. search needs)
-    (λ c. state-formula-next t (c .before .before .before .before .before))
+    (λ c. next-fits (c .before .before .before .before .before .pre .1))
     (state-formula-two-expressions-requires t)
     (λ c κs. search needs)
     (state-formula-compare-requires t)
     (λ c. search needs)
-    (state-formula-returns t)
+    (λ c. true-done (c .before .before .before .before .enum-told .given .1) (c .before .before .always .ensures))
     (λ c. search needs)
     (state-formula-returns-2 t)
     (λ c. search needs)
@@ -721,12 +526,12 @@ pub +combined+expression+path+state-formula+two-expressions+two-formulas-spec :
     (state-formula-returns-4 t)
     (λ c. search needs)
     (state-formula-returns-5 t)
-    (state-formula-returns-6 t))
+    (λ c. no-tree State (c .match .keys6)))
     (λ t. two-expressions-lts.spec (two-expressions-claims t)
     (two-expressions-at t)
     two-expressions.Post
-    (two-expressions-order-of-requires t)
-    (two-expressions-expression-requires t)
+    (λ c κs. trees-inside (c .before .pre .1))
+    (λ c κs. let pre = c .before .before .before .pre in comes-first (pre .1) (c .before .order-of .ensures) (pre .0))
     (λ c. search needs)
     (two-expressions-sub-expression t)
     (two-expressions-sub-expression t)
@@ -740,8 +545,8 @@ pub +combined+expression+path+state-formula+two-expressions+two-formulas-spec :
     λ t. two-formulas-lts.spec (two-formulas-claims t)
     (two-formulas-at t)
     two-formulas.Post
-    (two-formulas-order-of-requires t)
-    (two-formulas-state-formula-requires t)
+    (λ c κs. trees-inside (c .before .pre .1))
+    (λ c κs. let pre = c .before .before .before .pre in comes-first (pre .1) (c .before .order-of .ensures) (pre .0))
     (λ c. search needs)
     (two-formulas-sub-state-formula t)
     (two-formulas-sub-state-formula t)
