@@ -173,33 +173,42 @@ module _ {k : Kind} {nodes : List Slot} {g : Setting} {masks : List ℕ} {rows :
               (room-past a T (paired-smaller-first a b (omega (arith, of-a, of-b, h))) (ready .room)))),
         )
 
-    -- after both calls: the one left `mid`, and the other `lent` of its tail
-    module _ {mid lent : List ℕ} {next bottom next′ bottom′ : ℕ} (one : TreeDone k nodes g masks rows (r .first) mid next bottom)
-        (same : length mid ≡ length w) (other : TreeDone k nodes g masks rows (r .then) lent next′ bottom′)
-        (long : length lent ≡ length (take (length mid - g .tuples) (drop (g .tuples) mid))) where
-      abbrev whole : List ℕ
-      whole = take (g .tuples) mid ++ (lent ++ drop (length mid - g .tuples) (drop (g .tuples) mid))
+-- ---- after both calls
 
-      back : Back (g .tuples) mid lent whole
-      back = put-back (g .tuples) mid lent (front-room same) long
+-- the work area where the tail past the front layer comes back as `lent`
+abbrev returned : (T : ℕ) (mid lent : List ℕ) → List ℕ
+returned T mid lent = take T mid ++ (lent ++ drop (length mid - T) (drop T mid))
 
-      abbrev Left : (v : List ℕ) (next bottom p : ℕ) → Type 0
-      Left v next bottom p = TreeDone k nodes g masks rows p v next bottom
+-- the one left `mid`, and the other `lent` in the tail: each as many numbers as it was lent
+pub record BothRun {k : Kind} {nodes : List Slot} {g : Setting} {masks : List ℕ} {rows : List (List ℕ)} {at : ℕ} {w : List ℕ}
+    (ready : TreesReady k nodes g masks rows at w) {r : Order} (o : Ordered nodes at r) {mid lent : List ℕ} {next bottom next′ bottom′ : ℕ}
+    (one : TreeDone k nodes g masks rows (r .first) mid next bottom) (other : TreeDone k nodes g masks rows (r .then) lent next′ bottom′) :
+    Type 0 where
+  pub same : length mid ≡ length w
+  pub long : length lent ≡ length (take (length mid - g .tuples) (drop (g .tuples) mid))
 
-      -- there is room for both layers still
-      pub both-room : g .tuples + g .tuples ≤ length whole
-      both-room = room-kept (room-kept trees-room same) (back .long)
+module _ {k : Kind} {nodes : List Slot} {g : Setting} {masks : List ℕ} {rows : List (List ℕ)} {at : ℕ} {w : List ℕ}
+    {ready : TreesReady k nodes g masks rows at w} {r : Order} {o : Ordered nodes at r} {mid lent : List ℕ} {next bottom next′ bottom′ : ℕ}
+    {one : TreeDone k nodes g masks rows (r .first) mid next bottom} {other : TreeDone k nodes g masks rows (r .then) lent next′ bottom′}
+    (run : BothRun ready o one other) where
+  back : Back (g .tuples) mid lent (returned (g .tuples) mid lent)
+  back = put-back (g .tuples) mid lent (front-room ready (run .same)) (run .long)
 
-      -- where they were evaluated as they stand
-      pub trees-standing : r .crossed ≡ false → TreesDone k nodes g masks rows at whole next′ bottom bottom′
-      trees-standing as-is =
-          by-standing (Left mid next bottom) (Left lent next′ bottom′) (o .chosen) as-is
-          (both-left (o .surveyed) (λ c fixed f h x y. layers-stay (tuple-count fixed) back x y)) one other
+  -- there is room for both layers still
+  pub both-room : g .tuples + g .tuples ≤ length (returned (g .tuples) mid lent)
+  both-room = room-kept (room-kept (trees-room ready) (run .same)) (back .long)
 
-      -- where they were crossed and the layers then exchanged
-      pub trees-exchanged : {last : List ℕ} → r .crossed ≡ true → Swapped (g .tuples) whole last →
-          TreesDone k nodes g masks rows at last next bottom′ bottom
-      trees-exchanged turned swapped =
-          by-crossing (Left mid next bottom) (Left lent next′ bottom′) (o .chosen) turned
-          (λ second first. both-left (o .surveyed) (λ c fixed f h x y. layers-cross (tuple-count fixed) back y x swapped) first second)
-          one other
+  -- what is left where they were evaluated as they stand
+  pub trees-standing : r .crossed ≡ false → TreesDone k nodes g masks rows at (returned (g .tuples) mid lent) next′ bottom bottom′
+  trees-standing as-is =
+      by-standing (λ p. TreeDone k nodes g masks rows p mid next bottom) (λ p. TreeDone k nodes g masks rows p lent next′ bottom′)
+      (o .chosen) as-is (both-left (o .surveyed) (λ c fixed f h x y. layers-stay (tuple-count fixed) back x y)) one other
+
+  -- and where they were crossed and the layers then exchanged
+  pub trees-exchanged : {last : List ℕ} → r .crossed ≡ true → Swapped (g .tuples) (returned (g .tuples) mid lent) last →
+      TreesDone k nodes g masks rows at last next bottom′ bottom
+  trees-exchanged turned swapped =
+      by-crossing (λ p. TreeDone k nodes g masks rows p mid next bottom) (λ p. TreeDone k nodes g masks rows p lent next′ bottom′)
+      (o .chosen) turned
+      (λ second first. both-left (o .surveyed) (λ c fixed f h x y. layers-cross (tuple-count fixed) back y x swapped) first second)
+      one other

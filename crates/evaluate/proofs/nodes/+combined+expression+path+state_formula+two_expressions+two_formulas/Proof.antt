@@ -7,7 +7,7 @@ use Rattle.evaluate.proofs.Expressions.{combining-ready, bottoms-small,
 use Rattle.evaluate.proofs.Expressions.{constant-done, sum-done, difference-done, product-done}
 use Rattle.evaluate.proofs.Formulas.{label-ready, not-ready, and-ready, compare-ready, comparing-ready}
 use Rattle.evaluate.proofs.Formulas.{true-done, label-done, not-done, and-done, compare-done}
-use Rattle.evaluate.proofs.Operands.{trees-inside, trees-room, front-room, comes-first, comes-then, both-room}
+use Rattle.evaluate.proofs.Operands.{trees-inside, trees-room, front-room, comes-first, comes-then, BothRun, both-room}
 use Rattle.evaluate.proofs.Operands.{trees-standing, trees-exchanged}
 use Rattle.evaluate.proofs.Others.{no-tree}
 use Rattle.evaluate.proofs.Pathways.{next-ready, stepping-ready, until-ready, taking-ready, next-done, until-done}
@@ -239,31 +239,16 @@ two-expressions-expression-requires-2 t c κs =
     comes-then (start .pre .1) (one .before .before .order-of .ensures) (start .pre .0) (one .expression .last .1 .1 .1 .1 .1 .0)
     (one .expression .kept .1 .1 .1 .1 .1 .0)
 
-two-expressions-swap-requires : (t : ℕ) → two-expressions-lts.Need-swap-requires (two-expressions-claims t) (two-expressions-at t)
-    two-expressions.Post
-two-expressions-swap-requires t c κs =
-    let other = c .before .before .before .before in
-    let one = other .before .before .before .before in
-    both-room (one .before .before .before .before .pre .1) (one .before .before .order-of .ensures) (one .expression .ensures)
-    (one .expression .kept .1 .1 .1 .1 .1 .0) (other .expression2 .ensures) (other .expression2 .kept .1 .1 .1 .1 .1 .0)
-
-two-expressions-returns : (t : ℕ) → two-expressions-lts.Need-returns (two-expressions-claims t) (two-expressions-at t)
-    two-expressions.Post
-two-expressions-returns t c =
-    let swapped = c .before .before in
-    let other = swapped .before .before .before .before .before in
-    let one = other .before .before .before .before in
-    trees-exchanged (one .before .before .before .before .pre .1) (one .before .before .order-of .ensures) (one .expression .ensures)
-    (one .expression .kept .1 .1 .1 .1 .1 .0) (other .expression2 .ensures) (other .expression2 .kept .1 .1 .1 .1 .1 .0)
-    (swapped .before .before .if1 .taken) (swapped .swap .ensures)
-
-two-expressions-returns-2 : (t : ℕ) → two-expressions-lts.Need-returns-2 (two-expressions-claims t) (two-expressions-at t)
-    two-expressions.Post
-two-expressions-returns-2 t c =
-    let other = c .before .before .before in
-    let one = other .before .before .before .before in
-    trees-standing (one .before .before .before .before .pre .1) (one .before .before .order-of .ensures) (one .expression .ensures)
-    (one .expression .kept .1 .1 .1 .1 .1 .0) (other .expression2 .ensures) (other .expression2 .kept .1 .1 .1 .1 .1 .0) (c .if1 .left)
+-- what is known where both calls are over
+two-expressions-run : (t : ℕ)
+    (c : two-expressions-lts.After-expression2 (two-expressions-claims t) (two-expressions-at t) two-expressions.Post) →
+    let one = c .before .before .before .before in
+    BothRun (one .before .before .before .before .pre .1) (one .before .before .order-of .ensures) (one .expression .ensures)
+    (c .expression2 .ensures)
+two-expressions-run t c = record {
+  same = c .before .before .before .before .expression .kept .1 .1 .1 .1 .1 .0;
+  long = c .expression2 .kept .1 .1 .1 .1 .1 .0;
+}
 
 -- ---- an expression
 
@@ -383,32 +368,15 @@ two-formulas-state-formula-requires-2 t c κs =
     comes-then (start .pre .1) (one .before .before .order-of .ensures) (start .pre .0) (one .state-formula .last .1 .1 .1 .1 .1 .0)
     (one .state-formula .kept .1 .1 .1 .1 .1 .0)
 
-two-formulas-swap-requires : (t : ℕ) → two-formulas-lts.Need-swap-requires (two-formulas-claims t) (two-formulas-at t)
-    two-formulas.Post
-two-formulas-swap-requires t c κs =
-    let other = c .before .before .before .before in
-    let one = other .before .before .before .before in
-    both-room (one .before .before .before .before .pre .1) (one .before .before .order-of .ensures) (one .state-formula .ensures)
-    (one .state-formula .kept .1 .1 .1 .1 .1 .0) (other .state-formula2 .ensures) (other .state-formula2 .kept .1 .1 .1 .1 .1 .0)
-
-two-formulas-returns : (t : ℕ) → two-formulas-lts.Need-returns (two-formulas-claims t) (two-formulas-at t)
-    two-formulas.Post
-two-formulas-returns t c =
-    let swapped = c .before .before in
-    let other = swapped .before .before .before .before .before in
-    let one = other .before .before .before .before in
-    trees-exchanged (one .before .before .before .before .pre .1) (one .before .before .order-of .ensures) (one .state-formula .ensures)
-    (one .state-formula .kept .1 .1 .1 .1 .1 .0) (other .state-formula2 .ensures) (other .state-formula2 .kept .1 .1 .1 .1 .1 .0)
-    (swapped .before .before .if1 .taken) (swapped .swap .ensures)
-
-two-formulas-returns-2 : (t : ℕ) → two-formulas-lts.Need-returns-2 (two-formulas-claims t) (two-formulas-at t)
-    two-formulas.Post
-two-formulas-returns-2 t c =
-    let other = c .before .before .before in
-    let one = other .before .before .before .before in
-    trees-standing (one .before .before .before .before .pre .1) (one .before .before .order-of .ensures) (one .state-formula .ensures)
-    (one .state-formula .kept .1 .1 .1 .1 .1 .0) (other .state-formula2 .ensures) (other .state-formula2 .kept .1 .1 .1 .1 .1 .0)
-    (c .if1 .left)
+-- what is known where both calls are over
+two-formulas-run : (t : ℕ) (c : two-formulas-lts.After-state-formula2 (two-formulas-claims t) (two-formulas-at t) two-formulas.Post) →
+    let one = c .before .before .before .before in
+    BothRun (one .before .before .before .before .pre .1) (one .before .before .order-of .ensures) (one .state-formula .ensures)
+    (c .state-formula2 .ensures)
+two-formulas-run t c = record {
+  same = c .before .before .before .before .state-formula .kept .1 .1 .1 .1 .1 .0;
+  long = c .state-formula2 .kept .1 .1 .1 .1 .1 .0;
+}
 
 -- ---- all six; a need of one line stands in the list without a name
 
@@ -537,11 +505,12 @@ pub +combined+expression+path+state-formula+two-expressions+two-formulas-spec :
     (two-expressions-sub-expression t)
     (λ c. search needs)
     (two-expressions-expression-requires-2 t)
-    (two-expressions-swap-requires t)
+    (λ c κs. both-room (two-expressions-run t (c .before .before .before .before)))
     (λ c. search needs)
-    (two-expressions-returns t)
+    (λ c. trees-exchanged (two-expressions-run t (c .before .before .before .before .before .before .before))
+    (c .before .before .before .before .if1 .taken) (c .before .before .swap .ensures))
     (λ c. search needs)
-    (two-expressions-returns-2 t))
+    (λ c. trees-standing (two-expressions-run t (c .before .before .before)) (c .if1 .left)))
     λ t. two-formulas-lts.spec (two-formulas-claims t)
     (two-formulas-at t)
     two-formulas.Post
@@ -552,8 +521,9 @@ pub +combined+expression+path+state-formula+two-expressions+two-formulas-spec :
     (two-formulas-sub-state-formula t)
     (λ c. search needs)
     (two-formulas-state-formula-requires-2 t)
-    (two-formulas-swap-requires t)
+    (λ c κs. both-room (two-formulas-run t (c .before .before .before .before)))
     (λ c. search needs)
-    (two-formulas-returns t)
+    (λ c. trees-exchanged (two-formulas-run t (c .before .before .before .before .before .before .before))
+    (c .before .before .before .before .if1 .taken) (c .before .before .swap .ensures))
     (λ c. search needs)
-    (two-formulas-returns-2 t)
+    (λ c. trees-standing (two-formulas-run t (c .before .before .before)) (c .if1 .left))
