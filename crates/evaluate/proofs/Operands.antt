@@ -12,8 +12,8 @@ use Rattle.meaning.specs.Chain.{Chain, Tuple}
 use Rattle.layers.specs.Layers.{Layer, Swapped}
 use Rattle.layers.proofs.Tails.{Back, lent-tail, put-back}
 use Rattle.layers.proofs.Swapping.{front-swapped, next-swapped}
+use Rattle.trees.specs.Standing.{Tree}
 use Rattle.trees.specs.Need.{paired}
-use Rattle.trees.proofs.Exists.{Tree}
 use Rattle.surveys.specs.declared.Extent.{Extent}
 use Rattle.surveys.specs.declared.Order.{Order}
 use Rattle.surveys.specs.Surveys.{TreeSurveyed, Chosen, standing, crossing, Ordered}

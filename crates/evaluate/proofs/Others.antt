@@ -12,9 +12,8 @@ use Rattle.sentence.specs.declared.Kind.{Kind}
 use Rattle.sentence.specs.declared.Kind.the-variants.{State, Expression as ExpressionKind, Path as PathKind}
 use Rattle.sentence.specs.declared.Slot.{Slot}
 use Rattle.sentence.specs.declared.Node.{Node}
-use Rattle.trees.specs.Standing.{nodeAt, always-at, labelled-at, negation-at, both-at, compare-at}
+use Rattle.trees.specs.Standing.{Tree, nodeAt, always-at, labelled-at, negation-at, both-at, compare-at}
 use Rattle.trees.specs.Standing.{probability-at, constant-at, sum-at, difference-at, product-at, next-at, until-at}
-use Rattle.trees.proofs.Exists.{Tree}
 use Rattle.evaluate.specs.declared.Setting.{Setting}
 use Rattle.evaluate.specs.Evaluation.{TreeAt, TreeDone}
 

@@ -18,10 +18,9 @@ use Rattle.meaning.specs.Size.{exceeds}
 use Rattle.meaning.proofs.Tests.{or-left, or-right}
 use Rattle.layers.specs.Held.{mostVariables}
 use Rattle.trees.specs.Need.{paired}
-use Rattle.trees.specs.Standing.{nodeAt}
+use Rattle.trees.specs.Standing.{Tree, nodeAt}
 use Rattle.trees.proofs.Cases.{FormulaCase, formula-case, formula-place, ExpressionCase, expression-case, expression-place}
 use Rattle.trees.proofs.Cases.{PathCase, path-case, path-place}
-use Rattle.trees.proofs.Exists.{Tree}
 use Rattle.surveys.specs.declared.Extent.{Extent}
 use Rattle.surveys.specs.Surveys.{TreeSurveyed}
 use Rattle.evaluate.specs.declared.Setting.{Setting}

@@ -25,8 +25,7 @@ use Rattle.untils.specs.Untils.{UntilFits, UntilRepeated}
 use Rattle.names.specs.Names.{namesBetween}
 use Rattle.trees.specs.Need.{paired, need, needIn, needFrom}
 use Rattle.trees.specs.Ranged.{Ranged, RangedIn, RangedFrom}
-use Rattle.trees.specs.Standing.{FormulaAt, ExpressionAt, PathAt}
-use Rattle.trees.proofs.Exists.{Tree}
+use Rattle.trees.specs.Standing.{Tree, FormulaAt, ExpressionAt, PathAt}
 use Rattle.evaluate.specs.declared.Setting.{Setting}
 
 -- the chain is the one that the masks and the rows hold, in this setting

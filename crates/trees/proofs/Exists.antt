@@ -11,14 +11,9 @@ use Rattle.sentence.specs.declared.Node.{Node}
 use Rattle.sentence.specs.declared.Node.the-variants.{True, Label, Not, And, Compare, Probability, Constant, Sum, Difference, Product, Next}
 use Rattle.sentence.specs.declared.Node.the-variants.{Until}
 use Rattle.meaning.specs.Tree.{Relation, less, atMost, equal, atLeast, greater, Formula, always, labelled, negation, both, compare}
-use Rattle.meaning.specs.Tree.{Expression, probability, constant, sum, difference, product, PathFormula, next, until}
+use Rattle.meaning.specs.Tree.{Expression, probability, constant, sum, difference, product, next, until}
 use Rattle.trees.specs.Listed.{relationSpelled, formulaNodes, expressionNodes, pathNodes}
-
--- the trees of a kind
-abbrev pub Tree : Kind → Type 0
-Tree State = Formula
-Tree ExpressionKind = Expression
-Tree PathKind = PathFormula
+use Rattle.trees.specs.Standing.{Tree}
 
 -- the nodes of a tree of a kind
 abbrev pub treeNodes : (k : Kind) → Tree k → List Node

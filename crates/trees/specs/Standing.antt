@@ -5,6 +5,8 @@ use Prim.Native.Nat.{ℕ, _+_, _<_}
 use mathlib.Core.List.{List}
 use mathlib.Core.Path.{_≡_}
 use lib.ListN.{getD}
+use Rattle.sentence.specs.declared.Kind.{Kind}
+use Rattle.sentence.specs.declared.Kind.the-variants.{State, Expression as ExpressionKind, Path as PathKind}
 use Rattle.sentence.specs.declared.Slot.{Slot}
 use Rattle.sentence.specs.declared.Node.{Node}
 use Rattle.sentence.specs.declared.Node.the-variants.{True, Label, Not, And, Compare, Probability, Constant, Sum, Difference, Product, Next}
@@ -13,6 +15,12 @@ use Rattle.sentence.specs.Record.{slot}
 use Rattle.meaning.specs.Tree.{Relation, Formula, always, labelled, negation, both, compare, PathFormula, next, until}
 use Rattle.meaning.specs.Tree.{Expression, probability, constant, sum, difference, product}
 use Rattle.trees.specs.Listed.{relationSpelled}
+
+-- the trees of a kind
+abbrev pub Tree : Kind → Type 0
+Tree State = Formula
+Tree ExpressionKind = Expression
+Tree PathKind = PathFormula
 
 -- the node at a place of the record
 abbrev pub nodeAt : List Slot → ℕ → Node
