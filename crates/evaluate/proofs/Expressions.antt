@@ -26,7 +26,7 @@ use Rattle.trees.specs.Need.{paired, needIn}
 use Rattle.trees.specs.Ranged.{RangedIn}
 use Rattle.trees.specs.Standing.{nodeAt, ExpressionAt}
 use Rattle.trees.proofs.Cases.{ExpressionCase, expression-case}
-use Rattle.evaluate.specs.declared.Setting.{Setting}
+use Rattle.path_steps.specs.declared.Setting.{Setting}
 use Rattle.evaluate.specs.Evaluation.{TreeReady, PathReady, CombinedReady, TreeDone, TreesDone, CombinedDone}
 use Rattle.evaluate.proofs.Fixing.{tuple-count}
 use Rattle.evaluate.proofs.Trees.{tree-ready, trees-ready, known, by-case}

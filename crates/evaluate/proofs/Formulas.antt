@@ -25,7 +25,7 @@ use Rattle.trees.specs.Need.{need}
 use Rattle.trees.specs.Standing.{nodeAt}
 use Rattle.trees.proofs.Once.{spelled-relation}
 use Rattle.trees.proofs.Cases.{formula-case}
-use Rattle.evaluate.specs.declared.Setting.{Setting}
+use Rattle.path_steps.specs.declared.Setting.{Setting}
 use Rattle.evaluate.specs.Evaluation.{TreeReady, TreesReady, TreeDone, TreesDone}
 use Rattle.evaluate.proofs.Fixing.{to-chain, tuple-count}
 use Rattle.evaluate.proofs.Trees.{tree-ready, trees-ready, tree-room, known, formulas-small, by-case}

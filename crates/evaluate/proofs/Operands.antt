@@ -17,7 +17,7 @@ use Rattle.trees.specs.Need.{paired}
 use Rattle.surveys.specs.declared.Extent.{Extent}
 use Rattle.surveys.specs.declared.Order.{Order}
 use Rattle.surveys.specs.Surveys.{TreeSurveyed, Chosen, standing, crossing, Ordered}
-use Rattle.evaluate.specs.declared.Setting.{Setting}
+use Rattle.path_steps.specs.declared.Setting.{Setting}
 use Rattle.evaluate.specs.Evaluation.{Fixed, TreeAt, treeNeed, EvaluatedTwo, TreeReady, TreesReady, TreeDone, TreesDone}
 use Rattle.evaluate.proofs.Needing.{paired-first, paired-second, paired-smaller, paired-smaller-first, paired-two}
 use Rattle.evaluate.proofs.Needing.{room-of, room-past}

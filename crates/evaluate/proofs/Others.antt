@@ -14,7 +14,7 @@ use Rattle.sentence.specs.declared.Slot.{Slot}
 use Rattle.sentence.specs.declared.Node.{Node}
 use Rattle.trees.specs.Standing.{Tree, nodeAt, always-at, labelled-at, negation-at, both-at, compare-at}
 use Rattle.trees.specs.Standing.{probability-at, constant-at, sum-at, difference-at, product-at, next-at, until-at}
-use Rattle.evaluate.specs.declared.Setting.{Setting}
+use Rattle.path_steps.specs.declared.Setting.{Setting}
 use Rattle.evaluate.specs.Evaluation.{TreeAt, TreeDone}
 
 -- the tags of the nodes of the other kinds

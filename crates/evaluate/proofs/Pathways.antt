@@ -28,9 +28,9 @@ use Rattle.trees.specs.Standing.{nodeAt, PathAt}
 use Rattle.trees.proofs.Cases.{path-case}
 use Rattle.trees.proofs.Parts.{path-ends}
 use Rattle.names.proofs.Labels.{path-names, path-forward}
-use Rattle.evaluate.specs.declared.Setting.{Setting}
+use Rattle.path_steps.specs.declared.Setting.{Setting}
 use Rattle.evaluate.specs.Evaluation.{Fixed, Evaluated, EvaluatedTwo, TreeReady, TreesReady, PathReady, TreeDone, TreesDone}
-use Rattle.evaluate.specs.Evaluation.{namedAt, NextFits, NextTaken, WindowFits, WindowTaken}
+use Rattle.path_steps.specs.Within.{namedAt, NextFits, NextTaken, WindowFits, WindowTaken}
 use Rattle.evaluate.proofs.Needing.{room-of}
 use Rattle.evaluate.proofs.Fixing.{to-chain, to-setting, tuple-count}
 use Rattle.evaluate.proofs.Trees.{tree-ready, trees-ready, tree-room, known, formulas-small, by-case}

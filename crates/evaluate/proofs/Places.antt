@@ -15,10 +15,6 @@ to-each at next t measure forward = omega arith
 pub small-fits : (x : ℕ) → x ≤ sizeLimit → Fits w64 x
 small-fits x h = record { fits = omega arith }
 
--- so is n × k2
-pub times-fit : (x : ℕ) → x ≤ 240 → Fits w64 x
-times-fit x h = record { fits = omega arith }
-
 -- room stays over a call, which leaves as many numbers
 pub room-kept : {k long before : ℕ} → k ≤ before → long ≡ before → k ≤ long
 room-kept h same = omega arith

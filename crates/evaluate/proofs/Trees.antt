@@ -23,7 +23,7 @@ use Rattle.trees.proofs.Cases.{FormulaCase, formula-case, formula-place, Expres
 use Rattle.trees.proofs.Cases.{PathCase, path-case, path-place}
 use Rattle.surveys.specs.declared.Extent.{Extent}
 use Rattle.surveys.specs.Surveys.{TreeSurveyed}
-use Rattle.evaluate.specs.declared.Setting.{Setting}
+use Rattle.path_steps.specs.declared.Setting.{Setting}
 use Rattle.evaluate.specs.Evaluation.{Fixed, TreeAt, TreeRanged, treeExceeds, treeNeed, Evaluated, TreeReady, TreesReady, TreeDone}
 use Rattle.evaluate.proofs.Needing.{need-some, needIn-some, needFrom-some, room-of}
 

@@ -2,31 +2,27 @@
 --
 -- What evaluating a tree's nodes asks and leaves: the front layer of the work area holds, at every tuple, the meaning's
 -- own function of the tree that stands at the place.
-use Prim.Native.Nat.{ℕ, _*_, _^_, _≤_, _<_}
+use Prim.Native.Nat.{ℕ, _*_, _≤_, _<_}
 use mathlib.Core.Bool.{Bool, false}
 use mathlib.Core.List.{List}
 use mathlib.Core.Path.{_≡_}
 use lib.Dec.{eqb}
-use lib.ListN.{length, take, drop}
+use lib.ListN.{length, drop}
 use Rattle.sentence.specs.declared.Kind.{Kind}
 use Rattle.sentence.specs.declared.Kind.the-variants.{State, Expression as ExpressionKind, Path as PathKind}
 use Rattle.sentence.specs.declared.Slot.{Slot}
 use Rattle.meaning.specs.Chain.{Chain, Tuple}
 use Rattle.meaning.specs.Tree.{Expression}
-use Rattle.meaning.specs.Named.{Some, count}
 use Rattle.meaning.specs.Meaning.{holds, numerator, denominator}
 use Rattle.meaning.specs.Size.{sizeLimit, size, exceeds, exceedsIn, exceedsFrom}
 use Rattle.layers.specs.Layers.{Layer, truth, bitAt}
 use Rattle.layers.specs.Held.{mostVariables, Holds, LayerSizes}
 use Rattle.fractions.specs.Values.{numeratorCodes, expressionOf}
 use Rattle.fractions.specs.declared.Operation.{Operation}
-use Rattle.steps.specs.Steps.{StepFits, Stepped}
-use Rattle.untils.specs.Untils.{UntilFits, UntilRepeated}
-use Rattle.names.specs.Names.{namesBetween}
 use Rattle.trees.specs.Need.{paired, need, needIn, needFrom}
 use Rattle.trees.specs.Ranged.{Ranged, RangedIn, RangedFrom}
 use Rattle.trees.specs.Standing.{Tree, FormulaAt, ExpressionAt, PathAt}
-use Rattle.evaluate.specs.declared.Setting.{Setting}
+use Rattle.path_steps.specs.declared.Setting.{Setting}
 
 -- the chain is the one that the masks and the rows hold, in this setting
 pub record Fixed (c : Chain) (masks : List ℕ) (rows : List (List ℕ)) (g : Setting) : Type 0 where
@@ -135,38 +131,6 @@ module _ (k : Kind) (nodes : List Slot) (g : Setting) (masks : List ℕ) (rows :
 pub record PathReady (nodes : List Slot) (g : Setting) (masks : List ℕ) (rows : List (List ℕ)) (at : ℕ) (w : List ℕ) : Type 0 where
   pub one : TreeReady PathKind nodes g masks rows at w
   pub small : denominator (one .tree) (one .chain .D) (g .variables) ≤ sizeLimit
-
--- ---- the path that stands at the places at..end, from the truth of its formulas
-
--- the variables that step: those that its nodes name
-abbrev pub namedAt : List Slot → Setting → (at end : ℕ) → Some
-namedAt nodes g at end = take (g .variables) (namesBetween nodes at end)
-
-module _ (nodes : List Slot) (g : Setting) (rows : List (List ℕ)) where
-  -- what a next asks: its denominator is at most 2^62
-  pub record NextFits (at end : ℕ) (w : List ℕ) : Type 0 where
-    pub forward : at ≤ end
-    pub within : end ≤ 64
-    pub weighed : 1 ≤ g .d
-    pub step : StepFits rows (g .states) (g .variables) (namedAt nodes g at end) (g .tuples) w
-    pub fits : g .d ^ count (namedAt nodes g at end) ≤ sizeLimit
-
-  -- what it leaves and returns
-  pub record NextTaken (at end : ℕ) (before after : List ℕ) (r : ℕ) : Type 0 where
-    pub stepped : Stepped rows (g .states) (g .variables) (namedAt nodes g at end) (g .tuples) before after
-    pub bottom : r ≡ g .d ^ count (namedAt nodes g at end)
-
-  -- the same of until
-  pub record WindowFits (k1 k2 at end : ℕ) (w : List ℕ) : Type 0 where
-    pub forward : at ≤ end
-    pub within : end ≤ 64
-    pub last : k2 ≤ 60
-    pub until : UntilFits rows (g .states) (g .variables) (namedAt nodes g at end) (count (namedAt nodes g at end)) (g .tuples) (g .d)
-        k1 k2 w
-
-  pub record WindowTaken (k1 k2 at end : ℕ) (before after : List ℕ) (r : ℕ) : Type 0 where
-    pub taken : UntilRepeated rows (g .states) (g .variables) (namedAt nodes g at end) (g .tuples) (g .d) k1 k2 before after
-    pub bottom : r ≡ g .d ^ (count (namedAt nodes g at end) * k2)
 
 -- ---- two expressions and what an operation makes of them
 

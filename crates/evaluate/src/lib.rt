@@ -3,14 +3,6 @@
 pub mod nodes;
 mod plain;
 
-// What evaluation is over: N states, n variables, T tuples, and D.
-pub struct Setting {
-    pub states: usize,
-    pub variables: usize,
-    pub tuples: usize,
-    pub d: u64,
-}
-
 // Where a node's nodes end, and the denominator of its value.
 pub struct Valued {
     pub next: usize,

@@ -11,7 +11,7 @@ use Rattle.sentence.specs.declared.Sentence.{Sentence}
 use Rattle.meaning.specs.Tree.{Formula, always, PathFormula, next, pathsOf}
 use Rattle.meaning.specs.Meaning.{numerator, denominator}
 use Rattle.meaning.specs.Size.{exceeds}
-use Rattle.evaluate.specs.declared.Setting.{Setting}
+use Rattle.path_steps.specs.declared.Setting.{Setting}
 use Rattle.evaluate.specs.Evaluation.{PathReady, TreeDone}
 use Rattle.trees.specs.Ranged.{Ranged}
 use Rattle.chain.specs.Of.{chainOf, filledRows}

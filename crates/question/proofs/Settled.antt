@@ -22,7 +22,7 @@ use Rattle.meaning.specs.Chain.{Sound}
 use Rattle.meaning.specs.Size.{exceeds}
 use Rattle.counting.specs.Entries.{cell}
 use Rattle.layers.specs.Held.{LayerSizes}
-use Rattle.evaluate.specs.declared.Setting.{Setting}
+use Rattle.path_steps.specs.declared.Setting.{Setting}
 use Rattle.evaluate.specs.Evaluation.{Fixed}
 use Rattle.trees.specs.Listed.{formulaNodes}
 use Rattle.trees.specs.Ranged.{Ranged}

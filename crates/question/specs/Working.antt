@@ -15,7 +15,7 @@ use Rattle.sentence_reader.specs.Contract.{ReadRow, ReadSentenceEnsures}
 use Rattle.sentence.specs.Record.{recordOf}
 use Rattle.meaning.specs.Tree.{Formula}
 use Rattle.meaning.specs.Size.{exceeds}
-use Rattle.evaluate.specs.declared.Setting.{Setting}
+use Rattle.path_steps.specs.declared.Setting.{Setting}
 use Rattle.trees.specs.Listed.{formulaNodes}
 use Rattle.question.specs.Contract.{QuestionRow, areaSize}
 

@@ -14,7 +14,7 @@ use Rattle.meaning.specs.Tree.{Formula, Letter, letterOf}
 use Rattle.meaning.specs.Meaning.{holds, verdict}
 use Rattle.meaning.specs.Size.{exceeds}
 use Rattle.layers.specs.Layers.{Layer, truth}
-use Rattle.evaluate.specs.declared.Setting.{Setting}
+use Rattle.path_steps.specs.declared.Setting.{Setting}
 use Rattle.evaluate.specs.Evaluation.{TreeReady, TreeDone}
 use Rattle.descent.specs.Descent.{descended, lettersFrom, DescentReady}
 use Rattle.descent.proofs.Laws.{descent-is}

@@ -44,7 +44,7 @@ use Rattle.evaluate.proofs.nodes.nothing.Reads as nothing-reads
 use Rattle.layers.proofs.plain.label.Reads as label-reads
 use Rattle.evaluate.proofs.plain.relation_of.Reads as relation-of-reads
 use Rattle.layers.proofs.plain.swap.Reads as swap-reads
-use Rattle.evaluate.proofs.plain.until_within.Reads as until-within-reads
+use Rattle.path_steps.proofs.until_within.Reads as until-within-reads
 use Rattle.surveys.proofs.order_of.Reads as order-of-reads
 use Rattle.fractions.proofs.codes.combine.Reads as combine-reads
 use Rattle.fractions.proofs.codes.compare.Reads as compare-reads
@@ -52,7 +52,7 @@ use Rattle.fractions.proofs.codes.constant.Reads as constant-reads
 use Rattle.layers.proofs.plain.always.Reads as always-reads
 use Rattle.layers.proofs.plain.both.Reads as both-reads
 use Rattle.layers.proofs.plain.negated.Reads as negated-reads
-use Rattle.evaluate.proofs.plain.next_within.Reads as next-within-reads
+use Rattle.path_steps.proofs.next_within.Reads as next-within-reads
 use Rattle.evaluate.proofs.nodes.+combined+expression+path+state_formula+two_expressions+two_formulas.{
   statement,
 }

@@ -9,8 +9,8 @@ use lib.ListN.{take}
 use Rattle.meaning.specs.Named.{count}
 use Rattle.steps.specs.Steps.{StepFits}
 use Rattle.steps.proofs.Joint.{stepped-by}
-use Rattle.evaluate.proofs.plain.next_within.Statement.{statement}
-use Rattle.evaluate.proofs.plain.next_within.Tie as tie
+use Rattle.path_steps.proofs.next_within.Statement.{statement}
+use Rattle.path_steps.proofs.next_within.Tie as tie
 
 joint-step-requires : tie.Need-joint-step-requires
 joint-step-requires c κs =

@@ -7,13 +7,18 @@ use mathlib.Core.Path.{sym, ap, subst, _∙_}
 use native.Mathlib.Nat.{le-trans, le-of-eq, mul-le-mul, one-mul}
 use native.Mathlib.Omega.{arith}
 use lib.ListN.{take}
+use mir.Syntax.{w64}
+use mir.Val.{Fits}
 use Rattle.meaning.specs.Named.{count}
 use Rattle.untils.specs.Untils.{UntilFits}
 use Rattle.untils.proofs.Repeating.{repeated-by}
 use Rattle.names.proofs.Labels.{count-few}
-use Rattle.evaluate.proofs.Places.{times-fit}
-use Rattle.evaluate.proofs.plain.until_within.Statement.{statement}
-use Rattle.evaluate.proofs.plain.until_within.Tie as tie
+use Rattle.path_steps.proofs.until_within.Statement.{statement}
+use Rattle.path_steps.proofs.until_within.Tie as tie
+
+-- v × k2 is a number of 64 bits
+times-fit : (x : ℕ) → x ≤ 240 → Fits w64 x
+times-fit x h = record { fits = omega arith }
 
 until-repeated-requires : tie.Need-until-repeated-requires
 until-repeated-requires c κs =
