@@ -10,21 +10,22 @@ use Rattle.sentence.specs.Grammar.{letterByte, bodyText, sentenceText, Spells, 
 use Rattle.sentence.specs.Record.{prefixOf, nodesOf}
 use Rattle.sentence_writer.specs.Contract.{WriteRow, WriteSentenceEnsures}
 use Rattle.sentence_writer.specs.Contract.WriteRow.{counted, lettered, unspelled, range, short}
-use Rattle.sentence_writer.specs.Working.{Fit, Fits, Surveyed, Sized, Decision}
+use Rattle.sentence_survey.specs.Surveys.{Fit, Fits, Surveyed}
+use Rattle.sentence_writer.specs.Working.{Sized, Decision}
 use Rattle.numerals.specs.Working.{Put}
-use Rattle.sentence_writer.specs.Working.Fit.{stopped, fit, unfit}
+use Rattle.sentence_survey.specs.Surveys.Fit.{stopped, fit, unfit}
 use Rattle.sentence.specs.declared.Kind.the-variants.{State}
 use Rattle.sentence.specs.declared.Node.{Node}
-use Rattle.sentence_writer.specs.declared.Place.{Place}
+use Rattle.sentence_survey.specs.declared.Place.{Place}
 use Rattle.sentence.specs.declared.Sentence.{Sentence}
-use Rattle.sentence_writer.specs.declared.Survey.{Survey}
+use Rattle.sentence_survey.specs.declared.Survey.{Survey}
 use Rattle.refusal.specs.declared.Written.{Written}
 use Rattle.refusal.specs.declared.Written.the-variants.{Wrote, Refused as NotWritten}
 use Rattle.refusal.specs.Answers.{gives, refuses, replyOfWritten, Ensured, refused, answered}
 use Rattle.refusal.proofs.Ensuring.{one-result, one-front, written-told}
 use Rattle.sentence.proofs.Unique.{Peeled, peel, body-append}
 use Rattle.sentence.proofs.Once.{no-nodes}
-use Rattle.sentence_writer.proofs.Fitting.{listed-length}
+use Rattle.sentence_survey.proofs.Fitting.{listed-length}
 
 -- each row has a number from 6 on
 row-low : {s : Sentence} {room n : ℕ} → WriteRow s room n → 6 ≤ n

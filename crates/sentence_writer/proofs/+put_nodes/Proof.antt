@@ -9,7 +9,7 @@ use Rattle.sentence.specs.Grammar.{nodeText}
 use Rattle.sentence.specs.Record.{slot, listed}
 use Rattle.sentence.specs.Working.{AllWritable}
 use Rattle.sentence.specs.declared.Node.the-variants.{True}
-use Rattle.sentence_writer.proofs.Fitting.{listed-length, listed-here}
+use Rattle.sentence_survey.proofs.Fitting.{listed-length, listed-here}
 use Rattle.sentence_writer.proofs.Puts.{put-cons, cons-length, put-no-node}
 use Rattle.numerals.proofs.Puts.{put-length}
 use Prim.Native.Nat.{ℕ, _-_, _<_}

@@ -6,7 +6,7 @@ use native.Mathlib.Omega.{arith}
 use borrow.Author.Tests.{not-true, not-false}
 use lib.ListN.{length}
 use Rattle.sentence_writer.specs.Contract.WriteRow.{counted, lettered}
-use Rattle.sentence_writer.proofs.Fitting.{listed-length}
+use Rattle.sentence_survey.proofs.Fitting.{listed-length}
 use Rattle.sentence_writer.proofs.WriteAll.{Fine, fine, nested, refuse, refuse-none, refuse-unfit, refuse-more, refuse-long}
 use Rattle.sentence_writer.proofs.WriteAll.{refuse-range, refuse-short, decide-wrote}
 use borrow.Author.Needs.{needs}

@@ -6,8 +6,8 @@ use lib.ListN.{length}
 use Rattle.sentence.specs.Grammar.{nodeText}
 use Rattle.numerals.proofs.Numbers.{two-sizes}
 use borrow.Author.Needs.{needs}
-use Rattle.sentence_writer.proofs.node_size.Statement.{statement}
-use Rattle.sentence_writer.proofs.node_size.Tie as tie
+use Rattle.sentence_survey.proofs.node_size.Statement.{statement}
+use Rattle.sentence_survey.proofs.node_size.Tie as tie
 
 returns-7 : tie.Need-returns-7
 returns-7 c =

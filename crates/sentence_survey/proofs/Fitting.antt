@@ -12,13 +12,13 @@ use Rattle.sentence.specs.Grammar.{writable, Writable, kindOf, wants, Nests, bo
 use Rattle.sentence.specs.Grammar.Nests.{end, node}
 use Rattle.sentence.specs.Record.{slot, listed}
 use Rattle.sentence.specs.Working.{sameKind}
-use Rattle.sentence_writer.specs.Working.{Unfit, Fit, Fits}
-use Rattle.sentence_writer.specs.Working.Fit.{stopped, fit, unfit}
+use Rattle.sentence_survey.specs.Surveys.{Unfit, Fit, Fits}
+use Rattle.sentence_survey.specs.Surveys.Fit.{stopped, fit, unfit}
 use Rattle.sentence.specs.declared.Kind.{Kind}
 use Rattle.sentence.specs.declared.Node.{Node}
 use Rattle.sentence.specs.declared.Node.the-variants.{True}
 use Rattle.sentence.specs.declared.Slot.{Slot}
-use Rattle.sentence_writer.specs.declared.Place.{Place}
+use Rattle.sentence_survey.specs.declared.Place.{Place}
 use Rattle.sentence.proofs.Unique.{body-append, join, Peeled, peel}
 use Rattle.sentence.proofs.Suiting.{same-refl, same-eq}
 

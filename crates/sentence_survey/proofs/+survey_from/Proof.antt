@@ -5,19 +5,19 @@ use native.Mathlib.Omega.{arith}
 use lib.ListN.{getD, length-drop}
 use Rattle.sentence.specs.Record.{slot, listed}
 use Rattle.sentence.specs.declared.Node.the-variants.{True}
-use Rattle.sentence_writer.proofs.Fitting.{listed-length, listed-here}
-use Rattle.sentence_writer.proofs.Sizes.{survey-none, survey-more}
+use Rattle.sentence_survey.proofs.Fitting.{listed-length, listed-here}
+use Rattle.sentence_survey.proofs.Sizes.{survey-none, survey-more}
 use Prim.Native.Nat.{ℕ, _-_, _<_}
 use borrow.Author.Needs.{needs}
 use borrow.Fn.Kinds.{In}
 use borrow.Fn.PlainCycle.{Measures, is, falls, and}
-use Rattle.sentence_writer.proofs.survey_from.Reads as survey-from
-use Rattle.sentence_writer.proofs.survey_from.Kinds as survey-from-kinds
-use Rattle.sentence_writer.proofs.+survey_from.Lts-survey_from as survey-from-lts
+use Rattle.sentence_survey.proofs.survey_from.Reads as survey-from
+use Rattle.sentence_survey.proofs.survey_from.Kinds as survey-from-kinds
+use Rattle.sentence_survey.proofs.+survey_from.Lts-survey_from as survey-from-lts
 use Rattle.sentence.proofs.is_fault.Reads as is-fault-reads
-use Rattle.sentence_writer.proofs.node_size.Reads as node-size-reads
-use Rattle.sentence_writer.proofs.+survey_from.{statement}
-use Rattle.sentence_writer.proofs.+survey_from.Tie.{close}
+use Rattle.sentence_survey.proofs.node_size.Reads as node-size-reads
+use Rattle.sentence_survey.proofs.+survey_from.{statement}
+use Rattle.sentence_survey.proofs.+survey_from.Tie.{close}
 
 abbrev μ-survey-from : Measures 0 survey-from-kinds.ps ℕ
 μ-survey-from κs a = a .1 .1 .0 - a .1 .1 .1 .0

@@ -6,9 +6,9 @@ use mathlib.Core.Path.{_≡_, refl, sym, ap₂, subst}
 use native.Mathlib.Omega.{arith}
 use lib.ListN.{length, drop, length-append, drop-of-length-le}
 use Rattle.sentence.specs.Grammar.{nodeText, bodyText, outOfRange}
-use Rattle.sentence_writer.specs.Working.{Surveyed}
+use Rattle.sentence_survey.specs.Surveys.{Surveyed}
 use Rattle.sentence.specs.declared.Node.{Node}
-use Rattle.sentence_writer.specs.declared.Survey.{Survey}
+use Rattle.sentence_survey.specs.declared.Survey.{Survey}
 
 -- no node is left
 pub survey-none : (letters : ℕ) (l : List Node) (at : ℕ) → length l ≤ at → Surveyed letters (drop at l) (record { size = 0; fault = false })

@@ -6,8 +6,8 @@ use types.Run.{miss}
 use Rattle.sentence.specs.Grammar.{writable}
 use Rattle.sentence.proofs.Arms.{plain, other-arm}
 use borrow.Author.Needs.{needs}
-use Rattle.sentence_writer.proofs.has_text.Statement.{statement}
-use Rattle.sentence_writer.proofs.has_text.Tie as tie
+use Rattle.sentence_survey.proofs.has_text.Statement.{statement}
+use Rattle.sentence_survey.proofs.has_text.Tie as tie
 
 returns : tie.Need-returns
 returns c = sym (ap writable (c .before .node .given .1))

@@ -10,27 +10,27 @@ use lib.ListN.{length, drop, getD}
 use Rattle.sentence.specs.Grammar.{writable, kindOf, wanted}
 use Rattle.sentence.specs.Record.{slot, listed}
 use Rattle.sentence.specs.Working.{sameKind}
-use Rattle.sentence_writer.specs.Working.{Fits}
+use Rattle.sentence_survey.specs.Surveys.{Fits}
 use Rattle.sentence.specs.declared.Node.{Node}
 use Rattle.sentence.specs.declared.Node.the-variants.{True}
-use Rattle.sentence_writer.specs.declared.Place.{Place}
+use Rattle.sentence_survey.specs.declared.Place.{Place}
 use Rattle.sentence.specs.declared.Slot.{Slot}
 use Rattle.sentence.specs.declared.Wants.{Wants}
-use Rattle.sentence_writer.proofs.Fitting.{listed-length, listed-here, fits-then, fits-node, fits-other, fits-none, fits-stays}
-use Rattle.sentence_writer.proofs.Fitting.{fits-nothing}
+use Rattle.sentence_survey.proofs.Fitting.{listed-length, listed-here, fits-then, fits-node, fits-other, fits-none, fits-stays}
+use Rattle.sentence_survey.proofs.Fitting.{fits-nothing}
 use Prim.Native.Nat.{ℕ, _-_, _<_}
 use borrow.Author.Needs.{needs}
 use borrow.Fn.Kinds.{In}
 use borrow.Fn.PlainCycle.{Measures, is, falls, and}
-use Rattle.sentence_writer.proofs.nest.Reads as nest
-use Rattle.sentence_writer.proofs.nest.Kinds as nest-kinds
-use Rattle.sentence_writer.proofs.+nest.Lts-nest as nest-lts
-use Rattle.sentence_writer.proofs.has_text.Reads as has-text-reads
-use Rattle.sentence_writer.proofs.kind_of.Reads as kind-of-reads
-use Rattle.sentence_writer.proofs.same_kind.Reads as same-kind-reads
+use Rattle.sentence_survey.proofs.nest.Reads as nest
+use Rattle.sentence_survey.proofs.nest.Kinds as nest-kinds
+use Rattle.sentence_survey.proofs.+nest.Lts-nest as nest-lts
+use Rattle.sentence_survey.proofs.has_text.Reads as has-text-reads
+use Rattle.sentence_survey.proofs.kind_of.Reads as kind-of-reads
+use Rattle.sentence_survey.proofs.same_kind.Reads as same-kind-reads
 use Rattle.sentence.proofs.wants_of.Reads as wants-of-reads
-use Rattle.sentence_writer.proofs.+nest.{statement}
-use Rattle.sentence_writer.proofs.+nest.Tie.{close}
+use Rattle.sentence_survey.proofs.+nest.{statement}
+use Rattle.sentence_survey.proofs.+nest.Tie.{close}
 
 abbrev μ-nest : Measures 0 nest-kinds.ps ℕ
 μ-nest κs a = a .1 .0 - a .1 .1 .1 .0 .at
