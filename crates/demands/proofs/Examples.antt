@@ -1,5 +1,5 @@
 -- Document 01's starred lines hold: the one statement over the one table; and so do the examples of T-05 and T-09. Assumes nothing.
-use Prim.Native.Nat.{_≤_}
+use Prim.Native.Nat.{ℕ, _≤_}
 use Prim.Native.String.{String}
 use mathlib.Core.Bool.{Bool, true, false, _&&_, false≢true}
 use mathlib.Core.List.{List, [], _∷_, _++_, map}
@@ -14,8 +14,8 @@ use Rattle.numerals.specs.Numeral.{digits, numberText}
 use Rattle.sentence.specs.declared.Kind.{Kind}
 use Rattle.sentence.specs.declared.Kind.the-variants.{State, Expression}
 use Rattle.sentence.specs.declared.Node.{Node}
-use Rattle.sentence.specs.declared.Node.the-variants.{True, Label, Compare, Probability, Next}
-use Rattle.sentence.specs.declared.Relation.the-variants.{Less}
+use Rattle.sentence.specs.declared.Node.the-variants.{True, Label, Compare, Probability, Constant, Next, Until}
+use Rattle.sentence.specs.declared.Relation.the-variants.{Less, AtLeast, Greater}
 use Rattle.sentence.specs.Grammar.{writable, kindOf, wants, Nests, bodyText, sentenceText}
 use Rattle.sentence.specs.Grammar.Nests.{end, node}
 use Rattle.sentence.specs.Working.{sameKind}
@@ -28,6 +28,7 @@ use Rattle.trees.specs.Listed.{formulaNodes, expressionNodes, pathCount}
 use Rattle.chain.specs.Of.{filledWeight}
 use Rattle.merge.specs.Examples.{modelOfSketch, MergeMet}
 use Rattle.merge.proofs.Examples.{examples as merged}
+use Rattle.demands.specs.Watches.{Lengthened}
 use Rattle.demands.specs.Examples.{TextOf, SentenceText, Texted, modelOfLine, drawn, Met, M1halted, Halting, Lengthening}
 
 -- ---- the document's texts are those of the trees
@@ -146,13 +147,38 @@ halting = record { right = refl; chain = refl; row-5 = (refl, refl); row-4 = ref
 
 -- ---- T-09
 
-pub lengthening : Lengthening
-unfolding pathCount numberText digits
-lengthening = record {
-  letters = false ∷ true ∷ [];
-  front = Compare Less ∷ Probability ∷ Next ∷ Label 0 2 ∷ Probability ∷ [];
-  back = True ∷ Label 0 1 ∷ [];
-  shorter = record { some = omega arith; few = omega arith; nests = nested (State ∷ []) _ refl; text = refl };
-  longer = record { some = omega arith; few = omega arith; nests = nested (State ∷ []) _ refl; text = refl };
+-- by what stands before the until and behind it
+lengthened : (letters : List Bool) (front back : List Node) (k1 k2 k2′ : ℕ) (text text′ : String) → 1 ≤ length letters →
+    length letters ≤ 4 → nesting (State ∷ []) (front ++ (Until k1 k2 ∷ back)) ≡ true →
+    nesting (State ∷ []) (front ++ (Until k1 k2′ ∷ back)) ≡ true →
+    ascii text ≡ sentenceText letters (front ++ (Until k1 k2 ∷ back)) →
+    ascii text′ ≡ sentenceText letters (front ++ (Until k1 k2′ ∷ back)) →
+    Lengthened (ascii text) (ascii text′) (pathCount front) k1 k2 k2′
+lengthened letters front back k1 k2 k2′ text text′ some few n n′ e e′ = record {
+  letters = letters;
+  front = front;
+  back = back;
+  shorter = record { some = some; few = few; nests = nested (State ∷ []) _ n; text = e };
+  longer = record { some = some; few = few; nests = nested (State ∷ []) _ n′; text = e′ };
   number = refl;
 }
+
+pub lengthening : Lengthening
+unfolding pathCount numberText digits
+lengthening =
+    let first = Compare Less ∷ Probability ∷ Next ∷ Label 0 2 ∷ Probability ∷ [] in
+    let met = True ∷ Label 0 1 ∷ [] in
+    let whole = Compare AtLeast ∷ Probability ∷ [] in
+    let compared = True ∷ Compare Greater ∷ Probability ∷ [] in
+    let constants = Constant 0 1 ∷ Constant 1 2 ∷ [] in
+    record {
+      second =
+          lengthened (false ∷ true ∷ []) first met 0 2 3 "AE.<PXa2PU0,2:Ta1" "AE.<PXa2PU0,3:Ta1" (omega arith) (omega arith) refl refl refl
+          refl;
+      around =
+          lengthened (false ∷ []) whole (compared ++ (Until 0 2 ∷ (met ++ constants))) 1 4 60 "A.GPU1,4:T>PU0,2:Ta1#0/1;#1/2;"
+          "A.GPU1,60:T>PU0,2:Ta1#0/1;#1/2;" (omega arith) (omega arith) refl refl refl refl;
+      inside =
+          lengthened (false ∷ []) (whole ++ (Until 1 4 ∷ compared)) (met ++ constants) 0 2 10 "A.GPU1,4:T>PU0,2:Ta1#0/1;#1/2;"
+          "A.GPU1,4:T>PU0,10:Ta1#0/1;#1/2;" (omega arith) (omega arith) refl refl refl refl;
+    }

@@ -121,35 +121,42 @@ grown c adds n k1 k2 k2′ f g {tuple} inside h =
 module _
     {file text text′ tuple area area′ : List ℕ} {path k1 k2 k2′ top bottom top′ bottom′ : ℕ} (l : Lengthened text text′ path k1 k2 k2′)
     (x : Told file text tuple path area top bottom) (y : Told file text′ tuple path area′ top′ bottom′) (s : SentenceOf text)
+    (s′ : SentenceOf text′)
   where
     -- the until, in the one sentence and in the other
-    untils : OneUntil (s .body) (y .spelled .body) (pathCount (l .front)) k1 k2 k2′ (next always)
+    untils : OneUntil (s .body) (s′ .body) (pathCount (l .front)) k1 k2 k2′ (next always)
     untils =
-        one-until (l .front) (l .back) k1 k2 k2′ (s .body) (y .spelled .body) (next always)
+        one-until (l .front) (l .back) k1 k2 k2′ (s .body) (s′ .body) (next always)
         (spelled-once (l .shorter) (s .spelled) .1)
-        (spelled-once (l .longer) (y .spelled .spelled) .1)
+        (spelled-once (l .longer) (s′ .spelled) .1)
         (few x (l .front ++ (Until k1 k2 ∷ l .back)) (l .shorter))
+
+    that-until : (f : Formula) × (g : Formula) × (numbered (s .body) path ≡ until k1 k2 f g) × (numbered (s′ .body) path ≡ until k1 k2′ f g)
+    unfolding numbered
+    that-until = (
+      untils .first,
+      untils .second,
+      ap (numbered (s .body)) (sym (l .number)) ∙ untils .is,
+      ap (numbered (s′ .body)) (sym (l .number)) ∙ untils .is′,
+    )
 
     answers-grown : k2 ≤ k2′ →
         Grown (chainIn file .D ^ (v (numbered (s .body) path) (length (s .prefix)) * (k2′ - k2))) top bottom top′ bottom′
-    unfolding numbered
     answers-grown h =
         let c = chainIn file in
         let n = length (s .prefix) in
-        let f = untils .first in
-        let g = untils .second in
-        let is : numbered (s .body) path ≡ until k1 k2 f g =
-        ap (numbered (s .body)) (sym (l .number)) ∙ untils .is in
-        let is′ : numbered (y .spelled .body) path ≡ until k1 k2′ f g =
-        ap (numbered (y .spelled .body)) (sym (l .number)) ∙ untils .is′ in
-        let letters : length (y .spelled .prefix) ≡ n =
-        ap length (sym (spelled-once (l .longer) (y .spelled .spelled) .0) ∙ spelled-once (l .shorter) (s .spelled) .0) in
+        let f = that-until .0 in
+        let g = that-until .1 in
+        let is = that-until .2 in
+        let is′ = that-until .3 in
+        let letters : length (s′ .prefix) ≡ n =
+        ap length (sym (spelled-once (l .longer) (s′ .spelled) .0) ∙ spelled-once (l .shorter) (s .spelled) .0) in
         let tops : top ≡ numerator (until k1 k2 f g) c n tuple = x .tops s ∙ ap (λ (w : PathFormula). numerator w c n tuple) is in
         let bottoms : bottom ≡ denominator (until k1 k2 f g) (c .D) n =
         x .bottoms s ∙ ap (λ (w : PathFormula). denominator w (c .D) n) is in
-        let tops′ : top′ ≡ numerator (until k1 k2′ f g) c n tuple = y .tops (y .spelled) ∙ (λ i. numerator (is′ i) c (letters i) tuple) in
+        let tops′ : top′ ≡ numerator (until k1 k2′ f g) c n tuple = y .tops s′ ∙ (λ i. numerator (is′ i) c (letters i) tuple) in
         let bottoms′ : bottom′ ≡ denominator (until k1 k2′ f g) (c .D) n =
-        y .bottoms (y .spelled) ∙ (λ i. denominator (is′ i) (c .D) (letters i)) in
+        y .bottoms s′ ∙ (λ i. denominator (is′ i) (c .D) (letters i)) in
         transport⁻¹ (λ i. Grown (c .D ^ (v (is i) n * (k2′ - k2))) (tops i) (bottoms i) (tops′ i) (bottoms′ i))
         (grown c (adds-up x) n k1 k2 k2′ f g (tuple-inside (x .free) s) h)
 
@@ -159,11 +166,12 @@ one-step D vars k2 = ap (λ (k : ℕ). D ^ k) (ap (λ (k : ℕ). vars * k) (omeg
 
 answered : (file : List ℕ) → WatchesAnswered file
 answered file = record {
+  that-until = λ l x y s s′. that-until l (told x) (told y) s s′;
   one-more = λ {path = path} {k2 = k2} {top} {bottom} {top′} {bottom′} l x y s.
       subst (λ (power : ℕ). Grown power top bottom top′ bottom′)
       (one-step (chainIn file .D) (v (numbered (s .body) path) (length (s .prefix))) k2)
-      (answers-grown l (told x) (told y) s (omega arith));
-  any-more = λ l h x y s. answers-grown l (told x) (told y) s h;
+      (answers-grown l (told x) (told y) s (told y .spelled) (omega arith));
+  any-more = λ l h x y s. answers-grown l (told x) (told y) s (told y .spelled) h;
   add-up = λ x s. sums-told (told x) s;
 }
 

@@ -78,6 +78,8 @@ pub record Halting : Type 0 where
 
 -- ---- T-09
 
--- two texts that differ in one k2 alone, 2 and 3, in the path formula with the number 1
-abbrev pub Lengthening : Type 0
-Lengthening = Lengthened (ascii "AE.<PXa2PU0,2:Ta1") (ascii "AE.<PXa2PU0,3:Ta1") 1 0 2 3
+-- pairs of texts that differ in one k2 alone: of an until that stands second; of one around another; of the one inside
+pub record Lengthening : Type 0 where
+  pub second : Lengthened (ascii "AE.<PXa2PU0,2:Ta1") (ascii "AE.<PXa2PU0,3:Ta1") 1 0 2 3
+  pub around : Lengthened (ascii "A.GPU1,4:T>PU0,2:Ta1#0/1;#1/2;") (ascii "A.GPU1,60:T>PU0,2:Ta1#0/1;#1/2;") 0 1 4 60
+  pub inside : Lengthened (ascii "A.GPU1,4:T>PU0,2:Ta1#0/1;#1/2;") (ascii "A.GPU1,4:T>PU0,10:Ta1#0/1;#1/2;") 1 0 2 10

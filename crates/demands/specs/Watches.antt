@@ -19,8 +19,8 @@ use Rattle.numerator.specs.declared.Answer.the-variants.{Counted}
 use Rattle.numerator.specs.Contract.{NumeratorEnsures, numbered}
 use Rattle.demands.specs.Demands.{chainIn, PathProbability}
 
--- Two texts that differ in one k2 alone: the same letters, and the same nodes but for one until. Its path formula has the number
--- `path`, which is how many path formulas start before it.
+-- Two texts that differ in one k2 alone: the same letters, and the same nodes but for one until. That until is the path formula with
+-- the number `path`: so many start before it.
 pub record Lengthened (text text′ : List ℕ) (path k1 k2 k2′ : ℕ) : Type 0 where
   pub letters : List Bool
   pub front : List Node
@@ -29,11 +29,11 @@ pub record Lengthened (text text′ : List ℕ) (path k1 k2 k2′ : ℕ) : Type 
   pub longer : Spells letters (front ++ (Until k1 k2′ ∷ back)) text′
   pub number : pathCount front ≡ path
 
--- the two numbers of the longer watch beside those of the shorter, by a power of D:
+-- the two numbers of the longer watch beside those of the shorter, where `power` is a power of D:
 pub record Grown (power top bottom top′ bottom′ : ℕ) : Type 0 where
   -- its numerator is at least the other times the power,
   pub numerators : top * power ≤ top′
-  -- its denominator is just that,
+  -- its denominator is exactly the other times the power,
   pub denominators : bottom * power ≡ bottom′
   -- and so the probability is no lower.
   pub probabilities : top * bottom′ ≤ top′ * bottom
@@ -59,14 +59,20 @@ pub record Watched (c : Chain) (n : ℕ) : Type 0 where
   pub add-up : (p : PathFormula) {tuple : Tuple} → Inside (c .N) n tuple →
       TakenAndNot c p n tuple (numerator p c n tuple) (denominator p (c .D) n)
 
--- Of any two answers, or any one, that the contract of numerator allows on a file and that are no refusals:
+-- Of the answers, other than refusals, that the contract of numerator allows on a file:
 pub record WatchesAnswered (file : List ℕ) : Type 0 where
-  -- for two texts that differ in one k2 alone, which in the second is one more, at one tuple and one path number, D^v is the power
+  -- of any two for texts that differ in one k2 alone, at one tuple and one path number, the path formula with that number is the until
+  -- in both sentences, with k1 and both formulas unchanged;
+  pub that-until : {text text′ tuple area area′ left left′ : List ℕ} {path k1 k2 k2′ top bottom top′ bottom′ : ℕ} →
+      Lengthened text text′ path k1 k2 k2′ → NumeratorEnsures file text tuple path area (Counted top bottom) left →
+      NumeratorEnsures file text′ tuple path area′ (Counted top′ bottom′) left′ → (s : SentenceOf text) (s′ : SentenceOf text′) →
+      (f : Formula) × (g : Formula) × (numbered (s .body) path ≡ until k1 k2 f g) × (numbered (s′ .body) path ≡ until k1 k2′ f g)
+  -- where k2 is one more in the second, the numbers grow by D^v,
   pub one-more : {text text′ tuple area area′ left left′ : List ℕ} {path k1 k2 top bottom top′ bottom′ : ℕ} →
       Lengthened text text′ path k1 k2 (k2 + 1) → NumeratorEnsures file text tuple path area (Counted top bottom) left →
       NumeratorEnsures file text′ tuple path area′ (Counted top′ bottom′) left′ → (s : SentenceOf text) →
       Grown (chainIn file .D ^ v (numbered (s .body) path) (length (s .prefix))) top bottom top′ bottom′
-  -- and for any k2′ from k2 on D^(v × (k2′ − k2));
+  -- and for any k2′ from k2 on by D^(v × (k2′ − k2));
   pub any-more : {text text′ tuple area area′ left left′ : List ℕ} {path k1 k2 k2′ top bottom top′ bottom′ : ℕ} →
       Lengthened text text′ path k1 k2 k2′ → k2 ≤ k2′ → NumeratorEnsures file text tuple path area (Counted top bottom) left →
       NumeratorEnsures file text′ tuple path area′ (Counted top′ bottom′) left′ → (s : SentenceOf text) →

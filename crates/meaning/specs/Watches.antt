@@ -15,7 +15,7 @@ takes (until k1 k2 f g) c n tuple r =
     (beside (named (until k1 k2 f g) n) tuple (λ t. holds f c n t))
     (beside (named (until k1 k2 f g) n) tuple (λ t. holds g c n t)) k1 k2 r
 
--- the total weight of the runs not taken, each run once: the same runs as for the numerator, and those of them that it leaves out
+-- the total weight of the runs not taken, each run once: the numerator's list of runs, summed over those that the path does not take
 unfoldable pub notTaken : PathFormula → Chain → ℕ → Tuple → ℕ
 notTaken p c n tuple =
     total (λ r. cond (takes p c n tuple r) 0 (runWeight c r)) (runs c (v p n) (stepsOf p) (chosen (named p n) tuple))
