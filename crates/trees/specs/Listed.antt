@@ -3,7 +3,7 @@ use Prim.Native.Nat.{ℕ, _+_}
 use mathlib.Core.Bool.{Bool, true, false, cond}
 use mathlib.Core.List.{List, [], _∷_, _++_}
 use Rattle.sentence.specs.declared.Kind.{Kind}
-use Rattle.sentence.specs.declared.Kind.the-variants.{State, Expression as Value, Path}
+use Rattle.sentence.specs.declared.Kind.the-variants.{State, Expression as ExpressionKind, Path as PathKind}
 use Rattle.sentence.specs.declared.Relation.the-variants.{Less, AtMost, Equal, AtLeast, Greater}
 use Rattle.sentence.specs.declared.Relation as Spelled
 use Rattle.sentence.specs.declared.Node.{Node}
@@ -52,11 +52,11 @@ unfoldable mutual
   pathNodes (next f) = Next ∷ formulaNodes f
   pathNodes (until k1 k2 f g) = Until k1 k2 ∷ (formulaNodes f ++ formulaNodes g)
 
--- the kind of paths
+-- the kind is that of paths
 abbrev pub isPath : Kind → Bool
 isPath State = false
-isPath Value = false
-isPath Path = true
+isPath ExpressionKind = false
+isPath PathKind = true
 
 -- the node starts a path: it is a next or an until
 abbrev pub startsPath : Node → Bool
