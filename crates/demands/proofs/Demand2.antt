@@ -5,7 +5,7 @@ use mathlib.Core.List.{List, map, Memᴰ·cast}
 use mathlib.Core.Path.{_≡_, refl, sym, ap, ap₂, _∙_}
 use lib.ListN.{length}
 use Rattle.refusal.specs.Answers.{gives}
-use Rattle.refusal.proofs.Ensuring.{right-of}
+use Rattle.refusal.proofs.Ensuring.{right-of, others-free}
 use Rattle.model.specs.Layout.{fieldsOf}
 use Rattle.meaning.specs.Chain.{Chain, Tuple, Inside, Sound, runs}
 use Rattle.meaning.specs.Tree.{PathFormula, letterOf}
@@ -14,10 +14,10 @@ use Rattle.meaning.specs.Meaning.{stepsOf, value, numerator, denominator, verdi
 use Rattle.meaning.proofs.Runs.{runs-member, runs-has, runs-distinct}
 use Rattle.meaning.proofs.Watches.{taken-runs, all-runs}
 use Rattle.chain.proofs.Accepted.{sound}
-use Rattle.question.specs.Contract.{QuestionRow, SentenceOf}
+use Rattle.question.specs.Contract.{SentenceOf}
 use Rattle.question.proofs.Settled.{file-free}
 use Rattle.verdict.specs.declared.Answer as Judged
-use Rattle.verdict.specs.Contract.{VerdictEnsures, verdictReply}
+use Rattle.verdict.specs.Contract.{VerdictRow, VerdictEnsures, verdictReply}
 use Rattle.numerator.specs.declared.Answer as Counted
 use Rattle.numerator.specs.Contract.{NumeratorRow, question, NumeratorEnsures, numbered, numeratorReply}
 use Rattle.demands.specs.Demands.{chainIn, PathProbability, Valued, Demand2}
@@ -51,7 +51,7 @@ valued-so p c adds n {s} inside = record {
 }
 
 judged : (file : List ℕ) {text before after : List ℕ} {a : Judged.Answer} → VerdictEnsures file text before a after →
-    ((n : ℕ) → QuestionRow file text (length before) n → ⊥) →
+    ((n : ℕ) → VerdictRow file text (length before) n → ⊥) →
     (s : SentenceOf text) × (verdictReply a ≡ gives (verdict (chainIn file) (map letterOf (s .prefix)) (s .body)))
 judged file x none =
     let right = right-of none (x .ensured) in
@@ -63,19 +63,20 @@ counted : (file : List ℕ) {text tuple before after : List ℕ} {path : ℕ} {a
     PathProbability (chainIn file) (numbered (s .body) path) (length (s .prefix)) tuple (x .0) (x .1)
 counted file {tuple = tuple} {path = path} x none =
     let right = right-of none (x .ensured) in
+    let free = others-free none in
     let s = right .2 .sentence in
     let p = numbered (s .body) path in
     let n = length (s .prefix) in (
       s,
       (numerator p (chainIn file) n tuple, denominator p (fieldsOf file .d) n),
       right .1 ∙ ap gives (ap₂ (λ (a b : ℕ). (a, b)) (right .2 .top) (right .2 .bottom)),
-      counted-once p (chainIn file) (sound file (file-free (λ n r. none n (question r)))) n (tuple-inside none s),
+      counted-once p (chainIn file) (sound file (file-free (λ n r. free n (question r)))) n (tuple-inside free s),
     )
 
 pub demand-2 : (file : List ℕ) → Demand2 file
 demand-2 file = record {
   one-sentence = λ s t. one-sentence s t;
   verdicts = λ x none. judged file x none;
-  in-verdicts = λ none s p inside. valued-so p (chainIn file) (sound file (file-free none)) (length (s .prefix)) inside;
+  in-verdicts = λ none s p inside. valued-so p (chainIn file) (sound file (file-free (others-free none))) (length (s .prefix)) inside;
   probabilities = λ x none. counted file x none;
 }

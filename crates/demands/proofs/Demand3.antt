@@ -13,7 +13,7 @@ use Rattle.refusal.specs.declared.Written.{Written}
 use Rattle.refusal.specs.declared.Written.the-variants.{Wrote}
 use Rattle.refusal.specs.Rows.{Applies, by-row as smallest-of, Given}
 use Rattle.refusal.specs.Answers.{gives, refuses, numberIn, replyOfWritten}
-use Rattle.refusal.proofs.Ensuring.{right-of, written-told}
+use Rattle.refusal.proofs.Ensuring.{right-of, others-free, none-at-all, written-told}
 use Rattle.refusal.proofs.Laws.{first-later, first-none}
 use Rattle.refusal.proofs.Listed.{none-applies}
 use Rattle.model.specs.Layout.{fieldsOf}
@@ -26,13 +26,13 @@ use Rattle.meaning.specs.Size.{exceeds}
 use Rattle.meaning.specs.Merging.{Stable}
 use Rattle.trees.specs.Listed.{formulaNodes}
 use Rattle.chain.proofs.Accepted.{fields-right}
-use Rattle.question.specs.Contract.{labelRight, QuestionRow, area, model, sentence, labels, size, tuples, areaSize}
+use Rattle.question.specs.Contract.{labelRight, QuestionRow, model, sentence, labels, size, tuples, areaNeeded, AreaShort}
 use Rattle.question.proofs.Stages.{none-of-file}
 use Rattle.verdict.specs.declared.Answer as Judged
-use Rattle.verdict.specs.Contract.{VerdictEnsures}
+use Rattle.verdict.specs.Contract.{VerdictRow, VerdictEnsures}
 use Rattle.verdict.proofs.Single.{reply-told as judged-told}
 use Rattle.numerator.specs.declared.Answer as Counted
-use Rattle.numerator.specs.Contract.{NumeratorRow, question, long, member, missing, NumeratorEnsures, numbered}
+use Rattle.numerator.specs.Contract.{AskedRow, NumeratorRow, question, long, member, missing, NumeratorEnsures, numbered}
 use Rattle.numerator.proofs.Single.{reply-told as counted-told}
 use Rattle.paths.proofs.Members.{members-inside}
 use Rattle.groups.specs.Groups.{groupOf}
@@ -52,30 +52,36 @@ use Rattle.demands.proofs.Differing.{stable-differ, settled}
 module _ (file grouping merged : List ℕ) (accepted : fileNumber merged ≡ 0)
     (kept : MergingKeeps (fieldsOf file) (groupOf grouping) (fieldsOf merged)) where
   -- a question to which no row applies on the full model is one on the merged model
-  question-free : {text : List ℕ} {room room′ : ℕ} → areaSize ≤ room′ → ((n : ℕ) → QuestionRow file text room n → ⊥) →
-      (n : ℕ) → QuestionRow merged text room′ n → ⊥
-  question-free space none n (area h) = omega arith
-  question-free space none n (model a) = none-of-file merged accepted a
-  question-free space none n (sentence r) = none n (sentence r)
-  question-free space none n (labels f s e) =
+  question-free : {text : List ℕ} → ((n : ℕ) → QuestionRow file text n → ⊥) → (n : ℕ) → QuestionRow merged text n → ⊥
+  question-free none n (model a) = none-of-file merged accepted a
+  question-free none n (sentence r) = none n (sentence r)
+  question-free none n (labels f s e) =
       none 9 (labels f s (ap (λ (a : ℕ). every (labelRight a) (formulaNodes f)) (sym (kept .labels)) ∙ e))
-  question-free {text} {room} space none n (size {ps} f s e) = by (exceeds f (fieldsOf file .d) (length ps)) refl
+  question-free none n (size {ps} f s e) = by (exceeds f (fieldsOf file .d) (length ps)) refl
     where
       by : (t : Bool) → exceeds f (fieldsOf file .d) (length ps) ≡ t → ⊥
       by true p = none 10 (size f s p)
       by false p = true≢false (sym e ∙ kept .sizes f (length ps) p)
-  question-free {text} {room} space none n (tuples {ps} f s e) = by (decLt 1024 (tupleCount (chainIn file) (length ps)))
+  question-free none n (tuples {ps} f s e) = by (decLt 1024 (tupleCount (chainIn file) (length ps)))
     where
       by : Dec (1024 < tupleCount (chainIn file) (length ps)) → ⊥
       by (yes h) = none 11 (tuples f s h)
-      by (no h) = let few = kept .tuples (length ps) (omega arith) in omega (arith, few, e)
+      by (no h) = let few = kept .tuples (length ps) in omega (arith, few, e)
 
-  verdicts : {text before before′ after after′ : List ℕ} {a b : Judged.Answer} → areaSize ≤ length before′ →
+  -- and a work area that is long enough stays so
+  room-kept : {text : List ℕ} {room : ℕ} → (AreaShort file text room → ⊥) → AreaShort merged text room → ⊥
+  unfolding areaNeeded
+  room-kept enough a =
+      let fewer = kept .tuples (length (a .sentence .prefix)) in
+      let short = a .short in
+      enough (record { sentence = a .sentence; short = omega (arith, fewer, short) })
+
+  verdicts : {text before before′ after after′ : List ℕ} {a b : Judged.Answer} → (AreaShort merged text (length before′) → ⊥) →
       VerdictEnsures file text before a after →
-      ((n : ℕ) → QuestionRow file text (length before) n → ⊥) → VerdictEnsures merged text before′ b after′ → a ≡ b
-  verdicts {a = a} {b} space x none y =
+      ((n : ℕ) → VerdictRow file text (length before) n → ⊥) → VerdictEnsures merged text before′ b after′ → a ≡ b
+  verdicts {a = a} {b} enough x none y =
       let full = right-of none (x .ensured) in
-      let less = right-of (question-free space none) (y .ensured) in
+      let less = right-of (none-at-all (question-free (others-free none)) enough) (y .ensured) in
       let one = one-sentence (full .2 .sentence) (less .2 .sentence) in
       let same =
       full .2 .meant ∙
@@ -85,28 +91,29 @@ module _ (file grouping merged : List ℕ) (accepted : fileNumber merged ≡ 0)
       judged-told a b (full .1 ∙ ap gives same ∙ sym (less .1))
 
   -- so is a question about a path formula at a tuple, at the tuple of the groups
-  asked-free : {text tuple : List ℕ} {path room room′ : ℕ} → areaSize ≤ room′ → ((n : ℕ) → NumeratorRow file text tuple path room n → ⊥) →
-      (n : ℕ) → NumeratorRow merged text (map (groupOf grouping) tuple) path room′ n → ⊥
-  asked-free space none n (question r) = question-free space (λ n r. none n (question r)) n r
-  asked-free {tuple = tuple} space none n (long f s e) = none 15 (long f s (λ x. e (length-map tuple (groupOf grouping) ∙ x)))
-  asked-free {tuple = tuple} space none n (member e) =
+  asked-free : {text tuple : List ℕ} {path : ℕ} → ((n : ℕ) → AskedRow file text tuple path n → ⊥) →
+      (n : ℕ) → AskedRow merged text (map (groupOf grouping) tuple) path n → ⊥
+  asked-free none n (question r) = question-free (λ n r. none n (question r)) n r
+  asked-free {tuple = tuple} none n (long f s e) = none 15 (long f s (λ x. e (length-map tuple (groupOf grouping) ∙ x)))
+  asked-free {tuple = tuple} none n (member e) =
       let inside = members-inside (fieldsOf file .n) tuple (members none) in
       true≢false (sym (inside-members (kept .inside (length tuple) tuple inside)) ∙ e)
-  asked-free space none n (missing f s e) = none 15 (missing f s e)
+  asked-free none n (missing f s e) = none 15 (missing f s e)
 
-  numerators : {text tuple before before′ after after′ : List ℕ} {path : ℕ} {a b : Counted.Answer} → areaSize ≤ length before′ →
+  numerators : {text tuple before before′ after after′ : List ℕ} {path : ℕ} {a b : Counted.Answer} →
+      (AreaShort merged text (length before′) → ⊥) →
       NumeratorEnsures file text tuple path before a after → ((n : ℕ) → NumeratorRow file text tuple path (length before) n → ⊥) →
       NumeratorEnsures merged text (map (groupOf grouping) tuple) path before′ b after′ → a ≡ b
-  numerators {tuple = tuple} {path = path} {a} {b} space x none y =
+  numerators {tuple = tuple} {path = path} {a} {b} enough x none y =
       let full = right-of none (x .ensured) in
-      let less = right-of (asked-free space none) (y .ensured) in
+      let less = right-of (none-at-all (asked-free (others-free none)) enough) (y .ensured) in
       let s = full .2 .sentence in
       let one = one-sentence s (less .2 .sentence) in
       let p = numbered (s .body) path in
       let n = length (s .prefix) in
       let top =
       full .2 .top ∙
-      kept .numerators p n tuple (tuple-inside none s) ∙
+      kept .numerators p n tuple (tuple-inside (others-free none) s) ∙
       ap₂ (λ (ps : List Bool) (f : Formula). numerator (numbered f path) (chainIn merged) (length ps) (map (groupOf grouping) tuple))
       (one .0) (one .1) ∙
       sym (less .2 .top) in
@@ -118,7 +125,11 @@ module _ (file grouping merged : List ℕ) (accepted : fileNumber merged ≡ 0)
       counted-told a b (full .1 ∙ ap gives (ap₂ (λ (a b : ℕ). (a, b)) top bottom) ∙ sym (less .1))
 
   keeps : Keeps file grouping merged
-  keeps = record { verdicts = λ space x none y. verdicts space x none y; numerators = λ space x none y. numerators space x none y }
+  keeps = record {
+    room = λ enough a. room-kept enough a;
+    verdicts = λ enough x none y. verdicts enough x none y;
+    numerators = λ enough x none y. numerators enough x none y;
+  }
 
 -- ---- when merge refuses
 

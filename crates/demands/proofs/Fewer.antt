@@ -8,8 +8,8 @@ use native.Mathlib.Nat.{pow-zero, zero-mul}
 use native.Mathlib.Omega.{arith}
 use lib.ListN.{length}
 use Rattle.refusal.specs.Answers.{gives}
-use Rattle.refusal.specs.Rows.{Given, by-row, by-none}
-use Rattle.refusal.proofs.Ensuring.{right-of}
+use Rattle.refusal.specs.Rows.{Given, by-row, by-none, OneLast}
+use Rattle.refusal.proofs.Ensuring.{right-of, others-free, room-enough, none-at-all}
 use Rattle.model.specs.Layout.{fieldsOf}
 use Rattle.model.specs.Contract.{fileRows, fileNumber}
 use Rattle.model.proofs.Theorems.{read-smallest}
@@ -25,7 +25,7 @@ use Rattle.unchanged.specs.Unchanged.{shrunk, Unchanged}
 use Rattle.unchanged.proofs.Unchanged.{values-unchanged}
 use Rattle.trees.specs.Listed.{formulaNodes}
 use Rattle.chain.proofs.Accepted.{sound, total-some}
-use Rattle.question.specs.Contract.{QuestionRow, area, model, sentence, labels, size, tuples, SentenceOf}
+use Rattle.question.specs.Contract.{QuestionRow, model, sentence, labels, size, tuples, SentenceOf, AreaShort}
 use Rattle.question.proofs.Numbers.{file-number, text-number}
 use Rattle.question.proofs.Settled.{file-free}
 use Rattle.verdict.specs.declared.Answer as Judged
@@ -33,7 +33,7 @@ use Rattle.verdict.specs.Contract.{VerdictEnsures, verdictReply}
 use Rattle.numerator.specs.declared.Answer as Counted
 use Rattle.numerator.specs.Contract.{NumeratorRow, question, NumeratorEnsures, numbered, numeratorReply}
 use Rattle.demands.specs.Demands.{chainIn}
-use Rattle.demands.specs.Fewer.{SameFraction, BaseRow, other, FewerVariables}
+use Rattle.demands.specs.Fewer.{SameFraction, BaseRow, same, FewerVariables}
 use Rattle.demands.specs.Fewer as Said
 use Rattle.demands.proofs.Free.{tuple-inside}
 
@@ -42,49 +42,49 @@ unchanged : (file : List ℕ) → fileNumber file ≡ 0 → (n : ℕ) → Unchan
 unchanged file ok n = values-unchanged .values (chainIn file) (sound file ok) (total-some file ok) n
 
 -- where no row of the base applies, the file is accepted,
-accepted-base : (file text : List ℕ) (room : ℕ) → ((n : ℕ) → BaseRow file text room n → ⊥) → fileNumber file ≡ 0
-accepted-base file text room none = by (read-smallest file)
+accepted-base : (file text : List ℕ) → ((n : ℕ) → BaseRow file text n → ⊥) → fileNumber file ≡ 0
+accepted-base file text none = by (read-smallest file)
   where
     by : {n : ℕ} → Given (fileRows file) n → n ≡ 0
-    by (by-row {n} a least) = absurd (none n (other (model a) (λ e. let m = file-number file a in omega arith)))
+    by (by-row {n} a least) = absurd (none n (same (model a) (λ e. let m = file-number file a in omega arith)))
     by (by-none free) = refl
 
 -- the body is not too large for row 10,
-fits-base : (file text : List ℕ) (room : ℕ) → ((n : ℕ) → BaseRow file text room n → ⊥) → {ps : List Bool} (f : Formula) →
+fits-base : (file text : List ℕ) → ((n : ℕ) → BaseRow file text n → ⊥) → {ps : List Bool} (f : Formula) →
     Spells ps (formulaNodes f) text → exceeds f (fieldsOf file .d) (length ps) ≡ false
-fits-base file text room none {ps} f sp =
-    unchanged file (accepted-base file text room none) (length ps) .answered f (by (Base.exceeds f (fieldsOf file .d) (length ps)) refl)
+fits-base file text none {ps} f sp =
+    unchanged file (accepted-base file text none) (length ps) .answered f (by (Base.exceeds f (fieldsOf file .d) (length ps)) refl)
   where
     by : (b : Bool) → Base.exceeds f (fieldsOf file .d) (length ps) ≡ b → b ≡ false
     by true e = absurd (none 10 (Said.size f sp e))
     by false e = refl
 
 -- and so no row applies
-no-row : (file text : List ℕ) (room : ℕ) → ((n : ℕ) → BaseRow file text room n → ⊥) → (n : ℕ) → QuestionRow file text room n → ⊥
-no-row file text room none n row = by (ℕ-discrete n 10)
+no-row : (file text : List ℕ) → ((n : ℕ) → BaseRow file text n → ⊥) → (n : ℕ) → QuestionRow file text n → ⊥
+no-row file text none n row = by (ℕ-discrete n 10)
   where
-    ten : {n : ℕ} → QuestionRow file text room n → n ≡ 10 → ⊥
-    ten (area h) e = omega arith
+    ten : {n : ℕ} → QuestionRow file text n → n ≡ 10 → ⊥
     ten (model r) e = let m = file-number file r in omega arith
     ten (sentence r) e = let m = text-number r in omega arith
     ten (labels f sp x) e = omega arith
-    ten (size f sp x) e = true≢false (sym x ∙ fits-base file text room none f sp)
+    ten (size f sp x) e = true≢false (sym x ∙ fits-base file text none f sp)
     ten (tuples f sp x) e = omega arith
 
     by : Dec (n ≡ 10) → ⊥
     by (yes e) = ten row e
-    by (no d) = none n (other row d)
+    by (no d) = none n (same row d)
 
 still : {file text before after : List ℕ} {a : Judged.Answer} → VerdictEnsures file text before a after →
-    ((n : ℕ) → BaseRow file text (length before) n → ⊥) →
+    ((n : ℕ) → OneLast (BaseRow file text) (AreaShort file text (length before)) n → ⊥) →
     (s : SentenceOf text) × (verdictReply a ≡ gives (Base.verdict (chainIn file) (map letterOf (s .prefix)) (s .body)))
-still {file} {text} {before} x none =
-    let right = right-of (no-row file text (length before) none) (x .ensured) in
+still {file} {text} x none =
+    let base = others-free none in
+    let right = right-of (none-at-all (no-row file text base) (room-enough none)) (x .ensured) in
     let s = right .2 .sentence in
-    let ok = accepted-base file text (length before) none in
-    let same = values-unchanged .verdicts (chainIn file) (sound file ok) (total-some file ok) .verdicts
+    let ok = accepted-base file text base in
+    let as-was = values-unchanged .verdicts (chainIn file) (sound file ok) (total-some file ok) .verdicts
     (map letterOf (s .prefix)) (s .body) in
-    (s, right .1 ∙ ap gives (right .2 .meant ∙ sym same))
+    (s, right .1 ∙ ap gives (right .2 .meant ∙ sym as-was))
 
 same-fraction : {file text tuple before after : List ℕ} {path : ℕ} {a : Counted.Answer} →
     NumeratorEnsures file text tuple path before a after → ((n : ℕ) → NumeratorRow file text tuple path (length before) n → ⊥) →
@@ -95,14 +95,15 @@ same-fraction {file} {path = path} x none =
     let s = right .2 .sentence in
     let p = numbered (s .body) path in
     let n = length (s .prefix) in
-    let same = unchanged file (file-free (λ n r. none n (question r))) n in
+    let free = others-free none in
+    let as-was = unchanged file (file-free (λ n r. free n (question r))) n in
     let by = shrunk p (chainIn file .D) n in (
       s,
       right .0,
       right .1,
       record {
-        numerators = same .numerators p (tuple-inside none s) ∙ ap (λ (k : ℕ). k * by) (sym (right .2 .top));
-        denominators = same .denominators p ∙ ap (λ (k : ℕ). k * by) (sym (right .2 .bottom));
+        numerators = as-was .numerators p (tuple-inside free s) ∙ ap (λ (k : ℕ). k * by) (sym (right .2 .top));
+        denominators = as-was .denominators p ∙ ap (λ (k : ℕ). k * by) (sym (right .2 .bottom));
       },
     )
 

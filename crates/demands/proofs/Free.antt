@@ -14,7 +14,7 @@ use Rattle.trees.proofs.Once.{sentence-once}
 use Rattle.paths.specs.Tuples.{membersBelow}
 use Rattle.paths.proofs.Members.{members-inside}
 use Rattle.question.specs.Contract.{SentenceOf}
-use Rattle.numerator.specs.Contract.{NumeratorRow, long, member}
+use Rattle.numerator.specs.Contract.{AskedRow, long, member}
 
 -- a text has one sentence
 pub one-sentence : {text : List ℕ} (s t : SentenceOf text) → (s .prefix ≡ t .prefix) × (s .body ≡ t .body)
@@ -26,7 +26,7 @@ unfolding every
 inside-members nothing = refl
 inside-members {N} (further {x = x} less rest) = and-true (lt-ltb x N less) (inside-members rest)
 
-module _ {file text tuple : List ℕ} {path room : ℕ} (none : (n : ℕ) → NumeratorRow file text tuple path room n → ⊥) where
+module _ {file text tuple : List ℕ} {path : ℕ} (none : (n : ℕ) → AskedRow file text tuple path n → ⊥) where
   -- the tuple's members are below N
   pub members : membersBelow (fieldsOf file .n) tuple ≡ true
   members = by (membersBelow (fieldsOf file .n) tuple) refl

@@ -4,6 +4,7 @@ pub mod Demand1
 pub mod Demand2
 pub mod Fewer
 pub mod Watches
+pub mod Room
 pub mod RoundTrips
 pub mod Exported
 pub mod Differing

@@ -9,7 +9,7 @@ use native.Mathlib.Nat.{mul-one, mul-le-mul-right}
 use native.Mathlib.Numerals.{add-one}
 use native.Mathlib.Omega.{arith}
 use lib.ListN.{length}
-use Rattle.refusal.proofs.Ensuring.{right-of}
+use Rattle.refusal.proofs.Ensuring.{right-of, others-free}
 use Rattle.sentence.specs.declared.Node.{Node}
 use Rattle.sentence.specs.declared.Node.the-variants.{Until}
 use Rattle.sentence.specs.Grammar.{Spells}
@@ -27,7 +27,7 @@ use Rattle.chain.proofs.Accepted.{sound}
 use Rattle.question.specs.Contract.{sentence, SentenceOf}
 use Rattle.question.proofs.Settled.{file-free}
 use Rattle.numerator.specs.declared.Answer.the-variants.{Counted}
-use Rattle.numerator.specs.Contract.{NumeratorRow, question, NumeratorEnsures, numbered}
+use Rattle.numerator.specs.Contract.{AskedRow, question, NumeratorEnsures, numbered}
 use Rattle.demands.specs.Demands.{chainIn}
 use Rattle.demands.specs.Watches.{Lengthened, Grown, TakenAndNot, Watched, WatchesAnswered, LongerWatches}
 use Rattle.demands.proofs.Demand1.{demand-1}
@@ -60,7 +60,7 @@ module _ (c : Chain) (adds : Sound c) (n : ℕ) where
 
 -- what an answer that is no refusal tells: no row applies, the text has a sentence, and of its path formula the two numbers are right
 record Told (file text tuple : List ℕ) (path : ℕ) (area : List ℕ) (top bottom : ℕ) : Type 0 where
-  free : (n : ℕ) → NumeratorRow file text tuple path (length area) n → ⊥
+  free : (n : ℕ) → AskedRow file text tuple path n → ⊥
   spelled : SentenceOf text
   tops : (s : SentenceOf text) → top ≡ numerator (numbered (s .body) path) (chainIn file) (length (s .prefix)) tuple
   bottoms : (s : SentenceOf text) → bottom ≡ denominator (numbered (s .body) path) (chainIn file .D) (length (s .prefix))
@@ -73,7 +73,7 @@ told {file} {text} {tuple} {path = path} {top} {bottom} x =
     let same : _≡_ {A = ℕ × ℕ} (top, bottom) (right .0) = cc (right .1) in
     let one : (s : SentenceOf text) → _ = λ s. one-sentence (right .2 .sentence) s in
     record {
-      free = none;
+      free = others-free none;
       spelled = right .2 .sentence;
       tops = λ s.
           (λ i. same i .0) ∙ right .2 .top ∙ (λ i. numerator (numbered (one s .1 i) path) (chainIn file) (length (one s .0 i)) tuple);

@@ -28,9 +28,9 @@ use Rattle.meaning.specs.Meaning.{stepsOf, value, verdict}
 use Rattle.meaning.specs.Watches.{takes}
 use Rattle.meaning.specs.Merging.{weightInto, Grouping}
 use Rattle.chain.specs.Of.{chainOf}
-use Rattle.question.specs.Contract.{QuestionRow, SentenceOf, areaSize}
+use Rattle.question.specs.Contract.{SentenceOf, AreaShort}
 use Rattle.verdict.specs.declared.Answer as Judged
-use Rattle.verdict.specs.Contract.{VerdictEnsures, verdictReply}
+use Rattle.verdict.specs.Contract.{VerdictRow, VerdictEnsures, verdictReply}
 use Rattle.numerator.specs.declared.Answer as Counted
 use Rattle.numerator.specs.Contract.{NumeratorRow, NumeratorEnsures, numbered, numeratorReply}
 use Rattle.groups.specs.Groups.{groupOf, mergedModel}
@@ -62,7 +62,7 @@ pub record Demand1 : Type 0 where
   pub write-sentence : {s : Sentence} {before after : List ℕ} {w : Written} → WriteSentenceEnsures s before w after →
       Ends (WriteRow s (length before)) before (replyOfWritten w) after
   pub verdict-call : {file text before after : List ℕ} {a : Judged.Answer} → VerdictEnsures file text before a after →
-      Ends (QuestionRow file text (length before)) before (verdictReply a) after
+      Ends (VerdictRow file text (length before)) before (verdictReply a) after
   pub numerator-call : {file text tuple before after : List ℕ} {path : ℕ} {a : Counted.Answer} →
       NumeratorEnsures file text tuple path before a after →
       Ends (NumeratorRow file text tuple path (length before)) before (numeratorReply a) after
@@ -106,10 +106,10 @@ pub record Demand2 (file : List ℕ) : Type 0 where
   pub one-sentence : {text : List ℕ} (s t : SentenceOf text) → (s .prefix ≡ t .prefix) × (s .body ≡ t .body)
   -- the verdict is 'holds' exactly if it holds;
   pub verdicts : {text before after : List ℕ} {a : Judged.Answer} → VerdictEnsures file text before a after →
-      ((n : ℕ) → QuestionRow file text (length before) n → ⊥) →
+      ((n : ℕ) → VerdictRow file text (length before) n → ⊥) →
       (s : SentenceOf text) × (verdictReply a ≡ gives (verdict (chainIn file) (map letterOf (s .prefix)) (s .body)))
   -- each probability in it is, at every tuple of states, the total weight of the satisfying runs over the total weight of all;
-  pub in-verdicts : {text : List ℕ} {room : ℕ} → ((n : ℕ) → QuestionRow file text room n → ⊥) → (s : SentenceOf text) (p : PathFormula)
+  pub in-verdicts : {text : List ℕ} {room : ℕ} → ((n : ℕ) → VerdictRow file text room n → ⊥) → (s : SentenceOf text) (p : PathFormula)
       {tuple : Tuple} → Inside (chainIn file .N) (length (s .prefix)) tuple → Valued (chainIn file) p (length (s .prefix)) tuple
   -- and so are the two numbers that numerator gives.
   pub probabilities : {text tuple before after : List ℕ} {path : ℕ} {a : Counted.Answer} →
@@ -180,15 +180,18 @@ pub data Differ (c : Chain) (group : ℕ → ℕ) (M : ℕ) : Type 0 where
   inWeight : (s t : ℕ) → s < c .N → t < c .N → group s ≡ group t → (h : ℕ) → h < M →
       (weightInto c group s h ≡ weightInto c group t h → ⊥) → Differ c group M
 
--- What merging keeps, of the answers on a file and on the file that it is merged to (where the second work area is long enough):
+-- What merging keeps, of the answers on a file and on the file that it is merged to:
 pub record Keeps (file grouping merged : List ℕ) : Type 0 where
-  -- for every sentence not refused on the full model the verdicts are equal,
-  pub verdicts : {text area area′ left left′ : List ℕ} {a b : Judged.Answer} → areaSize ≤ length area′ →
+  -- a work area that is long enough for the full model is so for the merged one;
+  pub room : {text : List ℕ} {room : ℕ} → (AreaShort file text room → ⊥) → AreaShort merged text room → ⊥
+  -- where it is, for every sentence not refused on the full model the verdicts are equal,
+  pub verdicts : {text area area′ left left′ : List ℕ} {a b : Judged.Answer} → (AreaShort merged text (length area′) → ⊥) →
       VerdictEnsures file text area a left →
-      ((n : ℕ) → QuestionRow file text (length area) n → ⊥) → VerdictEnsures merged text area′ b left′ → a ≡ b
+      ((n : ℕ) → VerdictRow file text (length area) n → ⊥) → VerdictEnsures merged text area′ b left′ → a ≡ b
   -- and each path formula's numerator and denominator, at every tuple of states, equal those on the merged model at the tuple of
   -- their groups.
-  pub numerators : {text tuple area area′ left left′ : List ℕ} {path : ℕ} {a b : Counted.Answer} → areaSize ≤ length area′ →
+  pub numerators : {text tuple area area′ left left′ : List ℕ} {path : ℕ} {a b : Counted.Answer} →
+      (AreaShort merged text (length area′) → ⊥) →
       NumeratorEnsures file text tuple path area a left → ((n : ℕ) → NumeratorRow file text tuple path (length area) n → ⊥) →
       NumeratorEnsures merged text (map (groupOf grouping) tuple) path area′ b left′ → a ≡ b
 

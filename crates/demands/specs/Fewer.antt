@@ -4,6 +4,7 @@ use mathlib.Core.Bool.{Bool, true}
 use mathlib.Core.List.{List, map}
 use mathlib.Core.Path.{_≡_}
 use lib.ListN.{length}
+use Rattle.refusal.specs.Rows.{OneLast}
 use Rattle.refusal.specs.Answers.{gives}
 use Rattle.model.specs.Layout.{fieldsOf}
 use Rattle.model.specs.Contract.{fileNumber}
@@ -15,7 +16,7 @@ use Rattle.meaning.specs.Meaning.{numerator, denominator}
 use Rattle.unchanged.specs.Base as Base
 use Rattle.unchanged.specs.Unchanged.{shrunk, Unchanged}
 use Rattle.trees.specs.Listed.{formulaNodes}
-use Rattle.question.specs.Contract.{QuestionRow, SentenceOf}
+use Rattle.question.specs.Contract.{QuestionRow, SentenceOf, AreaShort}
 use Rattle.verdict.specs.declared.Answer as Judged
 use Rattle.verdict.specs.Contract.{VerdictEnsures, verdictReply}
 use Rattle.numerator.specs.declared.Answer as Counted
@@ -28,18 +29,18 @@ pub record SameFraction (c : Chain) (p : PathFormula) (n : ℕ) (tuple : Tuple) 
   pub denominators : Base.denominator p (c .D) n ≡ bottom * shrunk p (c .D) n
 
 -- the rows of a question before T-02: the same but for row 10, which went by the denominators of all n variables
-pub data BaseRow (file text : List ℕ) (room : ℕ) : ℕ → Type 0 where
-  other : {n : ℕ} → QuestionRow file text room n → (n ≡ 10 → ⊥) → BaseRow file text room n
+pub data BaseRow (file text : List ℕ) : ℕ → Type 0 where
+  same : {n : ℕ} → QuestionRow file text n → (n ≡ 10 → ⊥) → BaseRow file text n
   size : {ps : List Bool} (f : Formula) → Spells ps (formulaNodes f) text → Base.exceeds f (fieldsOf file .d) (length ps) ≡ true →
-      BaseRow file text room 10
+      BaseRow file text 10
 
 -- Of whatever verdict and numerator answer, beside the meaning over all n variables (`Base`):
 pub record FewerVariables : Type 0 where
   -- on the chain of every accepted file no value and no verdict has changed, and row 10 refuses no body that it did not;
   pub values : (file : List ℕ) → fileNumber file ≡ 0 → (n : ℕ) → Unchanged (chainIn file) n
-  -- every verdict that was given is still given;
+  -- every verdict that was given is still given, where the work area is long enough;
   pub still-given : {file text before after : List ℕ} {a : Judged.Answer} → VerdictEnsures file text before a after →
-      ((n : ℕ) → BaseRow file text (length before) n → ⊥) →
+      ((n : ℕ) → OneLast (BaseRow file text) (AreaShort file text (length before)) n → ⊥) →
       (s : SentenceOf text) × (verdictReply a ≡ gives (Base.verdict (chainIn file) (map letterOf (s .prefix)) (s .body)))
   -- the two numbers of numerator, times one power of D, are the base's;
   pub fractions : {file text tuple before after : List ℕ} {path : ℕ} {a : Counted.Answer} →

@@ -3,4 +3,5 @@ pub mod Demands
 pub mod Fewer
 pub mod Filling
 pub mod Watches
+pub mod Room
 pub mod Examples

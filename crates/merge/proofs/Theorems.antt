@@ -4,7 +4,7 @@ use Prim.Native.Nat.{ℕ, zero, suc, _≤_}
 use mathlib.Core.Bool.{true, not}
 use mathlib.Core.List.{List, []}
 use mathlib.Core.Path.{_≡_, refl, sym, ap, subst, _∙_}
-use native.Mathlib.Nat.{le-trans, pow-le-pow-left}
+use native.Mathlib.Nat.{pow-le-pow-left}
 use native.Mathlib.Omega.{arith}
 use borrow.Author.Tests.{not-false, ltb-false}
 use lib.Dec.{ltb}
@@ -116,7 +116,7 @@ kept m grouping fields adds grouped alike =
     record {
       labels = refl;
       sizes = λ body n e. e;
-      tuples = λ n few. le-trans (pow-le-pow-left (count-few full grouping grouped) n) few;
+      tuples = λ n. pow-le-pow-left (count-few full grouping grouped) n;
       numerators = λ p n s i. merging.numerator-merged full group merged is sound p n i;
       denominators = λ p n. refl;
       inside = λ n s i. merging.groups-inside full group merged is i;

@@ -19,8 +19,8 @@ pub record MergingKeeps (full : Model) (group : ℕ → ℕ) (merged : Model) : 
   pub labels : merged .a ≡ full .a
   -- row 10 at D, n and the body:
   pub sizes : (body : Formula) (n : ℕ) → exceeds body (full .d) n ≡ false → exceeds body (merged .d) n ≡ false
-  -- row 11 at T:
-  pub tuples : (n : ℕ) → tupleCount (chainOf full) n ≤ 1024 → tupleCount (chainOf merged) n ≤ 1024
+  -- rows 11 and 1 at T:
+  pub tuples : (n : ℕ) → tupleCount (chainOf merged) n ≤ tupleCount (chainOf full) n
   -- Each path formula's numerator and denominator, at every tuple of states, equal those on the merged model at the
   -- tuple of their groups,
   pub numerators : (p : PathFormula) (n : ℕ) (s : Tuple) → Inside (full .n) n s →

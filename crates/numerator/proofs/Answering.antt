@@ -7,8 +7,9 @@ use native.Mathlib.Omega.{arith}
 use borrow.Author.Tests.{eqb-false, ltb-false}
 use lib.Dec.{eqb, ltb}
 use lib.ListN.{length}
-use Rattle.refusal.specs.Answers.{refused, answered}
+use Rattle.refusal.specs.Answers.{answered}
 use Rattle.refusal.specs.Rows.{Decided, by-row as given, by-none}
+use Rattle.refusal.proofs.Ensuring.{refused-as, others-first, one-decided, none-at-all}
 use Rattle.model.specs.declared.Model.{Model}
 use Rattle.model.specs.declared.ModelRead as Loaded
 use Rattle.model.specs.Contract.{ReadModelEnsures}
@@ -17,52 +18,55 @@ use Rattle.meaning.specs.Tree.{Formula, pathsOf}
 use Rattle.meaning.specs.Meaning.{numerator, denominator}
 use Rattle.chain.specs.Of.{chainOf}
 use Rattle.paths.specs.Tuples.{membersBelow}
-use Rattle.question.specs.Contract.{QuestionRow, cleared, areaSize}
+use Rattle.question.specs.Contract.{QuestionRow, areaNeeded, AreaShort, cleared}
 use Rattle.question.specs.Working.{TextOfSentence}
 use Rattle.question.proofs.Numbers.{row-few}
 use Rattle.question.proofs.Pair.{letters-length}
 use Rattle.question.proofs.Stages.{one}
-use Rattle.question.proofs.Settled.{model-of}
+use Rattle.question.proofs.Settled.{own-sentence, area-same, model-of}
 use Rattle.numerator.specs.declared.Answer.the-variants.{Counted, Refused}
 use Rattle.numerator.specs.declared.Ratio.{Ratio}
-use Rattle.numerator.specs.Contract.{numbered, NumeratorRow, question, long, member, missing, NumeratorEnsures}
+use Rattle.numerator.specs.Contract.{numbered, AskedRow, question, long, member, missing, NumeratorEnsures}
 use Rattle.numerator.specs.Working.{asksRight, CountedSo}
 use Rattle.numerator.proofs.Asking.{RightParts}
 
 module _ {file text tuple : List ℕ} {number : ℕ} where
-  pub refused-so : {before : List ℕ} {n : ℕ} → Decided (QuestionRow file text (length before)) n → 0 < n →
+  -- a refusal with the number that the rows of the question give
+  pub refused-so : {before : List ℕ} {n : ℕ} → Decided (QuestionRow file text) n → 0 < n →
       NumeratorEnsures file text tuple number before (Refused n) before
-  refused-so {before} {n} (given row least) h = record { ensured = refused refl refl (question row) from }
+  refused-so {n = n} (given row least) h =
+      record { ensured = refused-as (others-first (given (question row) from) h) h refl refl }
     where
-      from : (k : ℕ) → NumeratorRow file text tuple number (length before) k → n ≤ k
+      from : (k : ℕ) → AskedRow file text tuple number k → n ≤ k
       from k (question r) = least k r
       from k (long f s e) = let few = row-few row in omega arith
       from k (member e) = let few = row-few row in omega arith
       from k (missing f s e) = let few = row-few row in omega arith
   refused-so (by-none none) h = absurd (omega arith)
 
-  module _ (before : List ℕ) {m : Loaded.ModelRead} {s : Sentence} (none : (k : ℕ) → QuestionRow file text (length before) k → ⊥)
+  module _ (before : List ℕ) {m : Loaded.ModelRead} {s : Sentence} (none : (k : ℕ) → QuestionRow file text k → ⊥)
       (reads : ReadModelEnsures file m) (b : TextOfSentence text s) where
     -- row 15
     pub refused-15 : asksRight (m .model) s (b .body) tuple number ≡ false →
         NumeratorEnsures file text tuple number before (Refused 15) before
     refused-15 e =
-        record { ensured = refused refl refl (row (eqb (length tuple) (s .letters)) (membersBelow (m .model .n) tuple) refl refl e) from }
+        let first = row (eqb (length tuple) (s .letters)) (membersBelow (m .model .n) tuple) refl refl e in
+        record { ensured = refused-as (others-first (given first from) (omega arith)) (omega arith) refl refl }
       where
         row : (t u : Bool) → eqb (length tuple) (s .letters) ≡ t → membersBelow (m .model .n) tuple ≡ u →
-            ((t && u) && ltb number (length (pathsOf (b .body)))) ≡ false → NumeratorRow file text tuple number (length before) 15
+            ((t && u) && ltb number (length (pathsOf (b .body)))) ≡ false → AskedRow file text tuple number 15
         row false u l w h = long (b .body) (b .spelled) (λ x. eqb-false _ _ l (x ∙ sym (letters-length b)))
         row true false l w h = member (ap (λ (x : Model). membersBelow (x .n) tuple) (sym (model-of none reads .fields)) ∙ w)
         row true true l w h = missing (b .body) (b .spelled) (ltb-false _ _ h)
 
-        from : (k : ℕ) → NumeratorRow file text tuple number (length before) k → 15 ≤ k
+        from : (k : ℕ) → AskedRow file text tuple number k → 15 ≤ k
         from k (question r) = absurd (none k r)
         from k (long f s e) = omega arith
         from k (member e) = omega arith
         from k (missing f s e) = omega arith
 
     module _ (parts : RightParts (m .model) s (b .body) tuple number) where
-      free : (k : ℕ) → NumeratorRow file text tuple number (length before) k → ⊥
+      free : (k : ℕ) → AskedRow file text tuple number k → ⊥
       free k (question r) = none k r
       free k (long f sp e) = e (parts .long ∙ letters-length b ∙ ap length (sym (one (model-of none reads) b f sp .0)))
       free k (member e) =
@@ -73,20 +77,26 @@ module _ {file text tuple : List ℕ} {number : ℕ} where
           (one (model-of none reads) b f sp .1) in
           omega (arith, low, same, e)
 
-      pub answered-so : {after : List ℕ} {r : Ratio} → CountedSo (m .model) s tuple number r → after ≡ cleared areaSize before →
+      -- a refusal because of the area
+      pub refused-1 : AreaShort file text (length before) → NumeratorEnsures file text tuple number before (Refused 1) before
+      refused-1 short = record { ensured = refused-as (one-decided free short) (omega arith) refl refl }
+
+      -- the two values, where there is room too
+      pub answered-so : {after : List ℕ} {r : Ratio} → (AreaShort file text (length before) → ⊥) →
+          CountedSo (m .model) s tuple number r → after ≡ cleared (areaNeeded (chainOf (m .model)) (s .letters)) before →
           NumeratorEnsures file text tuple number before (Counted (r .top) (r .bottom)) after
-      answered-so {after} {r} counts clear =
+      answered-so {after} {r} enough counts clear =
           let w = numbered (b .body) number in
           let n = letters-length b in
-          let fields = model-of none reads .fields in
+          let a = model-of none reads in
           record {
             ensured =
                 answered refl
                 (record {
-                  sentence = record { prefix = b .prefix; body = b .body; spelled = b .spelled };
-                  top = counts .each text b .0 ∙ ap₂ (λ (x : Model) (k : ℕ). numerator w (chainOf x) k tuple) fields n;
-                  bottom = counts .each text b .1 ∙ ap₂ (λ (x : Model) (k : ℕ). denominator w (x .d) k) fields n;
-                  left = clear;
+                  sentence = own-sentence b;
+                  top = counts .each text b .0 ∙ ap₂ (λ (x : Model) (k : ℕ). numerator w (chainOf x) k tuple) (a .fields) n;
+                  bottom = counts .each text b .1 ∙ ap₂ (λ (x : Model) (k : ℕ). denominator w (x .d) k) (a .fields) n;
+                  left = clear ∙ ap (λ (k : ℕ). cleared k before) (area-same a b (own-sentence b));
                 })
-                free;
+                (none-at-all free enough);
           }

@@ -21,7 +21,7 @@ use Rattle.paths.proofs.Members.{right-ready, layer-there}
 use Rattle.question.specs.Working.{TextOfSentence, SettingOf}
 use Rattle.question.proofs.Pair.{nodes-few, one-sentence, letters-few, states-few}
 use Rattle.question.proofs.Settled.{body-ranged, sizes, fixed, variables-few, layers-fit}
-use Rattle.question.specs.Contract.{areaSize}
+use Rattle.question.specs.Contract.{areaNeeded}
 use Rattle.numerator.specs.Contract.{numbered}
 use Rattle.numerator.specs.Working.{Asked}
 use Rattle.numerator.proofs.Asking.{held, counted, place-test, RightParts, right-parts}
@@ -33,7 +33,7 @@ module _ {m : Model} {s : Sentence} {g : Setting} {tuple : List ℕ} {number : �
   parts : RightParts m s body tuple number
   parts = right-parts m s body tuple number (a .right)
 
-  -- the tuple's number can be computed, and lies in the layer
+  -- the tuple's number can be computed, and lies in the first layer
   pub tuple-ready : TupleReady (g .states) tuple
   tuple-ready =
       let read = a .ready .read in
@@ -43,14 +43,21 @@ module _ {m : Model} {s : Sentence} {g : Setting} {tuple : List ℕ} {number : �
   tuple-long : length tuple ≡ g .variables
   tuple-long = parts .long ∙ sym (so .variables)
 
-  pub tuple-inside : {k : ℕ} → TuplePlace (g .states) tuple k → k < 1024
+  tuple-inside : {k : ℕ} → TuplePlace (g .states) tuple k → k < g .tuples
   tuple-inside {k} place =
-      let size = sizes (a .ready) so in
-      let few = size .few in
-      let whole = size .whole in
+      let whole = sizes (a .ready) so .whole in
       let power : g .states ^ length tuple ≡ g .states ^ g .variables = ap (λ (n : ℕ). g .states ^ n) tuple-long in
       let inside = place .inside in
-      omega (arith, few, whole, power, inside)
+      omega (arith, whole, power, inside)
+
+  pub tuple-low : {k : ℕ} → TuplePlace (g .states) tuple k → k < 1024
+  tuple-low place = let few = sizes (a .ready) so .few in let low = tuple-inside place in omega (arith, few, low)
+
+  pub tuple-there : {k room : ℕ} → TuplePlace (g .states) tuple k → room ≡ areaNeeded (chainOf m) (s .letters) → k < room
+  tuple-there place long =
+      let layer = layers-fit (a .ready) so {k = 1} (omega arith) long in
+      let low = tuple-inside place in
+      omega (arith, layer, low)
 
   -- the path formula stands at the place that was found
   found : {at : ℕ} → PathPlace (s .nodes) (s .count) number at → Found (s .nodes) (g .variables) (m .d) body number at (next always)
@@ -62,10 +69,9 @@ module _ {m : Model} {s : Sentence} {g : Setting} {tuple : List ℕ} {number : �
       (ap (exceeds (b .body) (m .d)) (so .variables) ∙ a .ready .small) (next always)
 
   module _ {rows : List (List ℕ)} (e : rows ≡ filledRows m) {at : ℕ} (place : PathPlace (s .nodes) (s .count) number at) where
-    pub path-ready : {w : List ℕ} → length w ≡ areaSize → PathReady (s .nodes) g (m .masks) rows at w
+    pub path-ready : {w : List ℕ} → length w ≡ areaNeeded (chainOf m) (s .letters) → PathReady (s .nodes) g (m .masks) rows at w
     path-ready long =
         let f = found place in
-        let few = sizes (a .ready) so .few in
         record {
           one = record {
             chain = chainOf m;
@@ -76,7 +82,7 @@ module _ {m : Model} {s : Sentence} {g : Setting} {tuple : List ℕ} {number : �
             stands = f .stands;
             ranged = f .ranged;
             fits = f .fits;
-            room = layers-fit (a .ready) so (f .room) (omega (arith, few, long));
+            room = layers-fit (a .ready) so (f .room) long;
           };
           small = f .small;
         }

@@ -4,6 +4,7 @@ use mathlib.Core.Bool.{Bool, false}
 use mathlib.Core.List.{List}
 use mathlib.Core.Path.{_≡_}
 use lib.ListN.{length, getD}
+use Rattle.refusal.specs.Rows.{OneLast}
 use Rattle.refusal.specs.Answers.{Reply, gives, refuses, Ensured}
 use Rattle.model.specs.Layout.{fieldsOf}
 use Rattle.sentence.specs.Grammar.{Spells}
@@ -12,7 +13,7 @@ use Rattle.meaning.specs.Meaning.{numerator, denominator}
 use Rattle.trees.specs.Listed.{formulaNodes}
 use Rattle.chain.specs.Of.{chainOf}
 use Rattle.paths.specs.Tuples.{membersBelow}
-use Rattle.question.specs.Contract.{QuestionRow, SentenceOf, cleared, areaSize}
+use Rattle.question.specs.Contract.{QuestionRow, SentenceOf, areaNeeded, AreaShort, cleared}
 use Rattle.numerator.specs.declared.Answer.{Answer}
 use Rattle.numerator.specs.declared.Answer.the-variants.{Counted, Refused}
 
@@ -25,23 +26,27 @@ numeratorReply (Refused number) = refuses number
 unfoldable pub numbered : Formula → ℕ → PathFormula
 numbered f path = getD (pathsOf f) path (next always)
 
--- the rows: those of the question, and row 15, where the tuple's length is not n, a member is not below N, or there is no such
--- path formula
-pub data NumeratorRow (file text tuple : List ℕ) (path room : ℕ) : ℕ → Type 0 where
-  question : {n : ℕ} → QuestionRow file text room n → NumeratorRow file text tuple path room n
+-- the rows but row 1: those of the question, and row 15, where the tuple's length is not n, a member is not below N, or there is no
+-- such path formula
+pub data AskedRow (file text tuple : List ℕ) (path : ℕ) : ℕ → Type 0 where
+  question : {n : ℕ} → QuestionRow file text n → AskedRow file text tuple path n
   long : {ps : List Bool} (f : Formula) → Spells ps (formulaNodes f) text → (length tuple ≡ length ps → ⊥) →
-      NumeratorRow file text tuple path room 15
-  member : membersBelow (fieldsOf file .n) tuple ≡ false → NumeratorRow file text tuple path room 15
+      AskedRow file text tuple path 15
+  member : membersBelow (fieldsOf file .n) tuple ≡ false → AskedRow file text tuple path 15
   missing : {ps : List Bool} (f : Formula) → Spells ps (formulaNodes f) text → length (pathsOf f) ≤ path →
-      NumeratorRow file text tuple path room 15
+      AskedRow file text tuple path 15
 
--- the correct result of numerator: the numerator of the path formula at the tuple, and its denominator; the first `areaSize`
--- numbers of the area are zero afterwards
+-- the rows: those, and row 1 where none of them applies and the area is too short
+abbrev pub NumeratorRow : (file text tuple : List ℕ) → (path room : ℕ) → ℕ → Type 0
+NumeratorRow file text tuple path room = OneLast (AskedRow file text tuple path) (AreaShort file text room)
+
+-- the correct result of numerator: the numerator of the path formula at the tuple, and its denominator; the numbers of the area that
+-- it needs are zero afterwards
 pub record Counts (file text tuple : List ℕ) (path : ℕ) (before : List ℕ) (values : ℕ × ℕ) (after : List ℕ) : Type 0 where
   pub sentence : SentenceOf text
   pub top : values .0 ≡ numerator (numbered (sentence .body) path) (chainOf (fieldsOf file)) (length (sentence .prefix)) tuple
   pub bottom : values .1 ≡ denominator (numbered (sentence .body) path) (fieldsOf file .d) (length (sentence .prefix))
-  pub left : after ≡ cleared areaSize before
+  pub left : after ≡ cleared (areaNeeded (chainOf (fieldsOf file)) (length (sentence .prefix))) before
 
 -- what numerator ensures of the model file, the sentence text, the tuple, the path formula's number, the work area before and
 -- after, and what it answers

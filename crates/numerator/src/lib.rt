@@ -1,7 +1,8 @@
-// Numerator: the rows of a question and row 15, then the path formula's numerators at every tuple, of which one is asked.
+// Numerator: the rows of a question and row 15, row 1 after them, then the path formula's numerators at every tuple, of which one is asked.
 ghost use mathlib.Core.Path.{_≡_};
 ghost use lib.ListN.{length};
-ghost use Rattle.question.specs.Contract.{areaSize};
+ghost use Rattle.chain.specs.Of.{chainOf};
+ghost use Rattle.question.specs.Contract.{areaNeeded};
 ghost use Rattle.question.specs.Working.{Ready};
 ghost use Rattle.numerator.specs.Contract.{NumeratorEnsures};
 ghost use Rattle.numerator.specs.Working.{Asked, Right, CountedSo};
@@ -13,7 +14,7 @@ use model_reader::read_model;
 use paths::path_place;
 use paths::tuple_place;
 use paths::tuple_right;
-use question::AREA;
+use question::area_needed;
 use question::first_number;
 use question::setting_of;
 use sentence::Sentence;
@@ -46,7 +47,7 @@ fn asks_right(m: Model, s: Sentence, tuple: &[u8], number: usize) -> bool
 // The numerator of the path formula with the number at the tuple, and its denominator: the numerators at all tuples are put
 // into the first layer of the area.
 fn counted(m: Model, s: Sentence, tuple: &[u8], number: usize, area: &mut [u64]) -> Ratio
-    requires { ⌜ Asked m s (now tuple) number × (length (now area) ≡ areaSize) ⌝ }
+    requires { ⌜ Asked m s (now tuple) number × (length (now area) ≡ areaNeeded (chainOf m) (s .letters)) ⌝ }
     ensures { λ r. ⌜ CountedSo m s (now (tuple .entry)) number r ⌝ }
 {
     let g = setting_of(m, s);
@@ -62,14 +63,15 @@ fn counted(m: Model, s: Sentence, tuple: &[u8], number: usize, area: &mut [u64])
     }
 }
 
-// Numerator: the numerator and the denominator of a path formula at a tuple, or the smallest number of a row that applies.
+// Numerator: the numerator and the denominator of a path formula at a tuple, or the smallest number of a row that applies, but 1 only
+// where no other does.
 pub fn numerator(file: &[u8], text: &[u8], tuple: &[u8], number: usize, work: &mut [u64]) -> Answer
     ensures { λ r. ⌜ NumeratorEnsures (now (file .entry)) (now (text .entry)) (now (tuple .entry)) number (now (work .entry)) r
         (now (work .exit)) ⌝ }
 {
     let read = read_model(file);
     let said = read_sentence(text);
-    let first = first_number(work.len(), read, said);
+    let first = first_number(read, said);
     if 0 < first {
         return Answer::Refused(first);
     }
@@ -78,8 +80,12 @@ pub fn numerator(file: &[u8], text: &[u8], tuple: &[u8], number: usize, work: &m
     if !asks_right(model, sentence, tuple, number) {
         return Answer::Refused(15);
     }
-    let ratio = counted(model, sentence, tuple, number, &mut work[..AREA]);
-    zero(AREA, work);
+    let area = area_needed(model, sentence);
+    if work.len() < area {
+        return Answer::Refused(1);
+    }
+    let ratio = counted(model, sentence, tuple, number, &mut work[..area]);
+    zero(area, work);
     Answer::Counted {
         numerator: ratio.top,
         denominator: ratio.bottom,

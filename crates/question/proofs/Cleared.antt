@@ -1,10 +1,11 @@
 -- The work area after an answer.
-use Prim.Native.Nat.{ℕ, _≤_, _<_}
+use Prim.Native.Nat.{ℕ, _+_, _-_, _≤_, _<_}
 use mathlib.Core.List.{List, _++_}
 use mathlib.Core.Path.{_≡_, sym, ap, ap₂, _∙_}
 use native.Mathlib.Omega.{arith}
 use lib.ListN.{length, getD, take, drop, replicate, take-append-drop, length-replicate, getD-replicate, length-append, length-drop}
-use lib.Seq.{ext-getD, getD-take, length-take-le, drop-append-seam}
+use lib.ListN.{List·getD-append}
+use lib.Seq.{ext-getD, getD-take, getD-drop, getD-append-add, length-take-le, drop-append-seam}
 use Rattle.layers.specs.Layers.{WrittenFront}
 use Rattle.question.specs.Contract.{cleared}
 
@@ -34,3 +35,26 @@ cleared-so {n} {after} w area room long zeros =
 
     back : drop n after ≡ drop n w
     back = zeros .kept .rest ∙ ap (λ (k : ℕ). drop k (area ++ drop n w)) (sym long) ∙ drop-append-seam area (drop n w)
+
+-- what stands in a cleared area: zeros, then what stood there, as many numbers as before
+module _ {n : ℕ} (w : List ℕ) where
+  pub cleared-zero : {k : ℕ} → k < n → getD (cleared n w) k 0 ≡ 0
+  unfolding cleared
+  cleared-zero {k} h =
+      let long = length-replicate {A = ℕ} n 0 in
+      List·getD-append (replicate n 0) (drop n w) 0 k (omega (arith, long, h)) ∙ getD-replicate n k 0 0 h
+
+  pub cleared-rest : {k : ℕ} → n ≤ k → getD (cleared n w) k 0 ≡ getD w k 0
+  unfolding cleared
+  cleared-rest {k} h =
+      let long = length-replicate {A = ℕ} n 0 in
+      let past : k ≡ length {A = ℕ} (replicate n 0) + (k - n) = omega (arith, long, h) in
+      let whole : n + (k - n) ≡ k = omega (arith, h) in
+      ap (λ (i : ℕ). getD (replicate n 0 ++ drop n w) i 0) past ∙
+      getD-append-add (replicate n 0) (drop n w) (k - n) 0 ∙
+      getD-drop n w (k - n) 0 ∙
+      ap (λ (i : ℕ). getD w i 0) whole
+
+  pub cleared-long : n ≤ length w → length (cleared n w) ≡ length w
+  unfolding cleared
+  cleared-long room = back-long w (replicate n 0) room (length-replicate n 0)

@@ -1,4 +1,4 @@
--- The work area, the file and the text: their own rows give the number, or they are read.
+-- The file and the text: their own rows give the number, or they are read.
 use Prim.Native.Nat.{ℕ, zero, suc, _≤_, _<_}
 use mathlib.Core.List.{List, []}
 use mathlib.Core.Path.{_≡_, sym, ap, subst, _∙_}
@@ -15,36 +15,32 @@ use Rattle.sentence.specs.Grammar.{Spells}
 use Rattle.sentence_reader.specs.Contract.{ReadRow, Spelled, ReadSentenceEnsures}
 use Rattle.sentence.specs.Record.{recordOf}
 use Rattle.trees.proofs.Exists.{formula-of}
-use Rattle.question.specs.Contract.{QuestionRow, area, model, sentence, labels, size, tuples, areaSize}
+use Rattle.question.specs.Contract.{QuestionRow, model, sentence, labels, size, tuples}
 use Rattle.question.specs.Working.{FileOfModel, TextOfSentence}
-use Rattle.question.proofs.Numbers.{text-number, row-some, least-model}
+use Rattle.question.proofs.Numbers.{text-number, least-model}
 use Rattle.question.proofs.Stages.{none-of-file}
-
-pub gives-1 : {file text : List ℕ} {room : ℕ} → room < areaSize → Decided (QuestionRow file text room) 1
-gives-1 h = by-row (area h) (λ k r. row-some r)
 
 -- the file
 
-pub gives-file : {file text : List ℕ} {room n : ℕ} → areaSize ≤ room → fileNumber file ≡ n → 0 < n → Decided (QuestionRow file text room) n
-gives-file {n = zero} space e h = absurd (omega arith)
-gives-file {n = suc n} space e h = let least = least-model space e in by-row (least .0) (least .1)
+pub gives-file : {file text : List ℕ} {n : ℕ} → fileNumber file ≡ n → 0 < n → Decided (QuestionRow file text) n
+gives-file {n = zero} e h = absurd (omega arith)
+gives-file {n = suc n} e h = let least = least-model e in by-row (least .0) (least .1)
 
 pub file-read : {file : List ℕ} {r : Loaded.ModelRead} → ReadModelEnsures file r → fileNumber file ≡ 0 → FileOfModel file (r .model)
 file-read reads e = record { accepted = e; fields = reads-value reads e }
 
 -- the text
 
-pub gives-text : {file text : List ℕ} {room : ℕ} {r : Parsed.SentenceRead} → areaSize ≤ room → fileNumber file ≡ 0
+pub gives-text : {file text : List ℕ} {r : Parsed.SentenceRead} → fileNumber file ≡ 0
     → ReadSentenceEnsures text r →
-    0 < numberIn (replyOf (r .outcome)) → Decided (QuestionRow file text room) (numberIn (replyOf (r .outcome)))
-gives-text {file} {text} {room} space free said h = by (number-decided (said .ensured)) h
+    0 < numberIn (replyOf (r .outcome)) → Decided (QuestionRow file text) (numberIn (replyOf (r .outcome)))
+gives-text {file} {text} free said h = by (number-decided (said .ensured)) h
   where
-    by : {n : ℕ} → Decided (ReadRow text) n → 0 < n → Decided (QuestionRow file text room) n
+    by : {n : ℕ} → Decided (ReadRow text) n → 0 < n → Decided (QuestionRow file text) n
     by (by-none none) h = absurd (omega arith)
     by {n} (by-row row least) h = by-row (sentence row) from
       where
-        from : (j : ℕ) → QuestionRow file text room j → n ≤ j
-        from j (area h) = absurd (omega arith)
+        from : (j : ℕ) → QuestionRow file text j → n ≤ j
         from j (model b) = absurd (none-of-file file free b)
         from j (sentence b) = least j b
         from j (labels f s b) = let x = text-number row in omega arith

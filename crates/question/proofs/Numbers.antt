@@ -13,7 +13,7 @@ use Rattle.model.specs.Contract.{fileRows, fileNumber}
 use Rattle.model.proofs.Theorems.{read-smallest}
 use Rattle.sentence_reader.specs.Contract.{ReadRow, outside, long, range, many}
 use Rattle.meaning.specs.Lists.{every}
-use Rattle.question.specs.Contract.{QuestionRow, area, model, sentence, labels, size, tuples, areaSize}
+use Rattle.question.specs.Contract.{QuestionRow, model, sentence, labels, size, tuples}
 
 -- the numbers of a file's rows, and of a text's
 pub file-number : (file : List ℕ) {n : ℕ} → Applies n (fileRows file) → (2 ≤ n) × (n ≤ 5)
@@ -28,18 +28,16 @@ text-number (long h) = (omega arith, omega arith)
 text-number (range s e) = (omega arith, omega arith)
 text-number (many s e) = (omega arith, omega arith)
 
--- every row's number is 1 or more
-pub row-some : {file text : List ℕ} {room m : ℕ} → QuestionRow file text room m → 1 ≤ m
-row-some (area h) = omega arith
-row-some {file} (model a) = let n = file-number file a in omega arith
-row-some (sentence r) = let n = text-number r in omega arith
-row-some (labels f s e) = omega arith
-row-some (size f s e) = omega arith
-row-some (tuples f s e) = omega arith
+-- every row's number is 2 or more
+pub row-two : {file text : List ℕ} {m : ℕ} → QuestionRow file text m → 2 ≤ m
+row-two {file} (model a) = let n = file-number file a in omega arith
+row-two (sentence r) = let n = text-number r in omega arith
+row-two (labels f s e) = omega arith
+row-two (size f s e) = omega arith
+row-two (tuples f s e) = omega arith
 
 -- and 11 or less
-pub row-few : {file text : List ℕ} {room m : ℕ} → QuestionRow file text room m → m ≤ 11
-row-few (area h) = omega arith
+pub row-few : {file text : List ℕ} {m : ℕ} → QuestionRow file text m → m ≤ 11
 row-few {file} (model a) = let n = file-number file a in omega arith
 row-few (sentence r) = let n = text-number r in omega arith
 row-few (labels f s e) = omega arith
@@ -47,22 +45,21 @@ row-few (size f s e) = omega arith
 row-few (tuples f s e) = omega arith
 
 -- where the number given is 0, no row applies
-pub none-of : {file text : List ℕ} {room n : ℕ} → Decided (QuestionRow file text room) n → n ≤ 0 → (m : ℕ) →
-    QuestionRow file text room m → ⊥
-none-of (by-row row least) h m r = let some = row-some row in absurd (omega arith)
+pub none-of : {file text : List ℕ} {n : ℕ} → Decided (QuestionRow file text) n → n ≤ 0 → (m : ℕ) →
+    QuestionRow file text m → ⊥
+none-of (by-row row least) h m r = let some = row-two row in absurd (omega arith)
 none-of (by-none none) h m r = none m r
 
-module _ {file text : List ℕ} {room : ℕ} (space : areaSize ≤ room) where
+module _ {file text : List ℕ} where
   -- the file's number where it is not 0
   pub least-model : {k : ℕ} → fileNumber file ≡ suc k →
-      QuestionRow file text room (suc k) × ((m : ℕ) → QuestionRow file text room m → suc k ≤ m)
+      QuestionRow file text (suc k) × ((m : ℕ) → QuestionRow file text m → suc k ≤ m)
   least-model {k} e = by (subst (Given (fileRows file)) e (read-smallest file))
     where
-      by : Given (fileRows file) (suc k) → QuestionRow file text room (suc k) × ((m : ℕ) → QuestionRow file text room m → suc k ≤ m)
+      by : Given (fileRows file) (suc k) → QuestionRow file text (suc k) × ((m : ℕ) → QuestionRow file text m → suc k ≤ m)
       by (by-row a least) = (model a, below (file-number file a .1) least)
         where
-          below : suc k ≤ 5 → ((m : ℕ) → Applies m (fileRows file) → suc k ≤ m) → (m : ℕ) → QuestionRow file text room m → suc k ≤ m
-          below low least m (area h) = absurd (omega arith)
+          below : suc k ≤ 5 → ((m : ℕ) → Applies m (fileRows file) → suc k ≤ m) → (m : ℕ) → QuestionRow file text m → suc k ≤ m
           below low least m (model a) = least m a
           below low least m (sentence r) = let n = text-number r in omega arith
           below low least m (labels f s e) = omega arith

@@ -18,7 +18,7 @@ use Rattle.sentence_reader.specs.declared.SentenceRead as Parsed
 use Rattle.sentence.specs.Grammar.{someOutOfRange}
 use Rattle.sentence_reader.specs.Contract.{ReadSentenceEnsures, range}
 use Rattle.sentence.specs.Record.{recordOf}
-use Rattle.meaning.specs.Chain.{Sound}
+use Rattle.meaning.specs.Chain.{Sound, tupleCount}
 use Rattle.meaning.specs.Size.{exceeds}
 use Rattle.counting.specs.Entries.{cell}
 use Rattle.layers.specs.Held.{LayerSizes}
@@ -30,32 +30,44 @@ use Rattle.trees.proofs.Ranges.{nests-in-range, formula-ranged}
 use Rattle.chain.specs.Of.{chainOf, filledRows}
 use Rattle.chain.proofs.Filling.{filled-cell}
 use Rattle.chain.proofs.Accepted as accepted
-use Rattle.question.specs.Contract.{QuestionRow, area, model, sentence, size, tuples, areaSize}
+use Rattle.question.specs.Contract.{QuestionRow, model, sentence, size, tuples, SentenceOf, areaNeeded, AreaShort}
 use Rattle.question.specs.Working.{FileOfModel, TextOfSentence, Ready, SettingOf}
 use Rattle.question.proofs.Numbers.{least-model}
 use Rattle.question.proofs.Early.{file-read, text-read}
-use Rattle.question.proofs.Pair.{states-few, letters-few}
-use Rattle.question.proofs.Stages.{size-same, tuples-same}
+use Rattle.question.proofs.Pair.{states-few, letters-few, letters-length}
+use Rattle.question.proofs.Stages.{size-same, tuples-same, one}
 
-module _ {file text : List ℕ} {room : ℕ} (none : (n : ℕ) → QuestionRow file text room n → ⊥) where
-  -- the work area is long enough
-  pub space : areaSize ≤ room
-  space = by (decLt room areaSize)
-    where
-      by : Dec (room < areaSize) → areaSize ≤ room
-      by (yes h) = absurd (none 1 (area h))
-      by (no h) = omega arith
+-- the sentence of a text that was read
+abbrev pub own-sentence : {text : List ℕ} {s : Sentence} → TextOfSentence text s → SentenceOf text
+own-sentence b = record { prefix = b .prefix; body = b .body; spelled = b .spelled }
 
+-- the numbers that the pair needs are those that the text's sentence needs on the file's chain
+pub area-same : {file text : List ℕ} {m : Model} {s : Sentence} → FileOfModel file m → TextOfSentence text s → (own : SentenceOf text) →
+    areaNeeded (chainOf m) (s .letters) ≡ areaNeeded (chainOf (fieldsOf file)) (length (own .prefix))
+area-same a b own =
+    ap₂ (λ (x : Model) (k : ℕ). areaNeeded (chainOf x) k) (a .fields)
+    (letters-length b ∙ ap length (sym (one a b (own .body) (own .spelled) .0)))
+
+module _ {file text : List ℕ} (none : (n : ℕ) → QuestionRow file text n → ⊥) where
   -- the file is accepted
   pub file-free : fileNumber file ≡ 0
   file-free = by (fileNumber file) refl
     where
       by : (n : ℕ) → fileNumber file ≡ n → n ≡ 0
       by zero e = refl
-      by (suc n) e = absurd (none (suc n) (least-model space e .0))
+      by (suc n) e = absurd (none (suc n) (least-model e .0))
 
   text-free : {s : Parsed.SentenceRead} → ReadSentenceEnsures text s → numberIn (replyOf (s .outcome)) ≡ 0
   text-free said = ap numberIn (right-of (λ n row. none n (sentence row)) (said .ensured) .1)
+
+  -- the sentence has few enough tuples
+  pub tuples-few : (s : SentenceOf text) → tupleCount (chainOf (fieldsOf file)) (length (s .prefix)) ≤ 1024
+  tuples-few s = by (decLt 1024 (tupleCount (chainOf (fieldsOf file)) (length (s .prefix))))
+    where
+      by : Dec (1024 < tupleCount (chainOf (fieldsOf file)) (length (s .prefix))) →
+          tupleCount (chainOf (fieldsOf file)) (length (s .prefix)) ≤ 1024
+      by (yes h) = absurd (none 11 (tuples (s .body) (s .spelled) h))
+      by (no h) = omega arith
 
   -- the readers' answers, where no row applies
   pub model-of : {m : Loaded.ModelRead} → ReadModelEnsures file m → FileOfModel file (m .model)
@@ -69,7 +81,7 @@ module _ {file text : List ℕ} {room : ℕ} (none : (n : ℕ) → QuestionRow f
   ready-of {m} {s} reads said = record {
     read = record { file = file; text = text; model = a; sentence = b };
     small = size-same a b ∙ fits (exceeds (b .body) (fieldsOf file .d) (length (b .prefix))) refl;
-    few = few (decLt 1024 (m .model .n ^ s .sentence .letters));
+    few = let t = tuples-same a b in let few = tuples-few (own-sentence b) in omega (arith, t, few);
   }
     where
       a : FileOfModel file (m .model)
@@ -82,9 +94,19 @@ module _ {file text : List ℕ} {room : ℕ} (none : (n : ℕ) → QuestionRow f
       fits true e = absurd (none 10 (size (b .body) (b .spelled) e))
       fits false e = refl
 
-      few : Dec (1024 < m .model .n ^ s .sentence .letters) → m .model .n ^ s .sentence .letters ≤ 1024
-      few (yes h) = absurd (none 11 (tuples (b .body) (b .spelled) (let t = tuples-same a b in omega (arith, t))))
-      few (no h) = omega arith
+  -- the work area is too short exactly if it is shorter than the pair that was read needs
+  module _ {m : Loaded.ModelRead} {s : Parsed.SentenceRead} (reads : ReadModelEnsures file m) (said : ReadSentenceEnsures text s) {room : ℕ}
+    where
+      pub area-short : room < areaNeeded (chainOf (m .model)) (s .sentence .letters) → AreaShort file text room
+      area-short h =
+          let b = sentence-of said in
+          record { sentence = own-sentence b; short = subst (λ (k : ℕ). room < k) (area-same (model-of reads) b (own-sentence b)) h }
+
+      pub area-enough : areaNeeded (chainOf (m .model)) (s .sentence .letters) ≤ room → AreaShort file text room → ⊥
+      area-enough h a =
+          let e = area-same (model-of reads) (sentence-of said) (a .sentence) in
+          let short = a .short in
+          absurd (omega (arith, e, h, short))
 
 -- the body's numbers are in their ranges
 pub body-ranged : {text : List ℕ} {s : Sentence} (b : TextOfSentence text s) → Ranged (s .letters) (b .body)
@@ -144,6 +166,15 @@ module _ {m : Model} {s : Sentence} {g : Setting} (r : Ready m s) (so : SettingO
   pub variables-few : g .variables ≤ 4
   variables-few = let low = letters-few (r .read .sentence) in let e = so .variables in omega (arith, low, e)
 
-  -- seven layers lie in the eight
-  pub layers-fit : {k room : ℕ} → k ≤ 7 → 8 * g .tuples ≤ room → k * g .tuples ≤ room
-  layers-fit {k} low h = let e = mul-le-mul-right (g .tuples) low in omega (arith, e, h)
+  -- the area that the pair needs has eight layers of T numbers; seven lie in it
+  pub layers-fit : {k room : ℕ} → k ≤ 7 → room ≡ areaNeeded (chainOf m) (s .letters) → k * g .tuples ≤ room
+  unfolding areaNeeded tupleCount
+  layers-fit {k} low h =
+      let e = mul-le-mul-right (g .tuples) low in
+      let t = so .tuples in
+      omega (arith, e, h, t)
+
+-- and no more than the descent can number
+pub area-small : {m : Model} {s : Sentence} → Ready m s → areaNeeded (chainOf m) (s .letters) ≤ 65536
+unfolding areaNeeded tupleCount
+area-small r = let few = r .few in omega (arith, few)

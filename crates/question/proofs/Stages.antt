@@ -24,7 +24,7 @@ use Rattle.meaning.specs.Size.{exceeds}
 use Rattle.trees.specs.Listed.{formulaNodes}
 use Rattle.trees.proofs.Once.{sentence-once}
 use Rattle.chain.specs.Of.{chainOf}
-use Rattle.question.specs.Contract.{labelRight, QuestionRow, area, model, sentence, labels, size, tuples, areaSize}
+use Rattle.question.specs.Contract.{labelRight, QuestionRow, model, sentence, labels, size, tuples}
 use Rattle.question.specs.Working.{FileOfModel, TextOfSentence}
 use Rattle.question.proofs.Numbers.{file-number}
 use Rattle.question.proofs.Pair.{letters-length}
@@ -69,48 +69,46 @@ module _ {file text : List ℕ} {m : Model} {s : Sentence} (a : FileOfModel file
     ten : exceeds (b .body) (fieldsOf file .d) (length (b .prefix)) ≡ true → Late 10
     eleven : 1024 < tupleCount (chainOf (fieldsOf file)) (length (b .prefix)) → Late 11
 
-  late : {room k : ℕ} → areaSize ≤ room → QuestionRow file text room k → Late k
-  late space (area h) = absurd (omega arith)
-  late space (model r) = absurd (none-of-file file (a .accepted) r)
-  late {k = k} space (sentence r) = absurd (b .clean k r)
-  late space (labels f sp e) =
+  late : {k : ℕ} → QuestionRow file text k → Late k
+  late (model r) = absurd (none-of-file file (a .accepted) r)
+  late {k} (sentence r) = absurd (b .clean k r)
+  late (labels f sp e) =
       nine (ap (λ (g : Formula). every (labelRight (fieldsOf file .a)) (formulaNodes g)) (sym (one f sp .1)) ∙ e)
-  late space (size f sp e) =
+  late (size f sp e) =
       ten (ap₂ (λ (g : Formula) (ps : List Bool). exceeds g (fieldsOf file .d) (length ps)) (sym (one f sp .1)) (sym (one f sp .0)) ∙ e)
-  late space (tuples {ps} f sp e) =
+  late (tuples {ps} f sp e) =
       eleven (subst (λ (qs : List Bool). 1024 < tupleCount (chainOf (fieldsOf file)) (length qs)) (one f sp .0) e)
 
-  module _ {room : ℕ} (space : areaSize ≤ room) where
-    pub gives-9 : every (labelRight (fieldsOf file .a)) (formulaNodes (b .body)) ≡ false → Decided (QuestionRow file text room) 9
-    gives-9 e = by-row (labels (b .body) (b .spelled) e) (λ k r. from (late space r))
+  pub gives-9 : every (labelRight (fieldsOf file .a)) (formulaNodes (b .body)) ≡ false → Decided (QuestionRow file text) 9
+  gives-9 e = by-row (labels (b .body) (b .spelled) e) (λ k r. from (late r))
+    where
+      from : {k : ℕ} → Late k → 9 ≤ k
+      from (nine h) = omega arith
+      from (ten h) = omega arith
+      from (eleven h) = omega arith
+
+  module _ (right : every (labelRight (fieldsOf file .a)) (formulaNodes (b .body)) ≡ true) where
+    pub gives-10 : exceeds (b .body) (fieldsOf file .d) (length (b .prefix)) ≡ true → Decided (QuestionRow file text) 10
+    gives-10 e = by-row (size (b .body) (b .spelled) e) (λ k r. from (late r))
       where
-        from : {k : ℕ} → Late k → 9 ≤ k
-        from (nine h) = omega arith
+        from : {k : ℕ} → Late k → 10 ≤ k
+        from (nine h) = absurd (true≢false (sym right ∙ h))
         from (ten h) = omega arith
         from (eleven h) = omega arith
 
-    module _ (right : every (labelRight (fieldsOf file .a)) (formulaNodes (b .body)) ≡ true) where
-      pub gives-10 : exceeds (b .body) (fieldsOf file .d) (length (b .prefix)) ≡ true → Decided (QuestionRow file text room) 10
-      gives-10 e = by-row (size (b .body) (b .spelled) e) (λ k r. from (late space r))
+    module _ (small : exceeds (b .body) (fieldsOf file .d) (length (b .prefix)) ≡ false) where
+      pub gives-11 : 1024 < tupleCount (chainOf (fieldsOf file)) (length (b .prefix)) → Decided (QuestionRow file text) 11
+      gives-11 e = by-row (tuples (b .body) (b .spelled) e) (λ k r. from (late r))
         where
-          from : {k : ℕ} → Late k → 10 ≤ k
+          from : {k : ℕ} → Late k → 11 ≤ k
           from (nine h) = absurd (true≢false (sym right ∙ h))
-          from (ten h) = omega arith
+          from (ten h) = absurd (true≢false (sym h ∙ small))
           from (eleven h) = omega arith
 
-      module _ (small : exceeds (b .body) (fieldsOf file .d) (length (b .prefix)) ≡ false) where
-        pub gives-11 : 1024 < tupleCount (chainOf (fieldsOf file)) (length (b .prefix)) → Decided (QuestionRow file text room) 11
-        gives-11 e = by-row (tuples (b .body) (b .spelled) e) (λ k r. from (late space r))
-          where
-            from : {k : ℕ} → Late k → 11 ≤ k
-            from (nine h) = absurd (true≢false (sym right ∙ h))
-            from (ten h) = absurd (true≢false (sym h ∙ small))
-            from (eleven h) = omega arith
-
-        pub gives-none : tupleCount (chainOf (fieldsOf file)) (length (b .prefix)) ≤ 1024 → Decided (QuestionRow file text room) 0
-        gives-none few = by-none (λ k r. from (late space r))
-          where
-            from : {k : ℕ} → Late k → ⊥
-            from (nine h) = absurd (true≢false (sym right ∙ h))
-            from (ten h) = absurd (true≢false (sym h ∙ small))
-            from (eleven h) = absurd (omega arith)
+      pub gives-none : tupleCount (chainOf (fieldsOf file)) (length (b .prefix)) ≤ 1024 → Decided (QuestionRow file text) 0
+      gives-none few = by-none (λ k r. from (late r))
+        where
+          from : {k : ℕ} → Late k → ⊥
+          from (nine h) = absurd (true≢false (sym right ∙ h))
+          from (ten h) = absurd (true≢false (sym h ∙ small))
+          from (eleven h) = absurd (omega arith)

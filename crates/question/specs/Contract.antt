@@ -1,6 +1,6 @@
--- Document 01, 'Calls and refusal numbers': the rows 1 to 11, which verdict and numerator share. A question is a model file, a
--- sentence text and a work area.
-use Prim.Native.Nat.{ℕ, _<_}
+-- Document 01, 'Calls and refusal numbers': the rows 2 to 11, which verdict and numerator share, and what row 1 is given for (document
+-- 02, T-07). A question is a model file, a sentence text and a work area.
+use Prim.Native.Nat.{ℕ, _*_, _<_}
 use mathlib.Core.Bool.{Bool, true, false}
 use mathlib.Core.List.{List, _++_}
 use mathlib.Core.Path.{_≡_}
@@ -15,15 +15,11 @@ use Rattle.sentence.specs.declared.Node.the-variants.{Constant, Sum, Difference
 use Rattle.sentence.specs.Grammar.{Spells}
 use Rattle.sentence_reader.specs.Contract.{ReadRow}
 use Rattle.meaning.specs.Lists.{every}
-use Rattle.meaning.specs.Chain.{tupleCount}
+use Rattle.meaning.specs.Chain.{Chain, tupleCount}
 use Rattle.meaning.specs.Tree.{Formula}
 use Rattle.meaning.specs.Size.{exceeds}
 use Rattle.trees.specs.Listed.{formulaNodes}
 use Rattle.chain.specs.Of.{chainOf}
-
--- how many numbers the work area has to have: 8,192 numbers of 64 bits
-abbrev pub areaSize : ℕ
-areaSize = 8192
 
 -- a node's label letter, if it has one, is below A
 abbrev pub labelRight : ℕ → Node → Bool
@@ -40,26 +36,34 @@ labelRight a Product = true
 labelRight a Next = true
 labelRight a (Until k1 k2) = true
 
--- the rows: `QuestionRow file text room n` says that the row with the number n applies to the model file, the sentence text
--- and a work area of `room` numbers. A sentence is the prefix ps and the body f that spell the text: every node list of the grammar
--- is that of a tree, and of one only (`formula-of` and `sentence-once` of the crate `trees`).
-pub data QuestionRow (file text : List ℕ) (room : ℕ) : ℕ → Type 0 where
-  area : room < areaSize → QuestionRow file text room 1
-  model : {n : ℕ} → Applies n (fileRows file) → QuestionRow file text room n
-  sentence : {n : ℕ} → ReadRow text n → QuestionRow file text room n
+-- the rows but row 1: `QuestionRow file text n` says that the row with the number n applies to the model file and the sentence text.
+-- A sentence is the prefix ps and the body f that spell the text: every node list of the grammar is that of a tree, and of one only
+-- (`formula-of` and `sentence-once` of the crate `trees`).
+pub data QuestionRow (file text : List ℕ) : ℕ → Type 0 where
+  model : {n : ℕ} → Applies n (fileRows file) → QuestionRow file text n
+  sentence : {n : ℕ} → ReadRow text n → QuestionRow file text n
   labels : {ps : List Bool} (f : Formula) → Spells ps (formulaNodes f) text →
       every (labelRight (fieldsOf file .a)) (formulaNodes f) ≡ false →
-      QuestionRow file text room 9
+      QuestionRow file text 9
   size : {ps : List Bool} (f : Formula) → Spells ps (formulaNodes f) text → exceeds f (fieldsOf file .d) (length ps) ≡ true →
-      QuestionRow file text room 10
+      QuestionRow file text 10
   tuples : {ps : List Bool} (f : Formula) → Spells ps (formulaNodes f) text → 1024 < tupleCount (chainOf (fieldsOf file)) (length ps) →
-      QuestionRow file text room 11
+      QuestionRow file text 11
 
 -- the sentence of a text: the prefix and the body that spell it
 pub record SentenceOf (text : List ℕ) : Type 0 where
   pub prefix : List Bool
   pub body : Formula
   pub spelled : Spells prefix (formulaNodes body) text
+
+-- how many numbers of the work area a sentence of n letters needs on a chain: 8 × T
+unfoldable pub areaNeeded : Chain → ℕ → ℕ
+areaNeeded c n = 8 * tupleCount c n
+
+-- what row 1 is given for: the work area, of `room` numbers, is shorter than the text's sentence needs on the file's chain
+pub record AreaShort (file text : List ℕ) (room : ℕ) : Type 0 where
+  pub sentence : SentenceOf text
+  pub short : room < areaNeeded (chainOf (fieldsOf file)) (length (sentence .prefix))
 
 -- after an answer the first n numbers of the work area are zero, the others unchanged
 unfoldable pub cleared : ℕ → List ℕ → List ℕ

@@ -17,7 +17,7 @@ use Rattle.meaning.specs.Tree.{Formula}
 use Rattle.meaning.specs.Size.{exceeds}
 use Rattle.path_steps.specs.declared.Setting.{Setting}
 use Rattle.trees.specs.Listed.{formulaNodes}
-use Rattle.question.specs.Contract.{QuestionRow, areaSize}
+use Rattle.question.specs.Contract.{QuestionRow}
 
 -- the file is accepted and m is its model
 pub record FileOfModel (file : List ℕ) (m : Model) : Type 0 where
@@ -41,8 +41,7 @@ pub record BothRead (m : Model) (s : Sentence) : Type 0 where
 
 -- the number that the rows give, of whatever file and text m and s are read from
 pub record Late (m : Model) (s : Sentence) (number : ℕ) : Type 0 where
-  pub each : (file text : List ℕ) (room : ℕ) → areaSize ≤ room → FileOfModel file m → TextOfSentence text s →
-      Decided (QuestionRow file text room) number
+  pub each : (file text : List ℕ) → FileOfModel file m → TextOfSentence text s → Decided (QuestionRow file text) number
 
 -- what the two readers answered, to some file and some text
 pub record BothAnswered (m : Loaded.ModelRead) (s : Parsed.SentenceRead) : Type 0 where
@@ -52,8 +51,8 @@ pub record BothAnswered (m : Loaded.ModelRead) (s : Parsed.SentenceRead) : Type 
   pub sentence : ReadSentenceEnsures text s
 
 -- the number that the rows give, of whatever file and text the readers were asked
-pub record FirstNumber (room : ℕ) (m : Loaded.ModelRead) (s : Parsed.SentenceRead) (number : ℕ) : Type 0 where
-  pub each : (file text : List ℕ) → ReadModelEnsures file m → ReadSentenceEnsures text s → Decided (QuestionRow file text room) number
+pub record FirstNumber (m : Loaded.ModelRead) (s : Parsed.SentenceRead) (number : ℕ) : Type 0 where
+  pub each : (file text : List ℕ) → ReadModelEnsures file m → ReadSentenceEnsures text s → Decided (QuestionRow file text) number
 
 -- no row applies to the pair
 pub record Ready (m : Model) (s : Sentence) : Type 0 where

@@ -1,11 +1,12 @@
-// A question: a model file, a sentence text and a work area. The rows 1 to 11 of document 01, which verdict and numerator
-// share, and what both make of a pair to which none applies.
+// A question: a model file, a sentence text and a work area. The rows 2 to 11 of document 01, which verdict and numerator
+// share, how much of the work area a pair needs to which none applies, and what both make of it.
 ghost use mathlib.Core.Path.{_≡_};
 ghost use Prim.Native.Nat.{_^_, _≤_};
 ghost use lib.ListN.{take};
 ghost use Rattle.refusal.specs.Answers.{numberIn, replyOf};
 ghost use Rattle.meaning.specs.Lists.{every};
-ghost use Rattle.question.specs.Contract.{labelRight};
+ghost use Rattle.chain.specs.Of.{chainOf};
+ghost use Rattle.question.specs.Contract.{labelRight, areaNeeded};
 ghost use Rattle.question.specs.Working.{BothRead, Late, BothAnswered, FirstNumber, Ready, SettingOf};
 use model::Model;
 use model::ModelRead;
@@ -20,8 +21,8 @@ use sizes::exceeds;
 // The most tuples.
 const TUPLES: usize = 1024;
 
-// How many numbers of the work area a call uses, and row 1 asks for: `areaSize` of specs/.
-pub const AREA: usize = 8192;
+// How many numbers of the work area there are to a tuple.
+const LAYERS: usize = 8;
 
 // Whether a node's label letter, if it has one, is below A.
 fn label_right(node: Node, a: u32) -> bool
@@ -92,15 +93,11 @@ fn number_of(outcome: Outcome) -> u8
     }
 }
 
-// The number that the rows 1 to 11 give of what the readers answered, for a work area of so many numbers: the smallest that
-// applies, or 0.
-pub fn first_number(room: usize, m: ModelRead, s: SentenceRead) -> u8
+// The number that the rows 2 to 11 give of what the readers answered: the smallest that applies, or 0.
+pub fn first_number(m: ModelRead, s: SentenceRead) -> u8
     requires { ⌜ BothAnswered m s ⌝ }
-    ensures { λ r. ⌜ FirstNumber room m s r ⌝ }
+    ensures { λ r. ⌜ FirstNumber m s r ⌝ }
 {
-    if room < AREA {
-        return 1;
-    }
     let loaded = m.outcome;
     let of_model = number_of(loaded);
     if 0 < of_model {
@@ -116,7 +113,15 @@ pub fn first_number(room: usize, m: ModelRead, s: SentenceRead) -> u8
     late_number(model, sentence)
 }
 
-// N, n, T and D of a pair to which no row applies.
+// How many numbers of the work area a pair needs to which none of the rows applies: 8 × T.
+pub fn area_needed(m: Model, s: Sentence) -> usize
+    requires { ⌜ Ready m s ⌝ }
+    ensures { λ r. ⌜ r ≡ areaNeeded (chainOf m) (s .letters) ⌝ }
+{
+    LAYERS * tuple_count(m.n as usize, s.letters)
+}
+
+// N, n, T and D of such a pair.
 pub fn setting_of(m: Model, s: Sentence) -> Setting
     requires { ⌜ Ready m s ⌝ }
     ensures { λ r. ⌜ SettingOf m s r ⌝ }

@@ -1,5 +1,5 @@
 -- What every call's contract leaves: one reply and one content of everything lent, with the number that its rows ask for.
-use Prim.Native.Nat.{ℕ, _<_}
+use Prim.Native.Nat.{ℕ, _≤_, _<_}
 use mathlib.Core.List.{List}
 use mathlib.Core.Path.{_≡_, refl, sym, ap, subst, _∙_}
 use native.Mathlib.Nat.{le-antisymm}
@@ -11,7 +11,7 @@ use Rattle.refusal.specs.declared.Written.{Written}
 use Rattle.refusal.specs.declared.Written.the-variants.{Wrote, Refused as Unwritten}
 use Rattle.refusal.specs.Answers.{Reply, gives, refuses, numberIn, filled, Ensured, refused, answered, replyOf, replyOfWritten}
 use Rattle.refusal.specs.Answers.{atFront, TextAtFront}
-use Rattle.refusal.specs.Rows.{Decided, by-row as smallest, by-none}
+use Rattle.refusal.specs.Rows.{Decided, by-row as smallest, by-none, OneLast, other, no-other}
 
 module _ {A L : Type 0} {R : ℕ → Type 0} {Right : A → L → Type 0} {before : L} where
   -- any two results that a contract allows are equal, where the right values and what is right to leave are
@@ -40,6 +40,56 @@ module _ {A L : Type 0} {R : ℕ → Type 0} {Right : A → L → Type 0} {befor
   pub right-of : {r : Reply A} {after : L} → ((n : ℕ) → R n → ⊥) → Ensured R Right before r after → (v : A) × (r ≡ gives v) × Right v after
   right-of none (refused {n} e k row least) = absurd (none n row)
   right-of none (answered {v} e right free) = (v, e, right)
+
+-- the rows of a call whose row 1 comes last
+module _ {R : ℕ → Type 0} {Short : Type 0} where
+  -- another row goes before it
+  pub others-first : {n : ℕ} → Decided R n → 0 < n → Decided (OneLast R Short) n
+  others-first {n} (smallest row least) some = smallest (other row) from
+    where
+      from : (m : ℕ) → OneLast R Short m → n ≤ m
+      from m (other r) = least m r
+      from m (no-other none short) = absurd (none n row)
+  others-first (by-none none) some = absurd (omega arith)
+
+  module _ (none : (n : ℕ) → R n → ⊥) where
+    -- where no other applies, it does if there is too little room,
+    pub one-decided : Short → Decided (OneLast R Short) 1
+    one-decided short = smallest (no-other none short) from
+      where
+        from : (m : ℕ) → OneLast R Short m → 1 ≤ m
+        from m (other r) = absurd (none m r)
+        from m (no-other none′ short′) = omega arith
+
+    -- and else none does
+    pub none-at-all : (Short → ⊥) → (m : ℕ) → OneLast R Short m → ⊥
+    none-at-all enough m (other r) = none m r
+    none-at-all enough m (no-other none′ short) = enough short
+
+  -- where none applies, no other does, and there is room
+  module _ (none : (n : ℕ) → OneLast R Short n → ⊥) where
+    pub others-free : (n : ℕ) → R n → ⊥
+    others-free n r = none n (other r)
+
+    pub room-enough : Short → ⊥
+    room-enough short = none 1 (no-other others-free short)
+
+-- where there is room, the other rows decide
+pub with-room : {A L : Type 0} {R : ℕ → Type 0} {Short : Type 0} {Right : A → L → Type 0} {before after : L} {r : Reply A} →
+    (Short → ⊥) → Ensured (OneLast R Short) Right before r after → Ensured R Right before r after
+with-room enough (refused e k (other row) least) = refused e k row (λ m x. least m (other x))
+with-room enough (refused e k (no-other none short) least) = absurd (enough short)
+with-room enough (answered e right none) = answered e right (others-free none)
+
+-- two calls with the same rows reply the same, whatever each is lent, where their right values are the same
+pub same-reply : {A L : Type 0} {R : ℕ → Type 0} {Right Right′ : A → L → Type 0} {before before′ after after′ : L} {r r′ : Reply A} →
+    ((v v′ : A) (l l′ : L) → Right v l → Right′ v′ l′ → v ≡ v′) → Ensured R Right before r after → Ensured R Right′ before′ r′ after′ →
+    r ≡ r′
+same-reply same (refused {n} e k row least) (refused {n = m} e′ k′ row′ least′) =
+    e ∙ ap refuses (le-antisymm (least m row′) (least′ n row)) ∙ sym e′
+same-reply same (refused {n} e k row least) (answered e′ right none) = absurd (none n row)
+same-reply same (answered e right none) (refused {n} e′ k′ row least) = absurd (none n row)
+same-reply same (answered e right none) (answered e′ right′ none′) = e ∙ ap gives (same _ _ _ _ right right′) ∙ sym e′
 
 -- what is lent is filled, or stays as it was
 pub filled-given : {A B : Type 0} {q : Reply A} {v : A} → q ≡ gives v → (value before : B) → filled q value before ≡ value

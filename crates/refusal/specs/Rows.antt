@@ -40,3 +40,9 @@ pub data Decided (R : ℕ → Type 0) : ℕ → Type 0 where
 -- the same of the rows of a list
 abbrev pub Given : List Row → ℕ → Type 0
 Given rows = Decided (λ n. Applies n rows)
+
+-- The rows of a call that asks for room by the model (document 02, T-07): the smallest number that applies, but 1 only where no other
+-- applies. `R n` says that another row, with the number n, applies, `Short` what row 1 is given for.
+pub data OneLast (R : ℕ → Type 0) (Short : Type 0) : ℕ → Type 0 where
+  other : {n : ℕ} → R n → OneLast R Short n
+  no-other : ((m : ℕ) → R m → ⊥) → Short → OneLast R Short 1

@@ -2,8 +2,7 @@
 use Prim.Native.Nat.{ℕ, zero, suc, _%_, _≤_, _<_}
 use mathlib.Core.Bool.{Bool, true, false, _&&_}
 use mathlib.Core.List.{List}
-use mathlib.Core.Path.{_≡_, refl, sym, ap, subst, _∙_}
-use native.Mathlib.Nat.{le-of-eq}
+use mathlib.Core.Path.{_≡_, refl, ap, subst, _∙_}
 use native.Mathlib.Omega.{arith}
 use borrow.Author.Tests.{lt-leb}
 use lib.Dec.{leb, eqb}
@@ -13,7 +12,7 @@ use Rattle.model.specs.Rules.{lengthRight}
 use Rattle.model.specs.Contract.{fileNumber}
 use Rattle.model.proofs.Answer.{number-2}
 use Rattle.sentence_reader.specs.Contract.{long}
-use Rattle.question.specs.Contract.{QuestionRow, area, model, sentence, labels, size, tuples, areaSize}
+use Rattle.question.specs.Contract.{QuestionRow, model, sentence, labels, size, tuples}
 use Rattle.question.proofs.Numbers.{text-number}
 use Rattle.question.proofs.Stages.{none-of-file}
 use Rattle.question.proofs.Early.{gives-file}
@@ -32,40 +31,38 @@ last-fails true true c e = e
 last-fails true false c e = refl
 last-fails false b c e = refl
 
-module _ {room : ℕ} (space : areaSize ≤ room) where
-  -- a model file of over 3,072 bytes is refused 2, whatever the text
-  over-model : (file text : List ℕ) → 3072 < length file → Decided (QuestionRow file text room) 2
-  unfolding lengthRight
-  over-model file text h =
-      gives-file space
-      (number-2 file (last-fails (eqb (length file % 512) 0) (leb 512 (length file)) (leb (length file) 3072)
-      (lt-leb (length file) 3072 h)))
-      (omega arith)
+-- a model file of over 3,072 bytes is refused 2, whatever the text
+over-model : (file text : List ℕ) → 3072 < length file → Decided (QuestionRow file text) 2
+unfolding lengthRight
+over-model file text h =
+    gives-file
+    (number-2 file (last-fails (eqb (length file % 512) 0) (leb 512 (length file)) (leb (length file) 3072)
+    (lt-leb (length file) 3072 h)))
+    (omega arith)
 
-  -- a text of over 400 bytes is refused 6, unless the model is refused
-  over-text : (file text : List ℕ) → fileNumber file ≡ 0 → 400 < length text → Decided (QuestionRow file text room) 6
-  over-text file text free h = by-row (sentence (long h)) from
-    where
-      from : (k : ℕ) → QuestionRow file text room k → 6 ≤ k
-      from k (area e) = absurd (omega arith)
-      from k (model a) = absurd (none-of-file file free a)
-      from k (sentence r) = text-number r .0
-      from k (labels f s e) = omega arith
-      from k (size f s e) = omega arith
-      from k (tuples f s e) = omega arith
+-- a text of over 400 bytes is refused 6, unless the model is refused
+over-text : (file text : List ℕ) → fileNumber file ≡ 0 → 400 < length text → Decided (QuestionRow file text) 6
+over-text file text free h = by-row (sentence (long h)) from
+  where
+    from : (k : ℕ) → QuestionRow file text k → 6 ≤ k
+    from k (model a) = absurd (none-of-file file free a)
+    from k (sentence r) = text-number r .0
+    from k (labels f s e) = omega arith
+    from k (size f s e) = omega arith
+    from k (tuples f s e) = omega arith
 
-  -- so the number of an accepted or a refused file does not depend on what is over
-  both-over : (file q text : List ℕ) → 400 < length q → 400 < length text →
-      (n : ℕ) × (0 < n) × Decided (QuestionRow file q room) n × Decided (QuestionRow file text room) n
-  both-over file q text g h = by (fileNumber file) refl
-    where
-      by : (k : ℕ) → fileNumber file ≡ k → (n : ℕ) × (0 < n) × Decided (QuestionRow file q room) n × Decided (QuestionRow file text room) n
-      by zero e = (6, omega arith, over-text file q e g, over-text file text e h)
-      by (suc k) e = (suc k, omega arith, gives-file space e (omega arith), gives-file space e (omega arith))
+-- so the number of an accepted or a refused file does not depend on what is over
+both-over : (file q text : List ℕ) → 400 < length q → 400 < length text →
+    (n : ℕ) × (0 < n) × Decided (QuestionRow file q) n × Decided (QuestionRow file text) n
+both-over file q text g h = by (fileNumber file) refl
+  where
+    by : (k : ℕ) → fileNumber file ≡ k → (n : ℕ) × (0 < n) × Decided (QuestionRow file q) n × Decided (QuestionRow file text) n
+    by zero e = (6, omega arith, over-text file q e g, over-text file text e h)
+    by (suc k) e = (suc k, omega arith, gives-file e (omega arith), gives-file e (omega arith))
 
 -- two questions that give the same number have the same answer
-alike : {file text file′ text′ before after : List ℕ} {r : Answer} {n : ℕ} → 0 < n → Decided (QuestionRow file text (length before)) n →
-    Decided (QuestionRow file′ text′ (length before)) n → VerdictEnsures file text before r after →
+alike : {file text file′ text′ before after : List ℕ} {r : Answer} {n : ℕ} → 0 < n → Decided (QuestionRow file text) n →
+    Decided (QuestionRow file′ text′) n → VerdictEnsures file text before r after →
     VerdictEnsures file′ text′ before r after
 alike {file′ = file′} {text′} {before} {after} {r} {n} some d d′ a =
     let one = one-verdict (refused-so d some) a in
@@ -73,22 +70,22 @@ alike {file′ = file′} {text′} {before} {after} {r} {n} some d d′ a =
     (subst (λ (l : List ℕ). VerdictEnsures file′ text′ before (Refused n) l) (one .1) (refused-so d′ some))
 
 -- the answer on the first bytes is the answer on the whole files
-pub any-size : (file said : List ℕ) {before after : List ℕ} {r : Answer} → areaSize ≤ length before →
+pub any-size : (file said : List ℕ) {before after : List ℕ} {r : Answer} →
     VerdictEnsures (take 3073 file) (withoutNewline (take 402 said)) before r after →
     VerdictEnsures file (withoutNewline said) before r after
-any-size file said {before} {after} {r} space = by (model-enough file) (text-enough said)
+any-size file said {before} {after} {r} = by (model-enough file) (text-enough said)
   where
     by : Alike 3072 (take 3073 file) file → Alike 400 (withoutNewline (take 402 said)) (withoutNewline said) →
         VerdictEnsures (take 3073 file) (withoutNewline (take 402 said)) before r after →
         VerdictEnsures file (withoutNewline said) before r after
-    by (over g h) t a = alike (omega arith) (over-model space (take 3073 file) (withoutNewline (take 402 said)) g)
-        (over-model space file (withoutNewline said) h) a
+    by (over g h) t a = alike (omega arith) (over-model (take 3073 file) (withoutNewline (take 402 said)) g)
+        (over-model file (withoutNewline said) h) a
     by (same e) (same f) a =
         subst (λ (x : List ℕ). VerdictEnsures x (withoutNewline said) before r after) e
         (subst (λ (x : List ℕ). VerdictEnsures (take 3073 file) x before r after) f a)
     by (same e) (over g h) a =
         let b = subst (λ (x : List ℕ). VerdictEnsures x (withoutNewline (take 402 said)) before r after) e a in
-        let n = both-over space file (withoutNewline (take 402 said)) (withoutNewline said) g h in
+        let n = both-over file (withoutNewline (take 402 said)) (withoutNewline said) g h in
         alike (n .1) (n .2) (n .3) b
 
 -- so the answer on what stands in the buffers is the answer on the whole files, where the buffers have that many bytes
@@ -103,7 +100,7 @@ buffers-so {model} {sentence} {m} {s} {r} whole-model whole-text own = record {
         after = own .after;
         enough = own .enough;
         answer =
-            any-size file said (le-of-eq (sym (own .enough)))
+            any-size file said
             (subst (λ (x : List ℕ). VerdictEnsures x (withoutNewline (take 402 said)) (own .before) r (own .after)) model-first
             (subst (λ (x : List ℕ). VerdictEnsures (take m model) (withoutNewline x) (own .before) r (own .after)) text-first
             (own .answer)));

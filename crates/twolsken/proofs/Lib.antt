@@ -2,3 +2,4 @@
 pub mod Fronts
 pub mod Enough
 pub mod AnySize
+pub mod Room

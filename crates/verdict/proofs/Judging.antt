@@ -24,16 +24,15 @@ use Rattle.trees.proofs.Needs.{need-seven}
 use Rattle.chain.specs.Of.{chainOf, filledRows}
 use Rattle.question.specs.Working.{TextOfSentence, Ready, SettingOf}
 use Rattle.question.proofs.Pair.{nodes-few, stands, one-sentence, letters-length}
-use Rattle.question.proofs.Settled.{body-ranged, sizes, fixed, variables-few, layers-fit}
-use Rattle.question.specs.Contract.{areaSize}
+use Rattle.question.proofs.Settled.{body-ranged, sizes, fixed, variables-few, layers-fit, area-small}
+use Rattle.question.specs.Contract.{areaNeeded}
 
 module _ {m : Model} {s : Sentence} {g : Setting} {rows : List (List ℕ)} (r : Ready m s) (so : SettingOf m s g)
     (e : rows ≡ filledRows m) where
   -- the body can be evaluated
-  pub formula-ready : {w : List ℕ} → length w ≡ areaSize → TreeReady State (s .nodes) g (m .masks) rows 0 w
+  pub formula-ready : {w : List ℕ} → length w ≡ areaNeeded (chainOf m) (s .letters) → TreeReady State (s .nodes) g (m .masks) rows 0 w
   formula-ready long =
       let b = r .read .sentence in
-      let few = sizes r so .few in
       record {
         chain = chainOf m;
         fixed = fixed r so e;
@@ -43,22 +42,23 @@ module _ {m : Model} {s : Sentence} {g : Setting} {rows : List (List ℕ)} (r : 
         stands = stands b;
         ranged = subst (λ (k : ℕ). Ranged k (b .body)) (sym (so .variables)) (body-ranged b);
         fits = ap (exceeds (b .body) (m .d)) (so .variables) ∙ r .small;
-        room = layers-fit r so (need-seven (b .body) (nodes-few b)) (omega (arith, few, long));
+        room = layers-fit r so (need-seven (b .body) (nodes-few b)) long;
       }
 
   -- the prefix can be descended
-  pub descent-ready : {w : List ℕ} → length w ≡ areaSize → DescentReady (s .exists) (g .variables) (g .states) 0 0 w
+  pub descent-ready : {w : List ℕ} → length w ≡ areaNeeded (chainOf m) (s .letters) → DescentReady (s .exists) (g .variables) (g .states) 0 0 w
   descent-ready long =
       let size = sizes r so in
-      let few = size .few in
       let whole = size .whole in
+      let one = layers-fit r so {k = 1} (omega arith) long in
+      let all = area-small r in
       record {
         few = variables-few r so;
         states = size .states;
         upTo = omega arith;
         room = let p : g .states ^ (g .variables - 0) ≡ g .states ^ g .variables = ap (λ (k : ℕ). g .states ^ k) (omega arith) in
-            omega (arith, few, whole, long, p);
-        small = omega (arith, long);
+            omega (arith, one, whole, p);
+        small = omega (arith, long, all);
       }
 
   -- the letters of the prefix, as the record has them

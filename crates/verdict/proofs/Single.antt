@@ -4,19 +4,20 @@ use mathlib.Core.Bool.{Bool, true≢false}
 use mathlib.Core.List.{List, map}
 use mathlib.Core.Path.{_≡_, refl, sym, ap, ap₂, _∙_}
 use native.Mathlib.Omega.{arith}
+use lib.ListN.{length}
 use Rattle.refusal.specs.Answers.{numberIn}
-use Rattle.refusal.specs.Rows.{Decided, by-row, by-none}
+use Rattle.refusal.specs.Rows.{Decided, by-row, by-none, other, no-other}
 use Rattle.refusal.proofs.Ensuring.{one-result, number-decided}
 use Rattle.model.specs.Layout.{fieldsOf}
 use Rattle.meaning.specs.Tree.{Formula, letterOf}
 use Rattle.meaning.specs.Meaning.{verdict}
 use Rattle.trees.proofs.Once.{sentence-once}
 use Rattle.chain.specs.Of.{chainOf}
-use Rattle.question.specs.Contract.{QuestionRow}
+use Rattle.question.specs.Contract.{areaNeeded, cleared}
 use Rattle.question.proofs.Numbers.{row-few}
 use Rattle.verdict.specs.declared.Answer.{Answer}
 use Rattle.verdict.specs.declared.Answer.the-variants.{Holds, Fails, Refused}
-use Rattle.verdict.specs.Contract.{verdictReply, Judges, VerdictEnsures}
+use Rattle.verdict.specs.Contract.{verdictReply, VerdictRow, Judges, VerdictEnsures}
 
 -- a reply tells its answer
 pub reply-told : (a b : Answer) → verdictReply a ≡ verdictReply b → a ≡ b
@@ -33,10 +34,11 @@ reply-told (Refused n) (Refused m) e = ap Refused (cc e)
 -- what is right is one
 one-right : {file text before : List ℕ} (v v′ : Bool) (l l′ : List ℕ) → Judges file text before v l → Judges file text before v′ l′ →
     (v ≡ v′) × (l ≡ l′)
-one-right {file} v v′ l l′ j j′ =
+one-right {file} {before = before} v v′ l l′ j j′ =
     let one = sentence-once (j .sentence .body) (j′ .sentence .body) (j .sentence .spelled) (j′ .sentence .spelled) in
     let same = ap₂ (λ (ps : List Bool) (h : Formula). verdict (chainOf (fieldsOf file)) (map letterOf ps) h) (one .0) (one .1) in
-    (j .meant ∙ same ∙ sym (j′ .meant), j .left ∙ sym (j′ .left))
+    let area = ap (λ (ps : List Bool). cleared (areaNeeded (chainOf (fieldsOf file)) (length ps)) before) (one .0) in
+    (j .meant ∙ same ∙ sym (j′ .meant), j .left ∙ area ∙ sym (j′ .left))
 
 -- any two results that the contract allows are equal
 pub one-verdict : {file text before after after′ : List ℕ} {a b : Answer} → VerdictEnsures file text before a after →
@@ -49,6 +51,7 @@ one-verdict {a = a} {b} x y =
 pub number-few : {file text before after : List ℕ} {a : Answer} → VerdictEnsures file text before a after → numberIn (verdictReply a) ≤ 11
 number-few {file} {text} {before} x = by (number-decided (x .ensured))
   where
-    by : {room n : ℕ} → Decided (QuestionRow file text room) n → n ≤ 11
-    by (by-row row least) = row-few row
+    by : {n : ℕ} → Decided (VerdictRow file text (length before)) n → n ≤ 11
+    by (by-row (other row) least) = row-few row
+    by (by-row (no-other none short) least) = omega arith
     by (by-none none) = omega arith

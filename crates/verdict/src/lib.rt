@@ -1,8 +1,9 @@
-// Verdict: the rows of a question, then the body's truth at every tuple and the descent through the prefix.
+// Verdict: the rows of a question, row 1 after them, then the body's truth at every tuple and the descent through the prefix.
 ghost use mathlib.Core.Path.{_≡_};
 ghost use lib.ListN.{length};
 ghost use Rattle.refusal.specs.Answers.{gives};
-ghost use Rattle.question.specs.Contract.{areaSize};
+ghost use Rattle.chain.specs.Of.{chainOf};
+ghost use Rattle.question.specs.Contract.{areaNeeded};
 ghost use Rattle.question.specs.Working.{Ready};
 ghost use Rattle.verdict.specs.Contract.{verdictReply, VerdictEnsures};
 ghost use Rattle.verdict.specs.Working.{Judged};
@@ -12,7 +13,7 @@ use evaluate::nodes::state_formula;
 use layers::plain::zero;
 use model::Model;
 use model_reader::read_model;
-use question::AREA;
+use question::area_needed;
 use question::first_number;
 use question::setting_of;
 use sentence::Sentence;
@@ -27,7 +28,7 @@ pub enum Answer {
 
 // Whether the sentence holds on the model: the body's truth at every tuple, in the first layers of the area, then the descent.
 fn judged(m: Model, s: Sentence, area: &mut [u64]) -> bool
-    requires { ⌜ Ready m s × (length (now area) ≡ areaSize) ⌝ }
+    requires { ⌜ Ready m s × (length (now area) ≡ areaNeeded (chainOf m) (s .letters)) ⌝ }
     ensures { λ r. ⌜ Judged m s r ⌝ }
 {
     let g = setting_of(m, s);
@@ -46,19 +47,23 @@ fn answer_of(holds: bool) -> Answer
     if holds { Answer::Holds } else { Answer::Fails }
 }
 
-// Verdict: whether the sentence holds on the model, or the smallest number of a row that applies.
+// Verdict: whether the sentence holds on the model, or the smallest number of a row that applies, but 1 only where no other does.
 pub fn verdict(file: &[u8], text: &[u8], work: &mut [u64]) -> Answer
     ensures { λ r. ⌜ VerdictEnsures (now (file .entry)) (now (text .entry)) (now (work .entry)) r (now (work .exit)) ⌝ }
 {
     let read = read_model(file);
     let said = read_sentence(text);
-    let number = first_number(work.len(), read, said);
+    let number = first_number(read, said);
     if 0 < number {
         return Answer::Refused(number);
     }
     let model = read.model;
     let sentence = said.sentence;
-    let holds = judged(model, sentence, &mut work[..AREA]);
-    zero(AREA, work);
+    let area = area_needed(model, sentence);
+    if work.len() < area {
+        return Answer::Refused(1);
+    }
+    let holds = judged(model, sentence, &mut work[..area]);
+    zero(area, work);
     answer_of(holds)
 }

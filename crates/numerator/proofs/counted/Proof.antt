@@ -5,7 +5,7 @@ use native.Mathlib.Omega.{arith}
 use borrow.Author.Needs.{needs, scaled-fits}
 use Rattle.question.proofs.Pair.{count-few}
 use Rattle.question.proofs.Settled.{d-few}
-use Rattle.numerator.proofs.Counting.{tuple-ready, tuple-inside, path-ready, counted-so}
+use Rattle.numerator.proofs.Counting.{tuple-ready, tuple-low, tuple-there, path-ready, counted-so}
 use Rattle.numerator.proofs.counted.Statement.{statement}
 use Rattle.numerator.proofs.counted.Tie as tie
 
@@ -31,7 +31,7 @@ tuple-place-requires c κs =
 low : (c : tie.After-tuple-place) → c .tuple-place .result < 1024
 low c =
     let settled = c .before .before .before .before .before .before .before .before .before .before .before in
-    tuple-inside (settled .before .before .before .pre .0) (settled .setting-of .ensures) (c .tuple-place .ensures)
+    tuple-low (settled .before .before .before .pre .0) (settled .setting-of .ensures) (c .tuple-place .ensures)
 
 mul-t18 : tie.Need-mul-t18
 mul-t18 c = scaled-fits (c .tuple-place .result) 1024 8 (low c) (omega arith)
@@ -39,10 +39,10 @@ mul-t18 c = scaled-fits (c .tuple-place .result) 1024 8 (low c) (omega arith)
 slice-read-t20 : tie.Need-slice-read-t20
 slice-read-t20 c =
     let evaluated = c .before .before .before .before in
-    let pre = evaluated .before .before .before .before .before .before .before .before .before .before .before .pre in
-    let long = evaluated .path .kept .1 .1 .1 .1 .1 .0 ∙ pre .1 in
-    let inside = low (c .before) in
-    omega (arith, long, inside)
+    let settled = evaluated .before .before .before .before .before .before .before .before in
+    let pre = settled .before .before .before .pre in
+    tuple-there (pre .0) (settled .setting-of .ensures) (c .before .tuple-place .ensures)
+    (evaluated .path .kept .1 .1 .1 .1 .1 .0 ∙ pre .1)
 
 returns : tie.Need-returns
 returns c = record {

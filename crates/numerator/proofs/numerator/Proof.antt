@@ -1,16 +1,16 @@
 -- `numerator::numerator` meets its contract: the rows' number, or the two values with the work area cleared.
 use Prim.Native.Nat.{ℕ}
-use mathlib.Core.Path.{_≡_, sym, _∙_}
+use mathlib.Core.Path.{_≡_, sym, ap, _∙_}
 use native.Mathlib.Omega.{arith}
 use borrow.Author.Needs.{needs}
 use lib.ListN.{length, take}
 use lib.Seq.{length-take-le}
-use Rattle.question.specs.Contract.{QuestionRow, areaSize}
+use Rattle.question.specs.Contract.{QuestionRow, AreaShort, cleared}
 use Rattle.question.proofs.Numbers.{none-of}
-use Rattle.question.proofs.Settled.{space, sentence-of, ready-of}
+use Rattle.question.proofs.Settled.{sentence-of, ready-of, area-short, area-enough}
 use Rattle.question.proofs.Cleared.{back-long, cleared-so}
 use Rattle.numerator.proofs.Asking.{right-parts, asks-wrong, asks-so}
-use Rattle.numerator.proofs.Answering.{refused-so, refused-15, answered-so}
+use Rattle.numerator.proofs.Answering.{refused-so, refused-15, refused-1, answered-so}
 use Rattle.numerator.proofs.numerator.Statement.{statement}
 use Rattle.numerator.proofs.numerator.Tie as tie
 
@@ -23,7 +23,7 @@ returns c =
 -- no row of the question applies
 none : (c : tie.Else1) →
     let args = c .before .before .before .before .before .before .before .before .args in
-    (k : ℕ) → QuestionRow (args .file .now) (args .text .now) (length (args .work .now)) k → ⊥
+    (k : ℕ) → QuestionRow (args .file .now) (args .text .now) k → ⊥
 none c =
     let asked = c .before in
     none-of (asked .first-number .ensures .each _ _ (asked .before .before .read-model .ensures) (asked .before .read-sentence .ensures))
@@ -44,20 +44,49 @@ returns-2 c =
     refused-15 work (none free) (asked .before .before .read-model .ensures) b
     (asks-wrong (c .before .asks-right .ensures) b (c .if2 .taken))
 
-slice-relend-prefix-counted : tie.Need-slice-relend-prefix-counted
-slice-relend-prefix-counted c = space (none (c .before .before .before .before))
+area-needed-requires : tie.Need-area-needed-requires
+area-needed-requires c κs =
+    let free = c .before .before .before .before in
+    let asked = free .before in
+    ready-of (none free) (asked .before .before .read-model .ensures) (asked .before .read-sentence .ensures)
 
--- the front of the area that is lent has the numbers that a call uses
-lent : (c : tie.Else1) →
-    length (take areaSize (c .before .before .before .before .before .before .before .before .args .work .now)) ≡ areaSize
-lent c = length-take-le areaSize (c .before .before .before .before .before .before .before .before .args .work .now) (space (none c))
+returns-3 : tie.Need-returns-3
+returns-3 c =
+    let tested = c .before .before in
+    let free = tested .before .before .before .before in
+    let asked = free .before in
+    let b = sentence-of (none free) (asked .before .read-sentence .ensures) in
+    let work = asked .before .before .before .before .before .before .before .args .work .now in
+    let need = c .before .area-needed .ensures in
+    refused-1 work (none free) (asked .before .before .read-model .ensures) b
+    (right-parts _ _ _ _ _ (asks-so (tested .before .asks-right .ensures) b (tested .if2 .left)))
+    (area-short (none free) (asked .before .before .read-model .ensures) (asked .before .read-sentence .ensures)
+    (omega (arith, need, c .if3 .taken)))
+
+-- there is room
+enough : (c : tie.Else3) → let args = c .before .before .before .before .before .before .before .before .before .before .before .before .before .before .args in AreaShort (args .file .now) (args .text .now) (length (args .work .now)) → ⊥
+enough c =
+    let free = c .before .before .before .before .before .before in
+    let asked = free .before in
+    let need = c .before .area-needed .ensures in
+    area-enough (none free) (asked .before .before .read-model .ensures) (asked .before .read-sentence .ensures)
+    (omega (arith, need, c .if3 .left))
+
+-- the front of the area that is lent has the numbers that are needed
+lent : (c : tie.Else3) →
+    let work = c .before .before .before .before .before .before .before .before .before .before .before .before .before .before .args .work .now in
+    length (take (c .before .area-needed .result) work) ≡ c .before .area-needed .result
+lent c =
+    let work = c .before .before .before .before .before .before .before .before .before .before .before .before .before .before .args .work .now in
+    length-take-le (c .before .area-needed .result) work (c .if3 .left)
 
 slice-aggregate-counted : tie.Need-slice-aggregate-counted
-slice-aggregate-counted c = sym (lent (c .before .before .before .before .before))
+slice-aggregate-counted c = sym (lent (c .before))
 
 counted-requires : tie.Need-counted-requires
 counted-requires c κs =
-    let tested = c .before in
+    let room = c .before in
+    let tested = room .before .before in
     let free = tested .before .before .before .before in
     let asked = free .before in
     let ready = ready-of (none free) (asked .before .before .read-model .ensures) (asked .before .read-sentence .ensures) in (
@@ -65,34 +94,35 @@ counted-requires c κs =
         ready = ready;
         right = asks-so (tested .before .asks-right .ensures) (ready .read .sentence) (tested .if2 .left);
       },
-      lent free,
+      lent room ∙ room .before .area-needed .ensures,
     )
 
 -- its length is unchanged on return
-back : (c : tie.After-counted) → length (c .counted .last .1 .1 .1 .1 .0) ≡ areaSize
-back c = c .counted .kept .1 .1 .1 .1 .0 ∙ lent (c .before .before .before .before .before .before)
+back : (c : tie.After-counted) → length (c .counted .last .1 .1 .1 .1 .0) ≡ c .before .before .before .area-needed .result
+back c = c .counted .kept .1 .1 .1 .1 .0 ∙ lent (c .before .before)
 
 zero-requires : tie.Need-zero-requires
 zero-requires c κs =
     let counted = c .before .before .before in
-    let free = counted .before .before .before .before .before .before in
-    let work = free .before .before .before .before .before .before .before .before .args .work .now in
-    let long = back-long work (counted .counted .last .1 .1 .1 .1 .0) (space (none free)) (back counted) in
-    let room = space (none free) in
-    omega (arith, long, room)
+    let room = counted .before .before in
+    let work = room .before .before .before .before .before .before .before .before .before .before .before .before .before .before .args .work .now in
+    let long = back-long work (counted .counted .last .1 .1 .1 .1 .0) (room .if3 .left) (back counted) in
+    omega (arith, long, room .if3 .left)
 
-returns-3 : tie.Need-returns-3
-returns-3 c =
+returns-4 : tie.Need-returns-4
+returns-4 c =
     let counted = c .before .before .before .before .before .before in
-    let tested = counted .before .before in
+    let room = counted .before .before in
+    let tested = room .before .before in
     let free = tested .before .before .before .before in
     let asked = free .before in
     let work = asked .before .before .before .before .before .before .before .args .work .now in
     let b = sentence-of (none free) (asked .before .read-sentence .ensures) in
     answered-so work (none free) (asked .before .before .read-model .ensures) b
     (right-parts _ _ _ _ _ (asks-so (tested .before .asks-right .ensures) b (tested .if2 .left)))
-    (counted .counted .ensures)
-    (cleared-so work (counted .counted .last .1 .1 .1 .1 .0) (space (none free)) (back counted) (c .before .before .zero .ensures))
+    (enough room) (counted .counted .ensures)
+    (cleared-so work (counted .counted .last .1 .1 .1 .1 .0) (room .if3 .left) (back counted) (c .before .before .zero .ensures) ∙
+    ap (λ (k : ℕ). cleared k work) (room .before .area-needed .ensures))
 
 pub numerator-spec : {M : Type 1} → statement M
 numerator-spec =
@@ -104,9 +134,11 @@ numerator-spec =
     returns
     asks-right-requires
     returns-2
-    slice-relend-prefix-counted
+    area-needed-requires
+    returns-3
+    (λ c. search needs)
     slice-aggregate-counted
     counted-requires
     zero-requires
     (λ c. search needs)
-    returns-3)
+    returns-4)

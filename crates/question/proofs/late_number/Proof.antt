@@ -23,8 +23,8 @@ labels-right-requires c κs = count-few (c .before .pre .sentence)
 
 returns : tie.Need-returns
 returns c = record {
-  each = λ file text room space a b.
-      gives-9 a b space (sym (labels-same a b) ∙ sym (c .before .labels-right .ensures) ∙ not-true _ (c .if1 .taken));
+  each = λ file text a b.
+      gives-9 a b (sym (labels-same a b) ∙ sym (c .before .labels-right .ensures) ∙ not-true _ (c .if1 .taken));
 }
 
 -- what the first test says where it is left
@@ -38,8 +38,8 @@ exceeds-requires c κs = letters-few (c .before .before .before .before .pre .se
 
 returns-2 : tie.Need-returns-2
 returns-2 c = record {
-  each = λ file text room space a b.
-      gives-10 a b space (right (c .before .before .before) file text a b)
+  each = λ file text a b.
+      gives-10 a b (right (c .before .before .before) file text a b)
       (sym (size-same a b) ∙ sym (c .before .exceeds .ensures (b .body) _ (stands b)) ∙ c .if2 .taken);
 }
 
@@ -56,19 +56,19 @@ tuple-count-requires c κs =
 
 returns-3 : tie.Need-returns-3
 returns-3 c = record {
-  each = λ file text room space a b.
+  each = λ file text a b.
       let e = c .before .tuple-count .ensures in
       let t = tuples-same a b in
-      gives-11 a b space (right (c .before .before .before .before .before .before) file text a b)
+      gives-11 a b (right (c .before .before .before .before .before .before) file text a b)
       (small (c .before .before .before) file text a b) (omega (arith, e, t, c .if3 .taken));
 }
 
 returns-4 : tie.Need-returns-4
 returns-4 c = record {
-  each = λ file text room space a b.
+  each = λ file text a b.
       let e = c .before .tuple-count .ensures in
       let t = tuples-same a b in
-      gives-none a b space (right (c .before .before .before .before .before .before) file text a b)
+      gives-none a b (right (c .before .before .before .before .before .before) file text a b)
       (small (c .before .before .before) file text a b) (omega (arith, e, t, c .if3 .left));
 }
 

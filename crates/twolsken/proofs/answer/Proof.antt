@@ -5,7 +5,7 @@ use mathlib.Core.List.{List}
 use mathlib.Core.Path.{subst}
 use lib.ListN.{replicate, length-replicate}
 use Rattle.verdict.specs.Contract.{VerdictEnsures}
-use Rattle.question.specs.Contract.{areaSize}
+use Rattle.twolsken.specs.Contract.{areaSize}
 use Rattle.twolsken.proofs.answer.Statement.{statement}
 use Rattle.twolsken.proofs.answer.Tie as tie
 
