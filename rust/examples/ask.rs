@@ -8,7 +8,7 @@ use std::fs::read;
 use std::io::{stdout, Write};
 use std::path::Path;
 use std::process::ExitCode;
-use twolsken::{numerator, read_model, read_sentence, verdict, WORK_AREA};
+use twolsken::{numerator, read_model, read_sentence, verdict, work_area, WORK_AREA};
 
 /// The tuples of so many letters, in order, the last member changing first.
 fn tuples(states: u32, letters: usize) -> Vec<Vec<u8>> {
@@ -24,13 +24,15 @@ fn ask(folder: &Path) -> Result<(), Box<dyn Error>> {
     let file = read(folder.join("model.blk"))?;
     let line = read(folder.join("sentence.txt"))?;
     let text = line.strip_suffix(b"\n").unwrap_or(&line);
-    let mut work = vec![0; WORK_AREA];
+    let (model, sentence) = (read_model(&file)?, read_sentence(text)?);
+    let letters = sentence.prefix.len();
+    // What the question needs, or the most if it has too many tuples: then it is refused by 11.
+    let mut work = vec![0; work_area(model.n as usize, letters).min(WORK_AREA)];
     let mut out = stdout().lock();
     writeln!(out, "{}", verdict(&file, text, &mut work)?)?;
-    let (model, sentence) = (read_model(&file)?, read_sentence(text)?);
     let paths = sentence.nodes.iter().filter(|node| node.is_path()).count();
     for path in 0..paths {
-        for tuple in tuples(model.n, sentence.prefix.len()) {
+        for tuple in tuples(model.n, letters) {
             let probability = numerator(&file, text, &tuple, path, &mut work)?;
             writeln!(out, "path formula {path} at {tuple:?}: {probability}")?;
         }

@@ -1,6 +1,6 @@
-//! Verdict and numerator.
+//! Verdict and numerator, and the work area that they need.
 
-use crate::{raw, Refusal};
+use crate::{raw, Refusal, WORK_PER_TUPLE};
 use std::fmt::{self, Display, Formatter};
 
 /// What a sentence is judged to be.
@@ -40,16 +40,43 @@ impl Display for Fraction {
     }
 }
 
-/// Judges a sentence, given by its text, on a model, given by its file. In version 1 an empty row counts as weight
-/// D to the state itself. `work` has at least [`crate::WORK_AREA`] numbers, with any contents: after an answer that
-/// many are zero and those past them unchanged.
+/// The numbers that the work area of a question has at least, on a model of so many states and with so many letters
+/// in the prefix: [`WORK_PER_TUPLE`] × states^letters, or [`usize::MAX`] if that is greater.
 ///
-/// # Errors
-/// 1, `work` is too short; 2 to 5 as [`crate::read_model`]; 6 to 8 as [`crate::read_sentence`]; 9, a label that
-/// the model does not have; 10, the size rule ([`Refusal::SizeRule`]); 11, over 1,024 tuples.
+/// A question of over [`crate::TUPLES`] tuples is refused by 11 however much is lent.
 ///
 /// ```
-/// use twolsken::{verdict, Refusal, Table, Verdict, WORK_AREA};
+/// use twolsken::{read_sentence, work_area, Model, WORK_AREA};
+///
+/// // Five states and one letter: 320 bytes.
+/// let work: [u64; work_area(5, 1)] = [0; 40];
+/// assert_eq!(size_of_val(&work), 320);
+///
+/// // Of a model and a sentence that were read.
+/// let model = Model { n: 10, ..Model::empty() };
+/// let sentence = read_sentence(b"AAE.&a1!&a2a3")?;
+/// assert_eq!(work_area(model.n as usize, sentence.prefix.len()), 8_000);
+///
+/// // The most tuples of an answer: 32 × 32.
+/// assert_eq!(work_area(32, 2), WORK_AREA);
+/// # Ok::<(), twolsken::Refusal>(())
+/// ```
+pub const fn work_area(states: usize, letters: usize) -> usize {
+    // With so many letters the power of 0 or 1 is itself, and that of any other number is far above a usize.
+    let letters = if letters < u32::MAX as usize { letters as u32 } else { u32::MAX };
+    WORK_PER_TUPLE.saturating_mul(states.saturating_pow(letters))
+}
+
+/// Judges a sentence, given by its text, on a model, given by its file. In version 1 an empty row counts as weight
+/// D to the state itself. `work` has at least as many numbers as [`work_area`] tells, with any contents: after an
+/// answer that many are zero and those past them unchanged.
+///
+/// # Errors
+/// 2 to 5 as [`crate::read_model`]; 6 to 8 as [`crate::read_sentence`]; 9, a label that the model does not have; 10,
+/// the size rule ([`Refusal::SizeRule`]); 11, over 1,024 tuples; where none of these applies 1, `work` is too short.
+///
+/// ```
+/// use twolsken::{verdict, work_area, Refusal, Table, Verdict};
 ///
 /// let table: Table = "
 ///     D 4
@@ -59,10 +86,14 @@ impl Display for Fraction {
 /// "
 /// .parse()?;
 /// let file = table.model.to_file()?;
-/// let mut work = vec![0; WORK_AREA];
+/// let mut work = [0; work_area(2, 2)]; // two states, up to two letters
 /// assert_eq!(verdict(&file, b"AE.=PXa1PXa2", &mut work)?, Verdict::Holds);
 /// assert_eq!(verdict(&file, b"AA.=PXa1PXa2", &mut work)?, Verdict::Fails);
 /// assert_eq!(verdict(&file, b"A.b1", &mut work), Err(Refusal::NoSuchLabel));
+///
+/// // With three letters this area is too short; that the label is missing comes first.
+/// assert_eq!(verdict(&file, b"AAA.a1", &mut work), Err(Refusal::WorkArea));
+/// assert_eq!(verdict(&file, b"AAA.b1", &mut work), Err(Refusal::NoSuchLabel));
 /// # Ok::<(), Box<dyn std::error::Error>>(())
 /// ```
 pub fn verdict(file: &[u8], text: &[u8], work: &mut [u64]) -> Result<Verdict, Refusal> {
@@ -89,10 +120,11 @@ pub fn verdict(file: &[u8], text: &[u8], work: &mut [u64]) -> Result<Verdict, Re
 /// empty rows are as in [`verdict`].
 ///
 /// # Errors
-/// 1 to 11 as [`verdict`]; 15, a tuple of another length, a member that is no state, no such path formula.
+/// 2 to 11 as [`verdict`]; 15, a tuple of another length, a member that is no state, no such path formula; where
+/// none of these applies 1, `work` is too short.
 ///
 /// ```
-/// use twolsken::{numerator, Refusal, Table, WORK_AREA};
+/// use twolsken::{numerator, work_area, Refusal, Table};
 ///
 /// let table: Table = "
 ///     D 4
@@ -102,7 +134,7 @@ pub fn verdict(file: &[u8], text: &[u8], work: &mut [u64]) -> Result<Verdict, Re
 /// "
 /// .parse()?;
 /// let file = table.model.to_file()?;
-/// let mut work = vec![0; WORK_AREA];
+/// let mut work = [0; work_area(2, 2)]; // two states, up to two letters
 ///
 /// // The chance of meeting `a` within two steps: 7 of the 16 runs from state 0.
 /// let text = b"A.GPU0,2:Ta1#1/2;";

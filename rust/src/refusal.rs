@@ -4,7 +4,8 @@ use crate::raw::REFUSED;
 use std::error::Error;
 use std::fmt::{self, Display, Formatter};
 
-/// Why a call refused. Later versions may have more of them.
+/// Why a call refused. Of the refusals that apply a call gives the one with the smallest number, but
+/// [`Refusal::WorkArea`] only where no other applies. Later versions may have more of them.
 ///
 /// ```
 /// use twolsken::{read_sentence, Refusal};
@@ -17,7 +18,7 @@ use std::fmt::{self, Display, Formatter};
 #[derive(Clone, Copy, Debug, PartialEq, Eq, PartialOrd, Ord, Hash)]
 #[non_exhaustive]
 pub enum Refusal {
-    /// The work area has fewer than [`crate::WORK_AREA`] numbers.
+    /// The work area has fewer numbers than [`crate::work_area`] tells for the question.
     WorkArea = 1,
     /// The model file's length is not a multiple of 512 in 512..3,072.
     FileLength = 2,
@@ -39,7 +40,7 @@ pub enum Refusal {
     /// Some number of the sentence is above 2^62 by the size rule. A path formula that names v different variables
     /// counts there as D^v, or D^(v × k2) if it is an until; letters that it does not name do not count.
     SizeRule = 10,
-    /// There are over 1,024 tuples of states.
+    /// There are over [`crate::TUPLES`] tuples of states.
     TooManyTuples = 11,
     /// The grouping is not one number a state, or its numbers are not 0..M−1, each used.
     Grouping = 12,
@@ -87,7 +88,7 @@ impl Refusal {
     /// ```
     pub fn words(self) -> &'static str {
         match self {
-            Refusal::WorkArea => "the work area has fewer than 8192 numbers",
+            Refusal::WorkArea => "the work area has fewer than 8 numbers for each tuple of states",
             Refusal::FileLength => "the model file's length is not a multiple of 512 from 512 to 3072",
             Refusal::Check => "the check of some block of the model file is wrong",
             Refusal::Layout => "the model has a byte, a field or a number of blocks that breaks the layout",
@@ -153,7 +154,7 @@ impl Error for Refusal {}
 #[cfg(test)]
 mod tests {
     use super::*;
-    use crate::{LONGEST_FILE, LONGEST_TEXT, NODES, WORK_AREA};
+    use crate::{LONGEST_FILE, LONGEST_TEXT, NODES, TUPLES, WORK_PER_TUPLE};
 
     #[test]
     fn numbers_are_those_of_the_table_of_refusals() {
@@ -164,10 +165,11 @@ mod tests {
     #[test]
     fn words_tell_the_limits() {
         for (refusal, limit) in [
-            (Refusal::WorkArea, WORK_AREA),
+            (Refusal::WorkArea, WORK_PER_TUPLE),
             (Refusal::FileLength, LONGEST_FILE),
             (Refusal::Grammar, LONGEST_TEXT),
             (Refusal::TooManyNodes, NODES),
+            (Refusal::TooManyTuples, TUPLES),
         ] {
             assert!(refusal.words().contains(&limit.to_string()), "{refusal}");
         }

@@ -3,7 +3,7 @@
 use std::fs::{copy, create_dir, read, remove_dir_all, write};
 use std::path::{Path, PathBuf};
 use std::process::{Command, Output};
-use twolsken::{read_model, Table};
+use twolsken::{read_model, Model, Table};
 
 /// A folder of its own for a test.
 struct Folder(PathBuf);
@@ -97,6 +97,19 @@ fn ask_prints_the_numbers_behind_a_verdict() {
     let lines = printed(run("ask", &sample("halted"), &[]));
     let numbers = ["0]: 306/1000", "1]: 672/1000", "2]: 1000/1000"];
     assert_eq!(lines, format!("holds\n{}", numbers.map(|at| format!("path formula 0 at [{at}\n")).concat()));
+}
+
+/// On a model of 32 empty rows two letters are answered and three are refused by 11.
+#[test]
+fn ask_lends_up_to_the_most() {
+    let folder = Folder::new("ask");
+    let model = Model { n: 32, a: 1, d: 1, version: 1, ..Model::empty() };
+    write(folder.0.join("model.blk"), model.to_file().expect("a file")).expect("a model");
+    write(folder.0.join("sentence.txt"), "AA.!a1\n").expect("a sentence");
+    assert_eq!(printed(run("ask", &folder.0, &[])), "holds\n");
+    write(folder.0.join("sentence.txt"), "AAA.!a1\n").expect("a sentence");
+    let said = told(&folder.0, run("ask", &folder.0, &[]));
+    assert_eq!(said, "FOLDER: refused 11: there are over 1024 tuples of states\n");
 }
 
 #[test]
