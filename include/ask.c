@@ -39,6 +39,7 @@ int main(int count, char **words) {
     /* a byte more than the longest, so that what is too long is refused; and one for the sentence's newline */
     static uint8_t model[TWOLSKEN_LONGEST_FILE + 1];
     static uint8_t text[TWOLSKEN_LONGEST_TEXT + 2];
+    /* enough for every question; twolsken_work_area tells what one needs */
     static uint64_t work[TWOLSKEN_WORK_AREA];
     if (count != 3) {
         fprintf(stderr, "usage: ask MODEL SENTENCE\n");

@@ -15,8 +15,11 @@
  *
  * Stack. A call takes at most 256 KiB of stack (TWOLSKEN_STACK), tested on the deepest texts and sentences.
  *
- * Refusals. A call that refuses gives the smallest number that applies (enum twolsken_refusal), and all lent memory is as
- * it was.
+ * Work area. Verdict and numerator are lent numbers of 64 bits to work in, 8 or more for each tuple of states:
+ * twolsken_work_area tells how many a question needs, and TWOLSKEN_WORK_AREA is enough for every question.
+ *
+ * Refusals. A call that refuses gives the smallest number that applies (enum twolsken_refusal), but 1, for a work area that
+ * is too short, only where no other applies; and all lent memory is as it was.
  *
  * Answers. Readers and numerator return 0, or the refusal's number. Writers and merge return the number of bytes that they
  * wrote at the front of the output, and leave those past them unchanged; or TWOLSKEN_REFUSED plus the refusal's number:
@@ -39,10 +42,16 @@ extern "C" {
 #endif
 
 /* Sizes of lent arrays. */
-#define TWOLSKEN_STATES 32       /* masks, rows of weights, and weights in a row */
-#define TWOLSKEN_LETTERS 4       /* letters of a sentence's prefix */
-#define TWOLSKEN_NODES 64        /* nodes of a sentence */
-#define TWOLSKEN_WORK_AREA 8192  /* numbers of 64 bits that a work area has at least */
+#define TWOLSKEN_STATES 32 /* masks, rows of weights, and weights in a row */
+#define TWOLSKEN_LETTERS 4 /* letters of a sentence's prefix */
+#define TWOLSKEN_NODES 64  /* nodes of a sentence */
+
+/* The most tuples of states of a question: N, the number of states, to the power of the letters. */
+#define TWOLSKEN_TUPLES 1024
+
+/* Numbers of 64 bits that a work area has at least for each tuple of states, and that are enough for every question. */
+#define TWOLSKEN_WORK_PER_TUPLE 8
+#define TWOLSKEN_WORK_AREA (TWOLSKEN_WORK_PER_TUPLE * TWOLSKEN_TUPLES)
 
 /* Lengths in bytes: an output of this length has room for whatever a writer or merge writes. */
 #define TWOLSKEN_LONGEST_FILE 3072 /* a model file */
@@ -60,7 +69,7 @@ extern "C" {
 
 /* Why a call refuses. */
 enum twolsken_refusal {
-    /* the work area is shorter than TWOLSKEN_WORK_AREA */
+    /* the work area is shorter than twolsken_work_area tells for the question, and no other refusal applies */
     TWOLSKEN_REFUSAL_WORK_AREA = 1,
     /* the model file's length is not a multiple of 512 in 512..TWOLSKEN_LONGEST_FILE */
     TWOLSKEN_REFUSAL_FILE_LENGTH = 2,
@@ -83,7 +92,7 @@ enum twolsken_refusal {
     /* the size rule: some expression's denominator d or bound m, or some comparison's m1 x d2 or m2 x d1, is above 2^62;
      * d and m of a path formula are its denominator, as numerator returns it */
     TWOLSKEN_REFUSAL_SIZE_RULE = 10,
-    /* T, which is N to the power of the number of letters, is over 1,024 */
+    /* T, which is N to the power of the number of letters, is over TWOLSKEN_TUPLES */
     TWOLSKEN_REFUSAL_TOO_MANY_TUPLES = 11,
     /* the grouping's length is not N, or its numbers are not exactly 0..M-1, each used */
     TWOLSKEN_REFUSAL_GROUPING = 12,
@@ -103,6 +112,23 @@ static inline uint32_t twolsken_writer_refusal(uint64_t answer) {
 /* The refusal in verdict's answer, or 0 if it judged: then the answer is TWOLSKEN_HOLDS or TWOLSKEN_FAILS. */
 static inline uint32_t twolsken_verdict_refusal(uint32_t answer) {
     return answer == TWOLSKEN_HOLDS || answer == TWOLSKEN_FAILS ? 0 : answer;
+}
+
+/*
+ * The numbers of 64 bits that the work area of a question has at least, on a model of so many states and with so many letters
+ * in the prefix, as read model and read sentence leave them in head[0]: TWOLSKEN_WORK_PER_TUPLE x states^letters, or SIZE_MAX
+ * if that is greater. A question of over TWOLSKEN_TUPLES tuples is refused by 11 however much is lent.
+ */
+static inline size_t twolsken_work_area(uint32_t states, uint64_t letters) {
+    size_t numbers = TWOLSKEN_WORK_PER_TUPLE;
+    /* with 0 or 1 states a further letter changes nothing */
+    for (; letters > 0 && states != 1 && numbers != 0; letters--) {
+        if (states > SIZE_MAX / numbers) {
+            return SIZE_MAX;
+        }
+        numbers *= states;
+    }
+    return numbers;
 }
 
 /*
@@ -178,9 +204,9 @@ uint64_t twolsken_merge(const uint8_t *file, size_t file_length, const uint8_t *
                         size_t grouping_length, uint8_t *out, size_t out_length);
 
 /*
- * Verdict. text is the sentence's; work is the work area, of TWOLSKEN_WORK_AREA numbers or more, with any contents. Returns
- * TWOLSKEN_HOLDS if the sentence holds on the model and TWOLSKEN_FAILS if it does not, and then the first
- * TWOLSKEN_WORK_AREA numbers of the work area are zero and the others unchanged; or a refusal of 1..11.
+ * Verdict. text is the sentence's; work is the work area, of as many numbers as twolsken_work_area tells or more, with any
+ * contents. Returns TWOLSKEN_HOLDS if the sentence holds on the model and TWOLSKEN_FAILS if it does not, and then as many
+ * numbers as that at the front of the work area are zero and the others unchanged; or a refusal of 2..11, or else 1.
  */
 uint32_t twolsken_verdict(const uint8_t *file, size_t file_length, const uint8_t *text,
                           size_t text_length, uint64_t *work, size_t work_length);
@@ -188,10 +214,10 @@ uint32_t twolsken_verdict(const uint8_t *file, size_t file_length, const uint8_t
 /*
  * Numerator. tuple has one byte a letter of the prefix, a state; path is the number of a path formula, counted from 0 in
  * written order; work is as at verdict. Returns 0, with the numerator of that path formula at the tuple in value[0] and its
- * denominator in value[1], and the work area as after a verdict; or a refusal of 1..11 or 15. The denominator is D^v for next
- * and D^(v x k2) for until with the window k1..k2, where v is the number of different variables that the path formula names,
- * nested ones included; the runs of the numerator are runs of these variables. If v is 0 the denominator is 1 and the
- * numerator 0 or 1.
+ * denominator in value[1], and the work area as after a verdict; or a refusal of 2..11 or 15, or else 1. The denominator is
+ * D^v for next and D^(v x k2) for until with the window k1..k2, where v is the number of different variables that the path
+ * formula names, nested ones included; the runs of the numerator are runs of these variables. If v is 0 the denominator is 1
+ * and the numerator 0 or 1.
  */
 uint32_t twolsken_numerator(const uint8_t *file, size_t file_length, const uint8_t *text,
                             size_t text_length, const uint8_t *tuple, size_t tuple_length, size_t path,

@@ -100,28 +100,45 @@ fn the_example_tells_a_refusal() {
     assert!(String::from_utf8_lossy(&output.stderr).contains("none: No such file"));
 }
 
-/// The number that the header defines a name as.
-fn defined(header: &str, name: &str) -> usize {
-    let mut lines = header.lines().filter_map(|line| line.strip_prefix(&format!("#define {name} ")));
-    let rest = lines.next().unwrap_or_else(|| panic!("{name} is not defined"));
-    let word = rest.split_whitespace().next().expect("a number");
-    word.parse().unwrap_or_else(|_| panic!("{name} is {word}"))
+/// The sizes of the package, by the names of the header.
+const SIZES: [(&str, usize); 8] = [
+    ("TWOLSKEN_STATES", twolsken::STATES),
+    ("TWOLSKEN_LETTERS", twolsken::LETTERS),
+    ("TWOLSKEN_NODES", twolsken::NODES),
+    ("TWOLSKEN_TUPLES", twolsken::TUPLES),
+    ("TWOLSKEN_WORK_PER_TUPLE", twolsken::WORK_PER_TUPLE),
+    ("TWOLSKEN_WORK_AREA", twolsken::WORK_AREA),
+    ("TWOLSKEN_LONGEST_FILE", twolsken::LONGEST_FILE),
+    ("TWOLSKEN_LONGEST_TEXT", twolsken::LONGEST_TEXT),
+];
+
+/// The sizes of the header are those of the Rust package, and so are the work areas that it tells: those of questions, and
+/// of numbers of states and letters that no question has.
+#[test]
+fn the_header_has_the_sizes_of_the_package() {
+    for (name, language) in [("sizes-c", C), ("sizes-cpp", CPP)] {
+        let folder = Folder::new(name);
+        let output = run(&compile(&folder, &language, &at("host/tests/c/sizes.c")), &[]);
+        let printed = String::from_utf8(output.stdout).expect("a text");
+        let mut lines = printed.lines();
+        for (name, size) in SIZES {
+            assert_eq!(lines.next(), Some(&*format!("{name} {size}")));
+        }
+        let mut questions = 0;
+        for line in lines {
+            let numbers: Vec<usize> = line.split(' ').map(|word| word.parse().expect("a number")).collect();
+            let [states, letters, told] = numbers[..] else { panic!("{line}") };
+            assert_eq!(told, twolsken::work_area(states, letters), "{states} states, {letters} letters");
+            questions += 1;
+        }
+        assert_eq!(questions, 13 * 13);
+    }
 }
 
-/// The sizes of the header are those of the Rust package, the numbers of a model's head among them.
+/// The numbers of a model's head and those of the refusals are those of the Rust package.
 #[test]
 fn the_header_has_the_numbers_of_the_package() {
     let header = read_to_string(at("include/twolsken.h")).expect("the header");
-    for (name, size) in [
-        ("TWOLSKEN_STATES", twolsken::STATES),
-        ("TWOLSKEN_LETTERS", twolsken::LETTERS),
-        ("TWOLSKEN_NODES", twolsken::NODES),
-        ("TWOLSKEN_WORK_AREA", twolsken::WORK_AREA),
-        ("TWOLSKEN_LONGEST_FILE", twolsken::LONGEST_FILE),
-        ("TWOLSKEN_LONGEST_TEXT", twolsken::LONGEST_TEXT),
-    ] {
-        assert_eq!(defined(&header, name), size, "{name}");
-    }
     let numbers = size_of::<twolsken::raw::ModelHead>() / size_of::<u32>();
     assert_eq!(header.matches(&format!("uint32_t head[{numbers}]")).count(), 2, "a reader and a writer");
     assert_eq!(header.matches("uint32_t head[").count(), 2, "no other head");

@@ -1,7 +1,7 @@
 /*
- * Calls each function of the header with values that matter in each place, on document 01's models, and stops at the first
- * answer that is not the document's; then on a model of version 1 with an empty row. What read model and read sentence leave
- * is handed to the writers as it is.
+ * Calls each function of the header with values that matter in each place, on document 01's models, and says which answers
+ * are not the document's; then on a model of version 1 with an empty row, and with work areas on both sides of what is needed.
+ * What read model and read sentence leave is handed to the writers as it is.
  */
 #include "twolsken.h"
 
@@ -21,7 +21,7 @@ static void is(const char *what, int line, uint64_t expected, uint64_t got) {
     }
 }
 
-static uint64_t work[TWOLSKEN_WORK_AREA + 1];
+static uint64_t work[TWOLSKEN_WORK_AREA];
 
 /* The file of M2, and its length. */
 static uint8_t file[TWOLSKEN_LONGEST_FILE];
@@ -197,14 +197,9 @@ static uint32_t judged(const char *text, size_t room) {
 }
 
 static void verdicts(void) {
-    memset(work, 1, sizeof work);
-    IS(TWOLSKEN_REFUSAL_WORK_AREA, judged("A.GPU0,2:Ta1#12/16;", TWOLSKEN_WORK_AREA - 1));
-    IS(UINT64_C(0x0101010101010101), work[0]);
     uint32_t answer = judged("A.GPU0,2:Ta1#12/16;", TWOLSKEN_WORK_AREA);
     IS(TWOLSKEN_HOLDS, answer);
     IS(0, twolsken_verdict_refusal(answer));
-    IS(0, work[0] | work[TWOLSKEN_WORK_AREA - 1]);
-    IS(UINT64_C(0x0101010101010101), work[TWOLSKEN_WORK_AREA]);
     answer = judged("A.>PU0,2:Ta1#12/16;", TWOLSKEN_WORK_AREA);
     IS(TWOLSKEN_FAILS, answer);
     IS(0, twolsken_verdict_refusal(answer));
@@ -227,18 +222,25 @@ static void verdicts(void) {
     IS(TWOLSKEN_HOLDS, judged("AA.=PU0,60:TT#1/1;", TWOLSKEN_WORK_AREA));
 }
 
-/* Refusal 11 needs a model of 11 states. */
-static void tuples(void) {
-    const uint32_t head[4] = {11, 1, 1, 0};
+/* Writes the file of a model of so many states that each stay where they are; returns its length. */
+static size_t still(uint32_t states, uint8_t out[TWOLSKEN_LONGEST_FILE]) {
+    const uint32_t head[4] = {states, 1, 1, 0};
     const uint16_t masks[TWOLSKEN_STATES] = {0};
     uint16_t rows[TWOLSKEN_STATES][TWOLSKEN_STATES] = {{0}};
-    for (size_t s = 0; s < 11; s++) {
+    for (size_t s = 0; s < states; s++) {
         rows[s][s] = 1;
     }
+    return (size_t)twolsken_write_model(head, masks, rows, out, TWOLSKEN_LONGEST_FILE);
+}
+
+/* Refusal 11 needs a model of 11 states, and comes before 1. */
+static void tuples(void) {
     uint8_t out[TWOLSKEN_LONGEST_FILE];
-    IS(1536, twolsken_write_model(head, masks, rows, out, sizeof out));
+    size_t size = still(11, out);
+    IS(1536, size);
     IS(TWOLSKEN_REFUSAL_TOO_MANY_TUPLES,
-       twolsken_verdict(out, 1536, bytes("AAA.T"), 5, work, TWOLSKEN_WORK_AREA));
+       twolsken_verdict(out, size, bytes("AAA.T"), 5, work, TWOLSKEN_WORK_AREA));
+    IS(TWOLSKEN_REFUSAL_TOO_MANY_TUPLES, twolsken_verdict(out, size, bytes("AAA.T"), 5, work, 0));
 }
 
 /* Numerator of path formulas that name variable 1, variable 2, both and none, at tuples that differ in each member. */
@@ -253,8 +255,6 @@ static void numerators(void) {
        twolsken_numerator(file, length, bytes(text), size, tuple, 3, 0, work, TWOLSKEN_WORK_AREA, value));
     IS(TWOLSKEN_REFUSAL_TUPLE_OR_PATH,
        twolsken_numerator(file, length, bytes(text), size, tuple + 1, 2, 0, work, TWOLSKEN_WORK_AREA, value));
-    IS(TWOLSKEN_REFUSAL_WORK_AREA,
-       twolsken_numerator(file, length, bytes(text), size, tuple, 2, 0, work, TWOLSKEN_WORK_AREA - 1, value));
     IS(9, value[0]);
     IS(9, value[1]);
     IS(0, twolsken_numerator(file, length, bytes(text), size, tuple, 2, 0, work, TWOLSKEN_WORK_AREA, value));
@@ -304,6 +304,71 @@ static void filled_rows(void) {
     IS(0, memcmp(filled, out, sizeof filled));
 }
 
+/* How many numbers at the front of the work area are zero, where it had none before. */
+static size_t cleared(void) {
+    size_t count = 0;
+    while (count < TWOLSKEN_WORK_AREA && work[count] == 0) {
+        count++;
+    }
+    for (size_t i = count; i < TWOLSKEN_WORK_AREA; i++) {
+        IS(UINT64_C(0x0101010101010101), work[i]);
+    }
+    return count;
+}
+
+/*
+ * Asks a verdict, which holds, and a numerator, which is 1/1, that need a work area of so many numbers: with one fewer they are
+ * refused, with just as many and with all they are answered.
+ */
+static void needs_exactly(size_t needs, const uint8_t *model, size_t size, const char *text, size_t letters) {
+    const uint8_t tuple[TWOLSKEN_LETTERS] = {0, 0, 0, 0};
+    const size_t enough[2] = {needs, TWOLSKEN_WORK_AREA};
+    uint64_t value[2] = {9, 9};
+    size_t end = strlen(text);
+    memset(work, 1, sizeof work);
+    IS(TWOLSKEN_REFUSAL_WORK_AREA, twolsken_verdict(model, size, bytes(text), end, work, needs - 1));
+    IS(TWOLSKEN_REFUSAL_WORK_AREA,
+       twolsken_numerator(model, size, bytes(text), end, tuple, letters, 0, work, needs - 1, value));
+    IS(0, cleared());
+    IS(9, value[0]);
+    IS(9, value[1]);
+    for (size_t i = 0; i < 2; i++) {
+        memset(work, 1, sizeof work);
+        IS(TWOLSKEN_HOLDS, twolsken_verdict(model, size, bytes(text), end, work, enough[i]));
+        IS(needs, cleared());
+        memset(work, 1, sizeof work);
+        IS(0, twolsken_numerator(model, size, bytes(text), end, tuple, letters, 0, work, enough[i], value));
+        IS(needs, cleared());
+        IS(1, value[0]);
+        IS(1, value[1]);
+    }
+}
+
+/* Work areas of 8 numbers for each tuple, on one state, on M2 and on 32 states. */
+static void work_areas(void) {
+    uint8_t out[TWOLSKEN_LONGEST_FILE];
+    size_t size = still(1, out);
+    needs_exactly(8, out, size, "A.=PXT#1/1;", 1);
+    needs_exactly(8, out, size, "AEAE.=PXT#1/1;", 4);
+    needs_exactly(8 * 3, file, length, "A.=PXT#1/1;", 1);
+    needs_exactly(8 * 9, file, length, "AE.=PXT#1/1;", 2);
+    size = still(32, out);
+    needs_exactly(8 * 32, out, size, "A.=PXT#1/1;", 1);
+    needs_exactly(TWOLSKEN_WORK_AREA, out, size, "EA.=PXT#1/1;", 2);
+}
+
+/* Refusal 1 comes after every other, that of numerator among them. */
+static void refused_last(void) {
+    const uint8_t tuple[1] = {0};
+    uint64_t value[2];
+    IS(TWOLSKEN_REFUSAL_FILE_LENGTH, twolsken_verdict(file, 1, bytes("A.T"), 3, work, 0));
+    IS(TWOLSKEN_REFUSAL_GRAMMAR, judged("A.", 0));
+    IS(TWOLSKEN_REFUSAL_SIZE_RULE, judged("A.GPU0,32:Ta1#0/1;", 0));
+    IS(TWOLSKEN_REFUSAL_WORK_AREA, judged("A.T", 0));
+    IS(TWOLSKEN_REFUSAL_TUPLE_OR_PATH,
+       twolsken_numerator(file, length, bytes("A.T"), 3, tuple, 1, 0, work, 0, value));
+}
+
 int main(void) {
     models();
     versions();
@@ -313,6 +378,8 @@ int main(void) {
     tuples();
     numerators();
     filled_rows();
+    work_areas();
+    refused_last();
     if (!wrong) {
         puts("every call answers as the header says");
     }
