@@ -2,7 +2,8 @@
 
 use std::fs::{read, read_to_string};
 use twolsken::{
-    merge, numerator, read_model, verdict, Fraction, Model, Refusal, Table, Verdict, LONGEST_FILE, WORK_AREA,
+    merge, numerator, read_model, verdict, work_area, Fraction, Model, Refusal, Table, Verdict, LONGEST_FILE,
+    WORK_AREA,
 };
 use twolsken_host::files::at;
 
@@ -138,6 +139,44 @@ fn four_starts_each_with_a_path_of_its_own() {
     for variable in 1..=4 {
         let longer = body.replace(&format!("15:Ta{variable}"), &format!("16:Ta{variable}"));
         assert_eq!(refused(2, 4, &longer), Some(Refusal::SizeRule), "{longer}");
+    }
+}
+
+/// The five states and one letter: the sentence on the counter is answered in 40 numbers, and refused by 1 in 39.
+#[test]
+fn five_states_in_320_bytes() {
+    assert!(page().contains("that is 8 × 5 = 40 numbers, 320 bytes, in place of the 64 KiB that"));
+    let file = read(at("samples/counter-fails/model.blk")).expect("the counter");
+    let text = b"A.!&!b1<PU0,4:Ta1#99/100;";
+    let mut work = [0; work_area(5, 1)];
+    assert_eq!((work.len(), size_of_val(&work), size_of_val(&[0_u64; WORK_AREA])), (40, 320, 64 << 10));
+    assert_eq!(verdict(&file, text, &mut work), Ok(Verdict::Fails));
+    assert_eq!(numerator(&file, text, &[2], 0, &mut work).map(|fraction| fraction.numerator), Ok(9_000));
+    assert_eq!(verdict(&file, text, &mut work[1..]), Err(Refusal::WorkArea));
+    assert_eq!(numerator(&file, text, &[2], 0, &mut work[1..]), Err(Refusal::WorkArea));
+}
+
+/// The table of work areas, on models of empty rows: each number is enough and one fewer is not.
+#[test]
+fn the_work_areas() {
+    let rows = rows("| States | 1 letter | 2 letters | 3 letters | 4 letters |");
+    assert_eq!(rows.len(), 4);
+    for row in rows {
+        let n: usize = row[0].parse().expect("a number of states");
+        let model = Model { n: n as u32, a: 1, d: 1, version: 1, ..Model::empty() };
+        let file = model.to_file().expect("a model");
+        for (letters, cell) in row.iter().enumerate().skip(1) {
+            let text = format!("{}.!a1", "A".repeat(letters));
+            let said = |room: usize| verdict(&file, text.as_bytes(), &mut vec![0; room]);
+            if cell == "refused 11" {
+                assert_eq!(said(work_area(n, letters)), Err(Refusal::TooManyTuples), "{row:?}");
+                continue;
+            }
+            let room = cell.replace(',', "").parse().expect("a number");
+            assert_eq!(work_area(n, letters), room, "{row:?}");
+            assert_eq!(said(room), Ok(Verdict::Holds), "{row:?}");
+            assert_eq!(said(room - 1), Err(Refusal::WorkArea), "{row:?}");
+        }
     }
 }
 
