@@ -10,15 +10,12 @@ use chain::filled_rows;
 use evaluate::nodes::path;
 use layers::plain::zero;
 use model::Model;
-use model_reader::read_model;
 use paths::path_place;
 use paths::tuple_place;
 use paths::tuple_right;
-use question::area_needed;
-use question::first_number;
+use question::question_of;
 use question::setting_of;
 use sentence::Sentence;
-use sentence_reader::read_sentence;
 
 // What numerator answers.
 pub enum Answer {
@@ -69,18 +66,17 @@ pub fn numerator(file: &[u8], text: &[u8], tuple: &[u8], number: usize, work: &m
     ensures { λ r. ⌜ NumeratorEnsures (now (file .entry)) (now (text .entry)) (now (tuple .entry)) number (now (work .entry)) r
         (now (work .exit)) ⌝ }
 {
-    let read = read_model(file);
-    let said = read_sentence(text);
-    let first = first_number(read, said);
+    let asked = question_of(file, text);
+    let first = asked.number;
     if 0 < first {
         return Answer::Refused(first);
     }
-    let model = read.model;
-    let sentence = said.sentence;
+    let model = asked.model;
+    let sentence = asked.sentence;
     if !asks_right(model, sentence, tuple, number) {
         return Answer::Refused(15);
     }
-    let area = area_needed(model, sentence);
+    let area = asked.area;
     if work.len() < area {
         return Answer::Refused(1);
     }

@@ -30,8 +30,9 @@ use Rattle.trees.proofs.Ranges.{nests-in-range, formula-ranged}
 use Rattle.chain.specs.Of.{chainOf, filledRows}
 use Rattle.chain.proofs.Filling.{filled-cell}
 use Rattle.chain.proofs.Accepted as accepted
+use Rattle.question.specs.declared.Question.{Question}
 use Rattle.question.specs.Contract.{QuestionRow, model, sentence, size, tuples, SentenceOf, areaNeeded, AreaShort}
-use Rattle.question.specs.Working.{FileOfModel, TextOfSentence, Ready, SettingOf}
+use Rattle.question.specs.Working.{FileOfModel, TextOfSentence, Ready, Answerable, SettingOf}
 use Rattle.question.proofs.Numbers.{least-model}
 use Rattle.question.proofs.Early.{file-read, text-read}
 use Rattle.question.proofs.Pair.{states-few, letters-few, letters-length}
@@ -40,13 +41,6 @@ use Rattle.question.proofs.Stages.{size-same, tuples-same, one}
 -- the sentence of a text that was read
 abbrev pub own-sentence : {text : List ℕ} {s : Sentence} → TextOfSentence text s → SentenceOf text
 own-sentence b = record { prefix = b .prefix; body = b .body; spelled = b .spelled }
-
--- the numbers that the pair needs are those that the text's sentence needs on the file's chain
-pub area-same : {file text : List ℕ} {m : Model} {s : Sentence} → FileOfModel file m → TextOfSentence text s → (own : SentenceOf text) →
-    areaNeeded (chainOf m) (s .letters) ≡ areaNeeded (chainOf (fieldsOf file)) (length (own .prefix))
-area-same a b own =
-    ap₂ (λ (x : Model) (k : ℕ). areaNeeded (chainOf x) k) (a .fields)
-    (letters-length b ∙ ap length (sym (one a b (own .body) (own .spelled) .0)))
 
 module _ {file text : List ℕ} (none : (n : ℕ) → QuestionRow file text n → ⊥) where
   -- the file is accepted
@@ -94,19 +88,23 @@ module _ {file text : List ℕ} (none : (n : ℕ) → QuestionRow file text n �
       fits true e = absurd (none 10 (size (b .body) (b .spelled) e))
       fits false e = refl
 
-  -- the work area is too short exactly if it is shorter than the pair that was read needs
-  module _ {m : Loaded.ModelRead} {s : Parsed.SentenceRead} (reads : ReadModelEnsures file m) (said : ReadSentenceEnsures text s) {room : ℕ}
-    where
-      pub area-short : room < areaNeeded (chainOf (m .model)) (s .sentence .letters) → AreaShort file text room
-      area-short h =
-          let b = sentence-of said in
-          record { sentence = own-sentence b; short = subst (λ (k : ℕ). room < k) (area-same (model-of reads) b (own-sentence b)) h }
+-- a question to which no row applies
+module _ {file text : List ℕ} {q : Question} (y : Answerable file text q) where
+  -- the numbers that it needs are those that its text's sentence needs on its file's chain
+  pub area-is : (s : SentenceOf text) → q .area ≡ areaNeeded (chainOf (fieldsOf file)) (length (s .prefix))
+  area-is s =
+      y .area ∙
+      ap₂ (λ (x : Model) (k : ℕ). areaNeeded (chainOf x) k) (y .model .fields)
+      (letters-length (y .sentence) ∙ ap length (sym (one (y .model) (y .sentence) (s .body) (s .spelled) .0)))
 
-      pub area-enough : areaNeeded (chainOf (m .model)) (s .sentence .letters) ≤ room → AreaShort file text room → ⊥
-      area-enough h a =
-          let e = area-same (model-of reads) (sentence-of said) (a .sentence) in
-          let short = a .short in
-          absurd (omega (arith, e, h, short))
+  -- so the work area is too short exactly if it is shorter than that
+  pub area-short : {room : ℕ} → room < q .area → AreaShort file text room
+  area-short {room} h =
+      let s = own-sentence (y .sentence) in
+      record { sentence = s; short = subst (λ (k : ℕ). room < k) (area-is s) h }
+
+  pub area-enough : {room : ℕ} → q .area ≤ room → AreaShort file text room → ⊥
+  area-enough h a = let e = area-is (a .sentence) in let short = a .short in absurd (omega (arith, e, h, short))
 
 -- the body's numbers are in their ranges
 pub body-ranged : {text : List ℕ} {s : Sentence} (b : TextOfSentence text s) → Ranged (s .letters) (b .body)

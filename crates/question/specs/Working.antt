@@ -17,7 +17,9 @@ use Rattle.meaning.specs.Tree.{Formula}
 use Rattle.meaning.specs.Size.{exceeds}
 use Rattle.path_steps.specs.declared.Setting.{Setting}
 use Rattle.trees.specs.Listed.{formulaNodes}
-use Rattle.question.specs.Contract.{QuestionRow}
+use Rattle.chain.specs.Of.{chainOf}
+use Rattle.question.specs.declared.Question.{Question}
+use Rattle.question.specs.Contract.{QuestionRow, areaNeeded}
 
 -- the file is accepted and m is its model
 pub record FileOfModel (file : List ℕ) (m : Model) : Type 0 where
@@ -59,6 +61,19 @@ pub record Ready (m : Model) (s : Sentence) : Type 0 where
   pub read : BothRead m s
   pub small : exceeds (read .sentence .body) (m .d) (s .letters) ≡ false
   pub few : m .n ^ s .letters ≤ 1024
+
+-- none of the rows applies to the file and the text, the model and the sentence are theirs, and so many numbers of the work area are needed
+pub record Answerable (file text : List ℕ) (q : Question) : Type 0 where
+  pub none : (k : ℕ) → QuestionRow file text k → ⊥
+  pub model : FileOfModel file (q .model)
+  pub sentence : TextOfSentence text (q .sentence)
+  pub ready : Ready (q .model) (q .sentence)
+  pub area : q .area ≡ areaNeeded (chainOf (q .model)) (q .sentence .letters)
+
+-- the number that the rows give of the file and the text, and what is left to answer where that is 0
+pub record QuestionOf (file text : List ℕ) (q : Question) : Type 0 where
+  pub decided : Decided (QuestionRow file text) (q .number)
+  pub answerable : q .number ≤ 0 → Answerable file text q
 
 -- the setting of the pair: N, n, T and D
 pub record SettingOf (m : Model) (s : Sentence) (g : Setting) : Type 0 where

@@ -7,15 +7,17 @@ ghost use Rattle.refusal.specs.Answers.{numberIn, replyOf};
 ghost use Rattle.meaning.specs.Lists.{every};
 ghost use Rattle.chain.specs.Of.{chainOf};
 ghost use Rattle.question.specs.Contract.{labelRight, areaNeeded};
-ghost use Rattle.question.specs.Working.{BothRead, Late, BothAnswered, FirstNumber, Ready, SettingOf};
+ghost use Rattle.question.specs.Working.{BothRead, Late, BothAnswered, FirstNumber, QuestionOf, Ready, SettingOf};
 use model::Model;
 use model::ModelRead;
+use model_reader::read_model;
 use path_steps::Setting;
 use refusal::Outcome;
 use sentence::Node;
 use sentence::Sentence;
 use sentence::Slot;
 use sentence_reader::SentenceRead;
+use sentence_reader::read_sentence;
 use sizes::exceeds;
 
 // The most tuples.
@@ -94,7 +96,7 @@ fn number_of(outcome: Outcome) -> u8
 }
 
 // The number that the rows 2 to 11 give of what the readers answered: the smallest that applies, or 0.
-pub fn first_number(m: ModelRead, s: SentenceRead) -> u8
+fn first_number(m: ModelRead, s: SentenceRead) -> u8
     requires { ⌜ BothAnswered m s ⌝ }
     ensures { λ r. ⌜ FirstNumber m s r ⌝ }
 {
@@ -113,15 +115,49 @@ pub fn first_number(m: ModelRead, s: SentenceRead) -> u8
     late_number(model, sentence)
 }
 
-// How many numbers of the work area a pair needs to which none of the rows applies: 8 × T.
-pub fn area_needed(m: Model, s: Sentence) -> usize
+// How many numbers of the work area a pair needs to which no row applies: 8 × T.
+fn area_needed(m: Model, s: Sentence) -> usize
     requires { ⌜ Ready m s ⌝ }
     ensures { λ r. ⌜ r ≡ areaNeeded (chainOf m) (s .letters) ⌝ }
 {
     LAYERS * tuple_count(m.n as usize, s.letters)
 }
 
-// N, n, T and D of such a pair.
+// A file and a text as the calls take them: the number that the rows 2 to 11 give, and where that is 0 the model, the sentence and how
+// many numbers of the work area they need.
+pub struct Question {
+    pub number: u8,
+    pub model: Model,
+    pub sentence: Sentence,
+    pub area: usize,
+}
+
+// What a file and a text ask.
+pub fn question_of(file: &[u8], text: &[u8]) -> Question
+    ensures { λ r. ⌜ QuestionOf (now (file .entry)) (now (text .entry)) r ⌝ }
+{
+    let read = read_model(file);
+    let said = read_sentence(text);
+    let number = first_number(read, said);
+    let model = read.model;
+    let sentence = said.sentence;
+    if 0 < number {
+        return Question {
+            number: number,
+            model: model,
+            sentence: sentence,
+            area: 0,
+        };
+    }
+    Question {
+        number: 0,
+        model: model,
+        sentence: sentence,
+        area: area_needed(model, sentence),
+    }
+}
+
+// N, n, T and D of a pair to which no row applies.
 pub fn setting_of(m: Model, s: Sentence) -> Setting
     requires { ⌜ Ready m s ⌝ }
     ensures { λ r. ⌜ SettingOf m s r ⌝ }

@@ -1,7 +1,7 @@
 -- The program's own work area is enough for every question: it is never refused 1.
 use Prim.Native.Nat.{ℕ}
 use mathlib.Core.List.{List}
-use mathlib.Core.Path.{_≡_, sym, ap, _∙_}
+use mathlib.Core.Path.{_≡_, ap}
 use native.Mathlib.Omega.{arith}
 use lib.ListN.{length}
 use Rattle.refusal.specs.Answers.{refuses, numberIn}
@@ -13,7 +13,7 @@ use Rattle.question.proofs.Settled.{tuples-few}
 use Rattle.verdict.specs.declared.Answer.{Answer}
 use Rattle.verdict.specs.Contract.{verdictReply, VerdictRow}
 use Rattle.lines.specs.Texts.{withoutNewline}
-use Rattle.twolsken.specs.Contract.{areaSize, AnswersFiles}
+use Rattle.twolsken.specs.Contract.{AnswersFiles}
 
 pub never-1 : {model sentence : List ℕ} {r : Answer} → AnswersFiles model sentence r → verdictReply r ≡ refuses 1 → ⊥
 unfolding areaNeeded

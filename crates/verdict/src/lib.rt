@@ -12,12 +12,9 @@ use descent::holds_from;
 use evaluate::nodes::state_formula;
 use layers::plain::zero;
 use model::Model;
-use model_reader::read_model;
-use question::area_needed;
-use question::first_number;
+use question::question_of;
 use question::setting_of;
 use sentence::Sentence;
-use sentence_reader::read_sentence;
 
 // What verdict answers.
 pub enum Answer {
@@ -51,18 +48,17 @@ fn answer_of(holds: bool) -> Answer
 pub fn verdict(file: &[u8], text: &[u8], work: &mut [u64]) -> Answer
     ensures { λ r. ⌜ VerdictEnsures (now (file .entry)) (now (text .entry)) (now (work .entry)) r (now (work .exit)) ⌝ }
 {
-    let read = read_model(file);
-    let said = read_sentence(text);
-    let number = first_number(read, said);
+    let asked = question_of(file, text);
+    let number = asked.number;
     if 0 < number {
         return Answer::Refused(number);
     }
-    let model = read.model;
-    let sentence = said.sentence;
-    let area = area_needed(model, sentence);
+    let area = asked.area;
     if work.len() < area {
         return Answer::Refused(1);
     }
+    let model = asked.model;
+    let sentence = asked.sentence;
     let holds = judged(model, sentence, &mut work[..area]);
     zero(area, work);
     answer_of(holds)
