@@ -16,7 +16,7 @@ use twolsken_host::inputs::Rng;
 use twolsken_host::plain::{Plain, Step};
 use twolsken_host::proved::Proved;
 use twolsken_host::second;
-use twolsken_host::second::meaning::WORK;
+use twolsken_host::second::meaning::ENOUGH;
 
 /// N, n, D and k2 of each question.
 const QUESTIONS: [(u32, usize, u32, u32); 4] = [(32, 1, 4, 15), (32, 2, 2, 15), (10, 3, 2, 10), (5, 4, 2, 7)];
@@ -145,7 +145,7 @@ fn met(goal: bool) -> &'static str {
 /// The benchmark of a text.
 fn bench(file: &[u8], text: Vec<u8>) -> Bench {
     let plain = [Plain::new(Step::Joint), Plain::new(Step::Single)];
-    let mut bench = Bench { file: file.to_vec(), text, work: vec![1; WORK], plain };
+    let mut bench = Bench { file: file.to_vec(), text, work: vec![1; ENOUGH], plain };
     bench.check();
     bench
 }

@@ -7,6 +7,7 @@
 //! the run with a report of the input. The returned [`Tally`] counts the cases
 //! by answer, and every answer that the area has must have been given.
 
+mod areas;
 mod examples;
 #[cfg(test)]
 mod faults;
@@ -17,6 +18,9 @@ mod naming;
 #[cfg(test)]
 mod naming_faults;
 mod reach;
+#[cfg(test)]
+mod room_faults;
+mod rooms;
 mod sentences;
 #[cfg(test)]
 mod version_faults;
@@ -27,18 +31,16 @@ mod watches;
 mod ways;
 
 use crate::inputs::Rng;
-use crate::second::meaning::WORK;
 use crate::second::{self, Model, Sentence};
 use std::fmt::{self, Debug, Display};
 
 pub use examples::compare_examples;
-pub use meaning::{
-    compare_extreme, compare_full, compare_numerator, compare_rooms, compare_row_15, compare_verdict, ROOMS,
-};
+pub use meaning::{compare_extreme, compare_full, compare_numerator, compare_row_15, compare_verdict};
 pub use merging::{compare_filled, compare_kept, compare_merge};
 pub use models::{compare_model_reader, compare_model_writer};
 pub use naming::{compare_naming, compare_naming_examples, compare_nothing, compare_row_10, Named};
 pub use reach::Reach;
+pub use rooms::{compare_every_room, compare_just_room, compare_room_last, compare_rooms};
 pub use sentences::{compare_sentence_reader, compare_sentence_writer};
 pub use versions::{compare_empty_rows, compare_version_limits};
 pub use watches::{compare_sums, compare_watch_examples, compare_watches, Summed, Watched};
@@ -305,30 +307,6 @@ fn output_after(
         expected[..*length].copy_from_slice(&written[..*length]);
     }
     agree(&format!("{what}: the output"), &expected.as_slice(), &after, input);
-}
-
-/// A lent work area of a given length, with anything in it.
-fn work_area(rng: &mut Rng, length: usize) -> Vec<u64> {
-    (0..length).map(|_| rng.bits()).collect()
-}
-
-/// Checks a work area after a call: its first 8,192 numbers zero after an
-/// answer, the others as they were; after a refusal all as they were.
-fn work_after<T>(
-    what: &str,
-    answer: &Result<T, u8>,
-    before: &[u64],
-    after: &[u64],
-    input: impl FnOnce() -> String,
-) {
-    let front = if answer.is_ok() { WORK } else { 0 };
-    let right = after.len() == before.len()
-        && front <= after.len()
-        && after[..front].iter().all(|&number| number == 0)
-        && after[front..] == before[front..];
-    if !right {
-        panic!("{what}: the work area is not as it should be\n{}", input());
-    }
 }
 
 #[cfg(test)]

@@ -7,6 +7,7 @@
 //! * [`extreme`]: such pairs at the ends of what is answered.
 //! * [`naming`]: such pairs whose paths name some of the variables.
 //! * [`watch`]: such pairs with another window for one until.
+//! * [`room`]: such pairs of every number of tuples, and calls that a row other than 1 refuses.
 //! * [`grouping`]: groupings that a model was made for, and spoiled ones.
 
 pub mod extreme;
@@ -14,6 +15,7 @@ pub mod grouping;
 pub mod model;
 pub mod naming;
 pub mod question;
+pub mod room;
 pub mod sentence;
 pub mod watch;
 

@@ -9,7 +9,7 @@ mod reading;
 mod sizes;
 mod stepping;
 
-use crate::second::meaning::{TUPLES, WORK};
+use crate::second::meaning::{needed, TUPLES};
 use crate::second::{Node, Relation};
 use reading::{read_model, read_sentence, Chain, Text};
 pub use stepping::Step;
@@ -41,11 +41,8 @@ impl Plain {
         }
     }
 
-    /// Whether a sentence holds on a model. Refusals 1 to 11.
+    /// Whether a sentence holds on a model. Refusals 2 to 11, then 1.
     pub fn verdict(&mut self, file: &[u8], text: &[u8], work: &mut [u64]) -> Result<bool, u8> {
-        if work.len() < WORK {
-            return Err(1);
-        }
         read_model(file, &mut self.chain)?;
         read_sentence(text, &mut self.text)?;
         if self.text.labels > self.chain.a {
@@ -56,12 +53,13 @@ impl Plain {
         if self.tuples > TUPLES {
             return Err(11);
         }
+        let area = needed(work, self.tuples)?;
         self.stepping.forget();
         self.at = 0;
         self.formula(0);
         let holds =
             quantified(&self.text.exists[..self.text.letters], self.chain.n, &self.layers[..self.tuples]);
-        work[..WORK].fill(0);
+        area.fill(0);
         Ok(holds)
     }
 

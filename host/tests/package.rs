@@ -2,7 +2,6 @@
 
 use twolsken::{Fraction, Letter, Refusal, Verdict};
 use twolsken_host::inputs::{grouping, model, question, sentence, Rng};
-use twolsken_host::second::meaning::WORK;
 use twolsken_host::second::{self, Node, Relation};
 
 /// Cases of each call.
@@ -142,19 +141,23 @@ fn a_prefix_or_a_list_that_is_too_long_is_refused_by_6() {
 #[test]
 fn questions() {
     let (mut rng, mut verdicts, mut numerators) = (Rng::new(83), Given::default(), Given::default());
-    let (mut area, mut other) = (vec![0; WORK], vec![0; WORK]);
     for _ in 0..CASES {
         let pair = question::pair(&mut rng);
-        let room = rng.pick(&[WORK, WORK, WORK, WORK - 1]);
-        let said = second::verdict(&pair.file, &pair.text, &mut area[..room]);
+        let mut area = vec![7; pair.any_room(&mut rng)];
+        let mut other = area.clone();
+        let said = second::verdict(&pair.file, &pair.text, &mut area);
         let expected = said.map(|holds| if holds { Verdict::Holds } else { Verdict::Fails });
-        verdicts.agree(expected, twolsken::verdict(&pair.file, &pair.text, &mut other[..room]));
+        verdicts.agree(expected, twolsken::verdict(&pair.file, &pair.text, &mut other));
+        assert_eq!(area, other);
+        area.fill(8);
+        other.fill(8);
         let tuple = vec![0; pair.text.iter().take_while(|&&byte| byte != b'.').count()];
         let path = rng.below(2);
-        let counted = second::numerator(&pair.file, &pair.text, &tuple, path, &mut area[..room]);
+        let counted = second::numerator(&pair.file, &pair.text, &tuple, path, &mut area);
         let expected = counted.map(|(numerator, denominator)| Fraction { numerator, denominator });
-        let got = twolsken::numerator(&pair.file, &pair.text, &tuple, path, &mut other[..room]);
+        let got = twolsken::numerator(&pair.file, &pair.text, &tuple, path, &mut other);
         numerators.agree(expected, got);
+        assert_eq!(area, other);
     }
     verdicts.require(&[1, 2, 3, 4, 5, 6, 7, 8, 9, 10, 11]);
     numerators.require(&[1, 2, 3, 4, 5, 6, 7, 8, 9, 10, 11, 15]);

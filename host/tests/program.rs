@@ -9,7 +9,7 @@ use std::time::Duration;
 use twolsken_host::files::{at, samples, Folder};
 use twolsken_host::inputs::model::{file_of, model_with, spelled};
 use twolsken_host::inputs::Rng;
-use twolsken_host::second::meaning::{verdict, WORK};
+use twolsken_host::second::meaning::{verdict, ENOUGH};
 use twolsken_host::second::model::examples::{halted, m1};
 use twolsken_host::second::Model;
 
@@ -26,11 +26,11 @@ fn run(folder: &Path) -> Output {
     Command::new(at("tools/program")).current_dir(folder).output().expect("a run")
 }
 
-/// The line that document 01 asks for, by the second program on the whole files.
+/// The line that document 01 asks for, by the second program on the whole files. The program has a work area that is enough.
 fn line(model: Option<&[u8]>, sentence: Option<&[u8]>) -> String {
     let file = sentence.unwrap_or(b"");
     let text = file.strip_suffix(b"\n").unwrap_or(file);
-    match verdict(model.unwrap_or(b""), text, &mut [0; WORK]) {
+    match verdict(model.unwrap_or(b""), text, &mut [0; ENOUGH]) {
         Ok(true) => "holds\n".to_string(),
         Ok(false) => "fails\n".to_string(),
         Err(number) => format!("refused {number}\n"),
@@ -80,6 +80,18 @@ fn models_of_both_versions() {
         ] {
             agrees(name, Some(&spelled(&model)), Some(sentence.as_bytes()));
         }
+    }
+}
+
+/// The most tuples, and just beyond: the program's work area is long enough for all that are answered.
+#[test]
+fn questions_of_as_many_tuples_as_there_can_be() {
+    for (n, prefix) in
+        [(1, "AEAE"), (31, "AE"), (32, "AE"), (10, "AEA"), (5, "AEAE"), (11, "AEA"), (6, "AEAE")]
+    {
+        let model = file_of(&model_with(&mut Rng::new(6), n, 1, 4));
+        let sentence = format!("{prefix}.LPU0,2:Ta1PX!&a1a2\n");
+        agrees(&format!("tuples-{n}-{prefix}"), Some(&model), Some(sentence.as_bytes()));
     }
 }
 

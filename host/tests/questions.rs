@@ -2,8 +2,7 @@
 
 use twolsken::{numerator, verdict, Refusal, WORK_AREA};
 use twolsken_host::compare::{
-    compare_extreme, compare_full, compare_numerator, compare_rooms, compare_row_15, compare_verdict,
-    compare_ways, Tally,
+    compare_extreme, compare_full, compare_numerator, compare_row_15, compare_verdict, compare_ways, Tally,
 };
 use twolsken_host::inputs::extreme::{deepest, Kind};
 use twolsken_host::inputs::model::{file_of, model_with};
@@ -65,14 +64,6 @@ fn row_15_on_both_sides() {
     let tally = compare_row_15(&Proved, 1_500, 45);
     println!("{tally}");
     assert!(tally.answered >= 4_000 && tally.refused[15] >= 15_000, "{tally}");
-}
-
-#[test]
-fn work_areas_of_every_length() {
-    let tally = compare_rooms(&Proved, 3_000, 46);
-    println!("{tally}");
-    tally.require_each(20, &ROWS);
-    assert!(tally.answered >= 9_000 && tally.refused[1] == 3 * 2 * 3_000, "{tally}");
 }
 
 /// How many pairs of each extreme kind are asked.

@@ -5,7 +5,7 @@ use std::fs::{read, read_to_string};
 use std::path::Path;
 use twolsken_host::files::{at, samples};
 use twolsken_host::inputs::model::file_of;
-use twolsken_host::second::meaning::{verdict, WORK};
+use twolsken_host::second::meaning::{verdict, ENOUGH};
 use twolsken_host::second::{read_model, Model};
 
 /// The verdict that a sample's README ends with.
@@ -23,7 +23,7 @@ fn each_readme_tells_the_verdict() {
         let line = read_to_string(sample.join("sentence.txt")).expect("a sentence");
         let text = line.strip_suffix('\n').expect("a newline at the end");
         let file = read(sample.join("model.blk")).expect("a model file");
-        let holds = verdict(&file, text.as_bytes(), &mut [0; WORK]).expect("a verdict");
+        let holds = verdict(&file, text.as_bytes(), &mut [0; ENOUGH]).expect("a verdict");
         assert_eq!(told(&sample), if holds { "holds" } else { "fails" }, "{}", sample.display());
         let readme = read_to_string(sample.join("README.md")).expect("a README");
         assert!(readme.contains(&format!("`{text}`")), "{}: the README has the sentence", sample.display());
@@ -45,7 +45,7 @@ fn the_halted_car_stays_where_it_is() {
         let mut other = Model { version: 0, ..model.clone() };
         other.weights[2][target] = 10;
         assert_eq!(
-            verdict(&file_of(&other), text, &mut [0; WORK]),
+            verdict(&file_of(&other), text, &mut [0; ENOUGH]),
             Ok(target == 2),
             "weight 10 to state {target}"
         );

@@ -2,7 +2,7 @@
 
 use super::{agree, shown_text, Library, Models, Questions};
 use crate::inputs::model::file_of;
-use crate::second::meaning::WORK;
+use crate::second::meaning::ENOUGH;
 use crate::second::model::examples::{m1, m2};
 use crate::second::Model;
 
@@ -40,7 +40,7 @@ fn model_lines<L: Models>(lib: &L) {
 /// One numerator and denominator, the path under as many letters as the tuple has members.
 fn fraction<L: Questions>(lib: &L, model: &Model, path: &str, tuple: &[u8], expected: (u64, u64)) {
     let text = format!("{}.={path}#0/1;", "A".repeat(tuple.len())).into_bytes();
-    let got = lib.numerator(&file_of(model), &text, tuple, 0, &mut [1; WORK]);
+    let got = lib.numerator(&file_of(model), &text, tuple, 0, &mut [1; ENOUGH]);
     agree("the example's fraction", &Ok(expected), &got, || shown_text(&text));
 }
 
@@ -73,7 +73,7 @@ fn numerator_lines<L: Questions>(lib: &L) {
 /// One numerator of the first path at the tuple of zeros, or a refusal.
 fn asked<L: Questions>(lib: &L, model: &Model, text: &str, expected: Result<(u64, u64), u8>) {
     let letters = text.find('.').unwrap_or(1);
-    let got = lib.numerator(&file_of(model), text.as_bytes(), &vec![0; letters], 0, &mut [1; WORK]);
+    let got = lib.numerator(&file_of(model), text.as_bytes(), &vec![0; letters], 0, &mut [1; ENOUGH]);
     agree("the example's numerator", &expected, &got, || shown_text(text.as_bytes()));
 }
 
@@ -99,7 +99,7 @@ fn limit_numerators<L: Questions>(lib: &L) {
 
 /// One verdict or refusal.
 fn said<L: Questions>(lib: &L, model: &Model, text: &str, expected: Result<bool, u8>) {
-    let got = lib.verdict(&file_of(model), text.as_bytes(), &mut [1; WORK]);
+    let got = lib.verdict(&file_of(model), text.as_bytes(), &mut [1; ENOUGH]);
     agree("the example's verdict", &expected, &got, || shown_text(text.as_bytes()));
 }
 

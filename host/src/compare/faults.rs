@@ -5,6 +5,7 @@
 use super::*;
 use crate::inputs::extreme::Kind;
 use crate::inputs::naming::end_of;
+use crate::inputs::question::Pair;
 use crate::inputs::watch;
 use crate::second::meaning::Way;
 use crate::second::sentence::{read_sentence, spelled, Node, Relation};
@@ -135,18 +136,22 @@ impl Faulty {
         (tuple, path)
     }
 
-    /// Work area and output faults, after a call.
+    /// Work area and output faults, after a call that wrote so many places.
     fn leave<T, N: Copy + Default>(&self, answer: &Result<T, u8>, lent: &mut [N], written: usize, other: N) {
         match (self.0, answer) {
-            (Fault::WorkNotZero, Ok(_)) => lent[WORK - 1] = other,
-            (Fault::WorkZeroOnRefusal, Err(number)) if *number > 1 => lent[0] = N::default(),
-            (Fault::WorkZeroBeyond, Ok(_)) => lent[WORK..].fill(N::default()),
-            (Fault::OutputOnRefusal, Err(14)) => {
+            (Fault::WorkNotZero, Ok(_)) => lent[written - 1] = other,
+            (Fault::WorkZeroOnRefusal, Err(_)) | (Fault::OutputOnRefusal, Err(14)) => {
                 lent.iter_mut().take(1).for_each(|place| *place = N::default())
             }
-            (Fault::OutputBeyond, Ok(_)) => lent[written..].fill(N::default()),
+            (Fault::WorkZeroBeyond | Fault::OutputBeyond, Ok(_)) => lent[written..].fill(N::default()),
             _ => {}
         }
+    }
+
+    /// Work area faults, after a call.
+    fn leave_work<T>(&self, answer: &Result<T, u8>, file: &[u8], text: &[u8], work: &mut [u64]) {
+        let pair = Pair { file: file.to_vec(), text: text.to_vec() };
+        self.leave(answer, work, pair.room().unwrap_or(0), 1);
     }
 }
 
@@ -275,7 +280,7 @@ impl Questions for Faulty {
             Ok(right) => Ok(self.rounded(file, text).unwrap_or(right)),
             refused => refused,
         };
-        self.leave(&answer, work, WORK, 1);
+        self.leave_work(&answer, file, text, work);
         answer
     }
 
@@ -288,10 +293,10 @@ impl Questions for Faulty {
         work: &mut [u64],
     ) -> Result<(u64, u64), u8> {
         let (tuple, path) = self.taken(file, text, tuple, path);
-        let text =
-            if self.has(Fault::MatchBeforeTheWindow) { self.mistaken(file, text) } else { text.to_vec() };
+        let of_windows = matches!(self.0, Fault::MatchBeforeTheWindow | Fault::WindowCut);
+        let text = if of_windows { self.mistaken(file, text) } else { text.to_vec() };
         let answer = second::numerator(file, &text, &tuple, path, work);
-        self.leave(&answer, work, WORK, 1);
+        self.leave_work(&answer, file, &text, work);
         answer
     }
 }

@@ -1,23 +1,21 @@
 //! Verdicts and numerators.
 
-use super::{agree, shown_file, shown_text, work_after, work_area, Questions, Tally};
+use super::areas::WorkArea;
+use super::{agree, shown_file, shown_text, Questions, Second, Tally};
 use crate::inputs::extreme::{self, Kind};
 use crate::inputs::question::{self, Pair};
 use crate::inputs::Rng;
-use crate::second;
-use crate::second::meaning::{answer, Answer, Way, WORK};
+use crate::second::meaning::{answer, Answer, Way};
 use crate::second::{read_model, read_sentence};
 
 /// The rows of verdict.
 const ROWS: [usize; 11] = [1, 2, 3, 4, 5, 6, 7, 8, 9, 10, 11];
 /// The rows of numerator.
-const NUMERATOR_ROWS: [usize; 12] = [1, 2, 3, 4, 5, 6, 7, 8, 9, 10, 11, 15];
+pub(super) const NUMERATOR_ROWS: [usize; 12] = [1, 2, 3, 4, 5, 6, 7, 8, 9, 10, 11, 15];
 /// About how many products the calls that ask a random pair at every tuple may take together.
 const PRODUCTS: usize = 600_000;
 /// The same, where the pair is an extreme one.
 const MANY_PRODUCTS: usize = 3_000_000;
-/// The lengths of work areas on both sides of the limit.
-pub const ROOMS: [usize; 6] = [0, 1, WORK - 1, WORK, WORK + 1, 9_000];
 
 /// Compares verdicts on `cases` random pairs and work areas of every length
 /// about the right one.
@@ -36,8 +34,8 @@ pub fn compare_verdict<L: Questions>(lib: &L, cases: usize, seed: u64) -> Tally 
 /// The verdict of one random pair, with a work area of any length.
 pub(super) fn any_verdict<L: Questions>(lib: &L, rng: &mut Rng, tally: &mut Tally) {
     let pair = question::pair(rng);
-    let length = question::work_length(rng);
-    verdict_case(lib, rng, tally, &pair, length);
+    let room = pair.any_room(rng);
+    verdict_case(lib, rng, tally, &pair, room);
 }
 
 /// A pair for a report.
@@ -51,24 +49,37 @@ fn inputs_after(what: &str, pair: &Pair, lent: &Pair) {
     agree(&format!("{what}: the lent text"), &pair.text, &lent.text, || shown(pair));
 }
 
+/// What a library answers to one call of verdict, everything that is lent being as that answer should leave it.
+pub(super) fn said<L: Questions>(lib: &L, rng: &mut Rng, pair: &Pair, room: usize) -> Result<bool, u8> {
+    let (mut area, lent) = (WorkArea::of(rng, room), pair.clone());
+    let got = lib.verdict(&lent.file, &lent.text, area.lent());
+    area.check("verdict", pair, &got, || shown(pair));
+    inputs_after("verdict", pair, &lent);
+    got
+}
+
 /// One verdict, with everything that is lent.
 pub(super) fn verdict_case<L: Questions>(
     lib: &L,
     rng: &mut Rng,
     tally: &mut Tally,
     pair: &Pair,
-    length: usize,
+    room: usize,
 ) {
-    let before = work_area(rng, length);
-    let mut after = before.clone();
-    let expected = second::verdict(&pair.file, &pair.text, &mut after);
-    work_after("verdict of second", &expected, &before, &after, || shown(pair));
-    after.copy_from_slice(&before);
-    let lent = pair.clone();
-    let got = lib.verdict(&lent.file, &lent.text, &mut after);
-    agree("verdict", &expected, &got, || format!("  work area of {length}\n{}", shown(pair)));
-    work_after("verdict", &expected, &before, &after, || shown(pair));
-    inputs_after("verdict", pair, &lent);
+    let expected = said(&Second, rng, pair, room);
+    verdict_agrees(lib, rng, tally, (pair, room), expected);
+}
+
+/// One verdict that is known, with everything that is lent.
+pub(super) fn verdict_agrees<L: Questions>(
+    lib: &L,
+    rng: &mut Rng,
+    tally: &mut Tally,
+    (pair, room): (&Pair, usize),
+    expected: Result<bool, u8>,
+) {
+    let got = said(lib, rng, pair, room);
+    agree("verdict", &expected, &got, || format!("  work area of {room}\n{}", shown(pair)));
     tally.count(&expected);
     tally.holds += u64::from(expected == Ok(true));
     tally.fails += u64::from(expected == Ok(false));
@@ -95,7 +106,8 @@ pub fn compare_numerator<L: Questions>(lib: &L, cases: usize, seed: u64) -> Tall
 /// The numerators of one random pair.
 pub(super) fn any_numerator<L: Questions>(lib: &L, rng: &mut Rng, tally: &mut Tally) {
     let pair = question::pair(rng);
-    odd_case(lib, rng, tally, &pair);
+    let ((tuple, path), room) = (any_place(rng, &pair), pair.any_room(rng));
+    numerator_case(lib, rng, tally, &Asked { pair: &pair, tuple, path, room });
     if let Ok(found) = answer(&pair.file, &pair.text, Way::Fitting) {
         tally.reach.model(&read_model(&pair.file).expect("a pair that is answered"));
         tally.reach.named.count(&read_sentence(&pair.text).expect("a pair that is answered"));
@@ -111,8 +123,8 @@ pub fn compare_extreme<L: Questions>(lib: &L, kind: Kind, cases: usize, seed: u6
     let mut numerators = Tally::new("extreme numerator");
     for _ in 0..cases {
         let pair = extreme::pair(&mut rng, kind);
-        let length = rng.pick(&[WORK, WORK, WORK + 1, 9_000]);
-        verdict_case(lib, &mut rng, &mut tally, &pair, length);
+        let room = pair.enough_room(&mut rng);
+        verdict_case(lib, &mut rng, &mut tally, &pair, room);
         if let Ok(found) = answer(&pair.file, &pair.text, Way::Fitting) {
             ask_all(lib, &mut rng, &mut numerators, &Found { pair: &pair, found: &found }, MANY_PRODUCTS);
         }
@@ -154,17 +166,22 @@ impl Asked<'_> {
 /// What a library answers to one call of numerator, everything that is lent being as that answer should leave it.
 pub(super) fn answered<L: Questions>(lib: &L, rng: &mut Rng, asked: &Asked) -> Result<(u64, u64), u8> {
     let Asked { pair, tuple, path, room } = asked;
-    let before = work_area(rng, *room);
-    let (mut after, lent, lent_tuple) = (before.clone(), (*pair).clone(), tuple.clone());
-    let got = lib.numerator(&lent.file, &lent.text, &lent_tuple, *path, &mut after);
+    let (mut area, lent, lent_tuple) = (WorkArea::of(rng, *room), (*pair).clone(), tuple.clone());
+    let got = lib.numerator(&lent.file, &lent.text, &lent_tuple, *path, area.lent());
     agree("numerator: the lent tuple", tuple, &lent_tuple, || asked.shown());
-    work_after("numerator", &got, &before, &after, || asked.shown());
+    area.check("numerator", pair, &got, || asked.shown());
     inputs_after("numerator", pair, &lent);
     got
 }
 
 /// One numerator, with everything that is lent.
-fn numerator_case<L: Questions>(
+fn numerator_case<L: Questions>(lib: &L, rng: &mut Rng, tally: &mut Tally, asked: &Asked) {
+    let expected = answered(&Second, rng, asked);
+    numerator_agrees(lib, rng, tally, asked, expected);
+}
+
+/// One numerator that is known, with everything that is lent.
+pub(super) fn numerator_agrees<L: Questions>(
     lib: &L,
     rng: &mut Rng,
     tally: &mut Tally,
@@ -179,18 +196,8 @@ fn numerator_case<L: Questions>(
     }
 }
 
-/// What the second program answers to a call of numerator.
-fn expected_of(rng: &mut Rng, asked: &Asked) -> Result<(u64, u64), u8> {
-    let Asked { pair, tuple, path, room } = asked;
-    let before = work_area(rng, *room);
-    let mut after = before.clone();
-    let expected = second::numerator(&pair.file, &pair.text, tuple, *path, &mut after);
-    work_after("numerator of second", &expected, &before, &after, || shown(pair));
-    expected
-}
-
-/// Any tuple, path number and work area, most of them wrong in one thing.
-fn odd_case<L: Questions>(lib: &L, rng: &mut Rng, tally: &mut Tally, pair: &Pair) {
+/// Any tuple and path number for a pair, most of them wrong in one thing.
+pub(super) fn any_place(rng: &mut Rng, pair: &Pair) -> (Vec<u8>, usize) {
     let states = read_model(&pair.file).map_or(3, |model| model.n as usize);
     let letters = read_sentence(&pair.text).map_or(2, |sentence| sentence.letters);
     let mut tuple: Vec<u8> = (0..letters).map(|_| rng.below(states) as u8).collect();
@@ -202,9 +209,7 @@ fn odd_case<L: Questions>(lib: &L, rng: &mut Rng, tally: &mut Tally, pair: &Pair
         3 => path = rng.pick(&[1, 5, 64, 65, 256, 1 << 32, usize::MAX]),
         _ => {}
     }
-    let asked = Asked { pair, tuple, path, room: question::work_length(rng) };
-    let expected = expected_of(rng, &asked);
-    numerator_case(lib, rng, tally, &asked, expected);
+    (tuple, path)
 }
 
 /// A pair that is answered, with what the second program answers.
@@ -215,7 +220,7 @@ pub(super) struct Found<'a> {
 
 impl Found<'_> {
     /// The tuple of a number, variable 1 counting most.
-    fn tuple(&self, at: usize) -> Vec<u8> {
+    pub(super) fn tuple(&self, at: usize) -> Vec<u8> {
         let states = usize::from(self.pair.file[1]);
         let letters = self.pair.text.iter().take_while(|&&byte| byte != b'.').count();
         members(states, letters, at)
@@ -247,8 +252,9 @@ pub(super) fn ask_all<L: Questions>(
     for call in 0..calls {
         let place = if calls == all { call } else { rng.below(all) };
         let (path, at) = (place / tuples, place % tuples);
-        let asked = Asked { pair: pair.pair, tuple: pair.tuple(at), path, room: WORK + rng.below(2) };
-        numerator_case(lib, rng, tally, &asked, Ok((paths[path].tops[at], paths[path].bottom)));
+        let room = pair.pair.enough_room(rng);
+        let asked = Asked { pair: pair.pair, tuple: pair.tuple(at), path, room };
+        numerator_agrees(lib, rng, tally, &asked, Ok((paths[path].tops[at], paths[path].bottom)));
     }
     if all > 0 && calls == all {
         tally.reach.every += 1;
@@ -260,9 +266,8 @@ pub(super) fn ask_all<L: Questions>(
 /// The first path at every tuple of a pair under one letter, answered or refused.
 pub(super) fn at_each_state<L: Questions>(lib: &L, rng: &mut Rng, tally: &mut Tally, pair: &Pair) {
     for state in 0..pair.file[1] {
-        let asked = Asked { pair, tuple: vec![state], path: 0, room: WORK + 1 };
-        let expected = expected_of(rng, &asked);
-        numerator_case(lib, rng, tally, &asked, expected);
+        let asked = Asked { pair, tuple: vec![state], path: 0, room: pair.enough_room(rng) };
+        numerator_case(lib, rng, tally, &asked);
     }
 }
 
@@ -276,11 +281,13 @@ pub fn compare_row_15<L: Questions>(lib: &L, cases: usize, seed: u64) -> Tally {
         let Ok(found) = answer(&pair.file, &pair.text, Way::Fitting) else { continue };
         let pair = Found { pair: &pair, found: &found };
         for (tuple, path, right) in edges(&mut rng, &pair) {
-            let asked = Asked { pair: pair.pair, tuple, path, room: WORK };
-            let expected = expected_of(&mut rng, &asked);
+            // Wrong ones are refused by 15 in an area of any length.
+            let room = if right { pair.pair.enough_room(&mut rng) } else { pair.pair.any_room(&mut rng) };
+            let asked = Asked { pair: pair.pair, tuple, path, room };
+            let expected = answered(&Second, &mut rng, &asked);
             let refused = if right { None } else { Some(15) };
             agree("row 15 of second", &refused, &expected.err(), || shown(pair.pair));
-            numerator_case(lib, &mut rng, &mut tally, &asked, expected);
+            numerator_agrees(lib, &mut rng, &mut tally, &asked, expected);
         }
     }
     tally.require(&[15]);
@@ -311,25 +318,6 @@ fn edges(rng: &mut Rng, pair: &Found) -> Vec<(Vec<u8>, usize, bool)> {
         list.push((any.clone(), path, path < count));
     }
     list
-}
-
-/// Work areas of every length of [`ROOMS`] for both calls, on `cases` pairs of any kind.
-pub fn compare_rooms<L: Questions>(lib: &L, cases: usize, seed: u64) -> Tally {
-    let mut rng = Rng::new(seed);
-    let mut tally = Tally::new("work areas");
-    for _ in 0..cases {
-        let pair = question::pair(&mut rng);
-        let letters = read_sentence(&pair.text).map_or(1, |sentence| sentence.letters);
-        for room in ROOMS {
-            verdict_case(lib, &mut rng, &mut tally, &pair, room);
-            let asked = Asked { pair: &pair, tuple: vec![0; letters], path: 0, room };
-            let expected = expected_of(&mut rng, &asked);
-            agree("row 1 of second", &(room < WORK), &(expected == Err(1)), || shown(&pair));
-            numerator_case(lib, &mut rng, &mut tally, &asked, expected);
-        }
-    }
-    tally.require(&NUMERATOR_ROWS);
-    tally
 }
 
 /// The members of the tuple with a number, for so many states and letters.

@@ -1,11 +1,12 @@
 //! Merging, and what it keeps: numerators, denominators and verdicts.
 
-use super::meaning::members;
+use super::meaning::{answered, members, said, Asked};
 use super::{agree, output, output_after, shown_file, shown_text, Merges, Questions, Tally};
 use crate::inputs::grouping::{self, Merging};
 use crate::inputs::model::file_of;
-use crate::inputs::{naming, question, Rng};
-use crate::second::meaning::{answer, Answer, Way, WORK};
+use crate::inputs::question::{self, Pair};
+use crate::inputs::{naming, Rng};
+use crate::second::meaning::{answer, Answer, Way};
 use crate::second::{self, read_model, read_sentence};
 
 /// Compares merging on `cases` random models, groupings and outputs.
@@ -99,34 +100,36 @@ pub(super) fn merge_case<L: Merges>(
     Some(after)
 }
 
-/// A full model, its merged model and a sentence, to be asked of both.
+/// A full model and its merged model, each with the sentence that is asked of both.
 struct Both<'a> {
     merging: &'a Merging,
-    small: &'a [u8],
-    text: Vec<u8>,
+    full: Pair,
+    small: Pair,
     letters: usize,
 }
 
 impl Both<'_> {
     /// The case for a report.
     fn told(&self) -> String {
-        shown_text(&self.text) + &shown(self.merging)
+        shown_text(&self.full.text) + &shown(self.merging)
     }
 
     /// What the second program answers on the full and on the merged model, if
     /// the sentence is not refused on the full one.
     fn answers(&self) -> Option<(Answer, Answer)> {
-        let on_full = answer(&self.merging.file, &self.text, Way::Fitting).ok()?;
-        match answer(self.small, &self.text, Way::Fitting) {
+        let on_full = answer(&self.full.file, &self.full.text, Way::Fitting).ok()?;
+        match answer(&self.small.file, &self.small.text, Way::Fitting) {
             Ok(on_small) => Some((on_full, on_small)),
             Err(number) => panic!("refused by {number} on the merged model\n{}", self.told()),
         }
     }
 
     /// The library's verdicts are those of the second program, and equal.
-    fn verdicts<L: Questions>(&self, lib: &L, on_full: bool, on_small: bool) {
-        let mut work = vec![0; WORK];
-        let got = [&self.merging.file[..], self.small].map(|file| lib.verdict(file, &self.text, &mut work));
+    fn verdicts<L: Questions>(&self, lib: &L, rng: &mut Rng, on_full: bool, on_small: bool) {
+        let got = [&self.full, &self.small].map(|pair| {
+            let room = pair.enough_room(rng);
+            said(lib, rng, pair, room)
+        });
         agree("the verdict on full or merged", &[Ok(on_full), Ok(on_small)], &got, || self.told());
         agree("the verdict on merged", &on_full, &on_small, || self.told());
     }
@@ -139,17 +142,18 @@ impl Both<'_> {
     }
 
     /// The library's fractions of a path at a tuple and at the tuple of its groups.
-    fn asked<L: Questions>(&self, lib: &L, path: usize, at: usize, expected: (u64, u64)) {
+    fn asked<L: Questions>(&self, lib: &L, rng: &mut Rng, path: usize, at: usize, expected: (u64, u64)) {
         let (tuple, grouped) = self.tuples(at);
-        let mut work = vec![0; WORK];
-        let on_full = lib.numerator(&self.merging.file, &self.text, &tuple, path, &mut work);
-        let on_small = lib.numerator(self.small, &self.text, &grouped, path, &mut work);
-        agree("a fraction on full or merged", &[Ok(expected); 2], &[on_full, on_small], || self.told());
+        let got = [(&self.full, tuple), (&self.small, grouped)].map(|(pair, tuple)| {
+            let room = pair.enough_room(rng);
+            answered(lib, rng, &Asked { pair, tuple, path, room })
+        });
+        agree("a fraction on full or merged", &[Ok(expected); 2], &got, || self.told());
     }
 }
 
 /// A random sentence for a full model and its merged model.
-fn both<'a>(rng: &mut Rng, merging: &'a Merging, small: &'a [u8]) -> Both<'a> {
+fn both<'a>(rng: &mut Rng, merging: &'a Merging, small: &[u8]) -> Both<'a> {
     let full = read_model(&merging.file).expect("a model that was merged");
     let most = rng.pick(&[36, 36, 100, 256]);
     let fits = |&letters: &usize| (full.n as usize).pow(letters as u32) <= most;
@@ -159,7 +163,8 @@ fn both<'a>(rng: &mut Rng, merging: &'a Merging, small: &'a [u8]) -> Both<'a> {
         true => naming::text(rng, &full, letters, naming::Kind::Any),
         false => question::fitting_sentence(rng, &full, letters, size).text(),
     };
-    Both { merging, small, text, letters }
+    let pair = |file: &[u8]| Pair { file: file.to_vec(), text: text.clone() };
+    Both { merging, full: pair(&merging.file), small: pair(small), letters }
 }
 
 /// Asks one random sentence of both models, if it is not refused.
@@ -168,7 +173,7 @@ fn keeps<L: Questions>(lib: &L, rng: &mut Rng, tally: &mut Tally, merging: &Merg
     let Some((on_full, on_small)) = both.answers() else {
         return;
     };
-    both.verdicts(lib, on_full.holds, on_small.holds);
+    both.verdicts(lib, rng, on_full.holds, on_small.holds);
     tally.holds += u64::from(on_full.holds);
     tally.fails += u64::from(!on_full.holds);
     let all = on_full.paths.iter().map(|fractions| fractions.tops.len()).sum::<usize>();
@@ -178,12 +183,12 @@ fn keeps<L: Questions>(lib: &L, rng: &mut Rng, tally: &mut Tally, merging: &Merg
             let there = both.tuples(at).1.iter().fold(0, |number, &g| number * groups + usize::from(g));
             let expected = (top, fractions.bottom);
             agree("a fraction on merged", &expected, &(merged.tops[there], merged.bottom), || both.told());
-            both.asked(lib, path, at, expected);
+            both.asked(lib, rng, path, at, expected);
             tally.numerators += 1;
             tally.reach.fraction(expected.0, expected.1);
         }
     }
-    tally.reach.named.count(&read_sentence(&both.text).expect("a sentence that is answered"));
+    tally.reach.named.count(&read_sentence(&both.full.text).expect("a sentence that is answered"));
     tally.reach.letters[both.letters] += 1;
     tally.reach.every += u64::from(all > 0);
 }

@@ -8,7 +8,7 @@ use crate::inputs::model::{any_with, file_of};
 use crate::inputs::naming::{self, end_of, limits, namings, Kind, Naming};
 use crate::inputs::question::Pair;
 use crate::inputs::Rng;
-use crate::second::meaning::{answer, base_answer, Answer, Fractions, Way, WORK};
+use crate::second::meaning::{answer, base_answer, Answer, Fractions, Way, ENOUGH};
 use crate::second::model::examples::m1;
 use crate::second::sentence::spelled;
 use crate::second::{self, read_model, read_sentence, Model, Node, Sentence};
@@ -100,8 +100,8 @@ fn joined([mut tally, numerators]: [Tally; 2]) -> Tally {
 
 /// One pair: its verdict with everything that is lent, the meaning beside others, and its numerators.
 fn asked<L: Questions>(lib: &L, rng: &mut Rng, both: &mut [Tally; 2], pair: &Pair) -> Option<Answer> {
-    let length = rng.pick(&[WORK, WORK, WORK + 1, 9_000]);
-    verdict_case(lib, rng, &mut both[0], pair, length);
+    let room = pair.enough_room(rng);
+    verdict_case(lib, rng, &mut both[0], pair, room);
     let found = answer(&pair.file, &pair.text, Way::Fitting).ok()?;
     let beside = Beside::of(pair, &found);
     let named = &mut both[0].reach.named;
@@ -233,7 +233,7 @@ pub fn compare_row_10<L: Questions>(lib: &L, seed: u64) -> Tally {
                     let prefix = &"AEAE"[..usize::from(letters)];
                     let text = format!("{prefix}.{}", limit.body).into_bytes();
                     let pair = Pair { file: file_of(&model), text };
-                    let refused = second::verdict(&pair.file, &pair.text, &mut [0; WORK]).err();
+                    let refused = second::verdict(&pair.file, &pair.text, &mut [0; ENOUGH]).err();
                     agree("row 10 of second", &limit.refused(d).then_some(10), &refused, || shown(&pair));
                     asked(lib, &mut rng, &mut both, &pair);
                 }
@@ -343,14 +343,14 @@ fn fraction<L: Questions>(
     (path, tuple): (usize, &[u8]),
     expected: (u64, u64),
 ) {
-    let got = lib.numerator(&file_of(model), text.as_bytes(), tuple, path, &mut [1; WORK]);
+    let got = lib.numerator(&file_of(model), text.as_bytes(), tuple, path, &mut [1; ENOUGH]);
     agree("the example's fraction", &Ok(expected), &got, || format!("  {text}, path {path} at {tuple:?}\n"));
 }
 
 /// One verdict, and what all n variables stepping would give.
 fn said<L: Questions>(lib: &L, model: &Model, text: &str, expected: bool, base: Result<bool, u8>) {
     let file = file_of(model);
-    let got = lib.verdict(&file, text.as_bytes(), &mut [1; WORK]);
+    let got = lib.verdict(&file, text.as_bytes(), &mut [1; ENOUGH]);
     agree("the example's verdict", &Ok(expected), &got, || format!("  {text}\n"));
     let before = base_answer(&file, text.as_bytes(), Way::Table).map(|found| found.holds);
     agree("the base's verdict", &base, &before, || format!("  {text}\n"));

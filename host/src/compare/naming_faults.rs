@@ -5,7 +5,8 @@ use super::faults::noticed;
 use super::*;
 use crate::inputs::extreme::Kind as Extreme;
 use crate::inputs::naming::{end_of, namings, Kind, Naming};
-use crate::second::meaning::{all_variables, answer, answer_by, named, too_large_by, Stepping, Way};
+use crate::second::meaning::{all_variables, answer, answer_by, named, needed, too_large_by, tuple_count};
+use crate::second::meaning::{Stepping, Way};
 use crate::second::sentence::{read_sentence, spelled, Node};
 
 /// What a library does wrong about the variables that a path names.
@@ -149,26 +150,24 @@ impl Faulty {
         Ok(if answer(file, &other, Way::Table).is_ok() { other } else { text.to_vec() })
     }
 
-    /// Refusals 2 to 11, row 10 by the numbers that the fault counts; gives D.
-    fn refusals(&self, file: &[u8], text: &[u8]) -> Result<u32, u8> {
+    /// Refusals 2 to 11, row 10 by the numbers that the fault counts; gives what was read.
+    fn refusals(&self, file: &[u8], text: &[u8]) -> Result<(Model, Sentence), u8> {
         answer_by(self.stepping(), file, text, Way::Table)?;
-        let d = second::read_model(file)?.d;
-        if too_large_by(self.counted(), &read_sentence(text)?, d) {
+        let (model, sentence) = (second::read_model(file)?, read_sentence(text)?);
+        if too_large_by(self.counted(), &sentence, model.d) {
             return Err(10);
         }
-        Ok(d)
+        Ok((model, sentence))
     }
 }
 
 impl Questions for Faulty {
     fn verdict(&self, file: &[u8], text: &[u8], work: &mut [u64]) -> Result<bool, u8> {
-        if work.len() < WORK {
-            return Err(1);
-        }
-        let d = self.refusals(file, text)?;
-        let text = self.multiplied(file, text, d)?;
+        let (model, sentence) = self.refusals(file, text)?;
+        let area = needed(work, tuple_count(&model, &sentence))?;
+        let text = self.multiplied(file, text, model.d)?;
         let holds = answer_by(self.stepping(), file, &text, Way::Table)?.holds;
-        work[..WORK].fill(0);
+        area.fill(0);
         Ok(holds)
     }
 
@@ -180,15 +179,11 @@ impl Questions for Faulty {
         path: usize,
         work: &mut [u64],
     ) -> Result<(u64, u64), u8> {
-        if work.len() < WORK {
-            return Err(1);
-        }
-        let d = self.refusals(file, text)?;
+        let (model, sentence) = self.refusals(file, text)?;
         second::numerator(file, text, tuple, path, work)?;
         let at = tuple.iter().fold(0, |at, &member| at * usize::from(file[1]) + usize::from(member));
         let found = answer_by(self.stepping(), file, text, Way::Table)?;
-        let sentence = read_sentence(text)?;
-        let [top, bottom] = self.factors(&sentence, &namings(&sentence)[path], d);
+        let [top, bottom] = self.factors(&sentence, &namings(&sentence)[path], model.d);
         let fractions = &found.paths[path];
         Ok((fractions.tops[at].saturating_mul(top), fractions.bottom.saturating_mul(bottom)))
     }

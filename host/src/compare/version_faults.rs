@@ -4,7 +4,7 @@
 use super::faults::noticed;
 use super::*;
 use crate::inputs::model::EMPTY;
-use crate::second::meaning::{answer_on_rows, Way};
+use crate::second::meaning::{answer_on_rows, needed, tuple_count, Way};
 use crate::second::merge::merge_rows;
 use crate::second::model::mend;
 
@@ -138,11 +138,10 @@ impl Models for Faulty {
 
 impl Questions for Faulty {
     fn verdict(&self, file: &[u8], text: &[u8], work: &mut [u64]) -> Result<bool, u8> {
-        if work.len() < WORK {
-            return Err(1);
-        }
-        let holds = answer_on_rows(self.rows(file)?, text, Way::Table)?.holds;
-        work[..WORK].fill(0);
+        let model = self.rows(file)?;
+        let holds = answer_on_rows(model.clone(), text, Way::Table)?.holds;
+        let tuples = tuple_count(&model, &second::read_sentence(text)?);
+        needed(work, tuples)?.fill(0);
         Ok(holds)
     }
 

@@ -9,7 +9,7 @@ use crate::inputs::grouping::Merging;
 use crate::inputs::model::{file_of, spelled};
 use crate::inputs::question::Pair;
 use crate::inputs::Rng;
-use crate::second::meaning::WORK;
+use crate::second::meaning::ENOUGH;
 use crate::second::model::examples::{halted, m2};
 use crate::second::{self, Model};
 
@@ -103,12 +103,13 @@ fn in_a_file<L: Library>(
     let told = || shown_file(&file);
     let pair = Pair { file: file.clone(), text: b"A.GPU1,2:!a1a1#1/2;".to_vec() };
     let merging = Merging { file: file.clone(), grouping: vec![0, 1, 2], room: file.len() + 1 };
-    let mut work = [0; WORK];
+    let mut work = [0; ENOUGH];
     agree(what, &refusal, &second::read_model(&file).err(), told);
     agree(what, &refusal, &second::verdict(&file, &pair.text, &mut work).err(), told);
     agree(what, &refusal, &second::numerator(&file, &pair.text, &[0], 0, &mut work).err(), told);
     reader_case(lib, rng, tally, &file);
-    verdict_case(lib, rng, tally, &pair, WORK + 1);
+    let room = pair.enough_room(rng);
+    verdict_case(lib, rng, tally, &pair, room);
     at_each_state(lib, rng, tally, &pair);
     let merged = merge_case(lib, rng, tally, &merging);
     let expected = refusal.is_none().then(|| file_of(&model.filled()));
@@ -209,7 +210,7 @@ fn numbers<L: Questions>(lib: &L) {
         (&still, "PX!&a1!a2", &[1, 0], (0, 16)),
     ] {
         let text = format!("{}.={path}#0/1;", "A".repeat(tuple.len())).into_bytes();
-        let got = lib.numerator(&file_of(model), &text, tuple, 0, &mut [1; WORK]);
+        let got = lib.numerator(&file_of(model), &text, tuple, 0, &mut [1; ENOUGH]);
         assert_eq!(got, Ok(expected), "{path} at {tuple:?}");
     }
     for (model, text, expected) in [
@@ -219,7 +220,7 @@ fn numbers<L: Questions>(lib: &L) {
         (&still, "AE.=PU1,3:Ta1PXa2", true),
         (&still, "E.&!a1>PU0,9:Ta1#0/1;", false),
     ] {
-        let got = lib.verdict(&file_of(model), text.as_bytes(), &mut [1; WORK]);
+        let got = lib.verdict(&file_of(model), text.as_bytes(), &mut [1; ENOUGH]);
         assert_eq!(got, Ok(expected), "{text}");
     }
 }

@@ -6,6 +6,7 @@ use super::watches::compare_words;
 use super::*;
 use crate::inputs::question::Pair;
 use crate::inputs::watch::{Kind, Watch};
+use crate::second::meaning::ENOUGH;
 
 /// What a library does wrong about runs.
 #[derive(Clone, Copy, Debug, PartialEq, Eq)]
@@ -34,7 +35,7 @@ impl Faulty {
         let numerator = |from: u32, to: u32| {
             let pair = watch.pair_with(from, to);
             // A text that gets longer than 400 bytes cannot be asked.
-            second::numerator(&pair.file, &pair.text, tuple, watch.path, &mut [0; WORK])
+            second::numerator(&pair.file, &pair.text, tuple, watch.path, &mut [0; ENOUGH])
                 .map_or(top, |it| it.0)
         };
         // The weight, up to a moment, of the runs that match there for the first time.

@@ -9,7 +9,7 @@ use crate::inputs::naming::namings;
 use crate::inputs::question::Pair;
 use crate::inputs::watch::{self, Kind, Watch};
 use crate::inputs::Rng;
-use crate::second::meaning::{answer, sums, Answer, Way, WORK};
+use crate::second::meaning::{answer, sums, Answer, Way, ENOUGH};
 use crate::second::model::examples::m1;
 use crate::second::{read_model, read_sentence, Model};
 
@@ -136,7 +136,7 @@ impl<L: Questions> Asking<'_, L> {
     /// What the library answers at a tuple, given by its number.
     fn library(&mut self, windowed: &Windowed, at: usize) -> Result<(u64, u64), u8> {
         let tuple = members(self.watch.model.n as usize, self.watch.sentence.letters, at);
-        let room = WORK + self.rng.below(2);
+        let room = windowed.pair.enough_room(self.rng);
         answered(self.lib, self.rng, &Asked { pair: &windowed.pair, tuple, path: self.watch.path, room })
     }
 
@@ -279,7 +279,7 @@ fn sums_case<L: Questions>(lib: &L, rng: &mut Rng, tally: &mut Tally, summed: &m
         let sums = sums(&pair.file, &pair.text, path).expect("a pair that is answered");
         for (at, (taken, not_taken)) in sums.taken.into_iter().zip(sums.not_taken).enumerate() {
             let tuple = members(usize::from(pair.file[1]), sentence.letters, at);
-            let asked = Asked { pair, tuple, path, room: WORK + rng.below(2) };
+            let asked = Asked { pair, tuple, path, room: pair.enough_room(rng) };
             let got = answered(lib, rng, &asked);
             let expected = Ok((taken, taken + not_taken));
             agree("numerator and denominator by runs", &expected, &got, || {
@@ -314,7 +314,7 @@ pub fn compare_watch_examples<L: Questions>(lib: &L) {
     ] {
         for (k2, fraction) in (first..).zip(fractions) {
             let text = format!("{}.={}#0/1;", "A".repeat(tuple.len()), until.replace('%', &k2.to_string()));
-            let got = lib.numerator(&file_of(model), text.as_bytes(), tuple, 0, &mut [1; WORK]);
+            let got = lib.numerator(&file_of(model), text.as_bytes(), tuple, 0, &mut [1; ENOUGH]);
             agree("the example's fraction", &Ok(*fraction), &got, || format!("  {text} at {tuple:?}\n"));
         }
     }

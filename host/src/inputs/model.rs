@@ -65,6 +65,12 @@ pub fn staying(d: u32, state: usize) -> [u16; STATES] {
     row
 }
 
+/// Throws the row of a state anew, one unit of D after another.
+pub fn throw(rng: &mut Rng, model: &mut Model, state: usize) {
+    model.weights[state] = EMPTY;
+    (0..model.d).for_each(|_| model.weights[state][rng.below(model.n as usize)] += 1);
+}
+
 /// Puts a model into version 1, with the same meaning: each row of weight D to the state itself is left empty or not.
 pub fn unfill(rng: &mut Rng, model: &mut Model) {
     model.version = 1;

@@ -1,12 +1,13 @@
 //! Pairs of a model file and a sentence text: such as are answered, such as
-//! each row of a verdict refuses, and such as stand at an end of the size rule.
+//! each row of a verdict refuses, and such as stand at an end of the size rule;
+//! and lengths of work areas for them.
 
 use super::model::{self, any_with, file_of, unfill};
 use super::naming::{self, named_by, namings};
 use super::sentence::{self, Lean, Loose, Taste};
 use super::Rng;
-use crate::second::meaning::{answer, too_large, Way, TUPLES, WORK};
-use crate::second::sentence::{read_sentence, Node, Sentence};
+use crate::second::meaning::{answer, too_large, tuple_count, Way, ENOUGH, PER_TUPLE, TUPLES};
+use crate::second::sentence::{read_sentence, Node, Sentence, LETTERS};
 use crate::second::Model;
 
 /// A model file and a sentence text.
@@ -16,6 +17,57 @@ pub struct Pair {
     pub file: Vec<u8>,
     /// The sentence text.
     pub text: Vec<u8>,
+}
+
+/// The longest work area that is lent.
+const LONGEST: usize = 2 * ENOUGH;
+
+impl Pair {
+    /// N and n, by the byte of the head and the letters before the dot. A pair that is refused may have any, or none.
+    fn states_and_letters(&self) -> Option<(usize, u32)> {
+        let states = *self.file.get(1)?;
+        let letters = self.text.iter().position(|&byte| byte == b'.')?;
+        (letters <= LETTERS).then_some((states.into(), letters as u32))
+    }
+
+    /// The numbers of work area that the question needs: 8 × T.
+    pub fn room(&self) -> Option<usize> {
+        let (states, letters) = self.states_and_letters()?;
+        Some(PER_TUPLE * states.pow(letters))
+    }
+
+    /// Lengths of work areas on both sides of what the question needs, and what a library could take for it: fewer for each
+    /// tuple, as many for each state, enough for every question, nothing.
+    pub fn rooms(&self) -> Vec<usize> {
+        let mut list = vec![0, 1, ENOUGH - 1, ENOUGH, ENOUGH + 1, 9_000];
+        if let Some((states, letters)) = self.states_and_letters() {
+            let tuples = states.pow(letters);
+            let room = PER_TUPLE * tuples;
+            list.extend([tuples, room - tuples, PER_TUPLE * states]);
+            list.extend([room.saturating_sub(1), room, room + 1, room + 3, room + tuples]);
+        }
+        list.retain(|&length| length <= LONGEST);
+        list.sort_unstable();
+        list.dedup();
+        list
+    }
+
+    /// Any length of a work area: in most cases just what the question needs or a little more, else on both sides of it.
+    pub fn any_room(&self, rng: &mut Rng) -> usize {
+        match rng.below(10) {
+            0..=7 => self.enough_room(rng),
+            8 => rng.below(2 * self.room().map_or(ENOUGH, |room| room.clamp(1, ENOUGH))),
+            _ => rng.pick(&self.rooms()),
+        }
+    }
+
+    /// A length of a work area that does not refuse the question: half of them just what it needs. Any length where that is
+    /// not known, or too long to be lent.
+    pub fn enough_room(&self, rng: &mut Rng) -> usize {
+        let more = if rng.chance(1, 2) { 0 } else { rng.between(1, 40) };
+        let room = self.room().map(|room| room + more).filter(|&room| room <= LONGEST);
+        room.unwrap_or_else(|| rng.pick(&self.rooms()))
+    }
 }
 
 /// A pair of any kind, most of them answered.
@@ -34,17 +86,6 @@ pub fn pair(rng: &mut Rng) -> Pair {
         22 => naming::pair(rng, naming::Kind::Inside),
         23 => naming::pair(rng, naming::Kind::Wide),
         _ => fitting(rng),
-    }
-}
-
-/// The length of a work area: enough in most cases, with the limit on both sides.
-pub fn work_length(rng: &mut Rng) -> usize {
-    match rng.below(40) {
-        0 => rng.pick(&[0, 1, 512, WORK - 2, WORK - 1]),
-        1 | 2 => WORK + 1,
-        3 => WORK + rng.between(1, 40),
-        4 => 9_000,
-        _ => WORK,
     }
 }
 
@@ -109,8 +150,7 @@ pub fn fitting_sentence(rng: &mut Rng, model: &Model, letters: usize, size: usiz
 
 /// About how many products the steps of a sentence's paths take on a model; a step of no variable counts as one a tuple.
 pub fn cost(model: &Model, sentence: &Sentence) -> usize {
-    let n = model.n as usize;
-    let tuples = n.pow(sentence.letters as u32);
+    let (n, tuples) = (model.n as usize, tuple_count(model, sentence));
     namings(sentence).iter().map(|path| path.steps * (path.v() * n).max(1) * tuples).sum()
 }
 

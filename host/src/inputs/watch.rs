@@ -1,7 +1,7 @@
 //! Untils to be watched for longer (document 02, T-09): pairs whose sentence has an until, and the same pairs with another
 //! window for it.
 
-use super::model::{any_with, file_of, EMPTY};
+use super::model::{any_with, file_of, throw};
 use super::naming::{self, named_by, namings, Naming};
 use super::question::{self, widest_window, Pair};
 use super::{extreme, Rng};
@@ -158,8 +158,7 @@ fn spread(rng: &mut Rng, n: u32, d: u32) -> Model {
     for state in 0..n as usize {
         model.masks[state] = if state + 1 == n as usize { 1 } else { rng.pick(&[0, 2]) };
         if !model.row_is_empty(state) && rng.chance(7, 8) {
-            model.weights[state] = EMPTY;
-            (0..d).for_each(|_| model.weights[state][rng.below(n as usize)] += 1);
+            throw(rng, &mut model, state);
         }
     }
     model

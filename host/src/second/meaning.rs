@@ -1,5 +1,5 @@
 //! The meaning of a sentence on a model: verdicts and numerators
-//! (document 01, 'Meaning'; document 02, T-02, T-05 and T-09; refusals 1 to 11 and 15).
+//! (document 01, 'Meaning'; document 02, T-02, T-05, T-07 and T-09; refusals 1 to 11 and 15).
 //!
 //! The runs of a path are runs of the variables that occur in it. The others stay
 //! as they are at the start; no formula of the path looks at them.
@@ -16,10 +16,12 @@
 use super::model::{read_model, Model};
 use super::sentence::{read_sentence, Node, Relation, Sentence, LETTERS};
 
-/// The numbers of 64 bits that a work area must have.
-pub const WORK: usize = 8_192;
 /// The most tuples of a question that is answered.
 pub const TUPLES: usize = 1_024;
+/// The numbers of 64 bits that a work area must have for each tuple.
+pub const PER_TUPLE: usize = 8;
+/// A length of a work area that is enough for every question.
+pub const ENOUGH: usize = PER_TUPLE * TUPLES;
 /// The end of the size rule.
 const END: u128 = 1 << 62;
 /// The most runs, from all tuples together, that [`Way::Fitting`] lists.
@@ -68,18 +70,16 @@ pub struct Answer {
     pub paths: Vec<Fractions>,
 }
 
-/// Whether a sentence holds on a model. Refusals 1 to 11.
+/// Whether a sentence holds on a model. Refusals 2 to 11, then 1.
 pub fn verdict(file: &[u8], text: &[u8], work: &mut [u64]) -> Result<bool, u8> {
-    if work.len() < WORK {
-        return Err(1);
-    }
     let question = Question::of(file, text)?;
+    let area = needed(work, question.tuples)?;
     let holds = question.answer(Way::Fitting).holds;
-    work[..WORK].fill(0);
+    area.fill(0);
     Ok(holds)
 }
 
-/// The numerator and denominator of one path formula at one tuple. Refusals 1 to 11, 15.
+/// The numerator and denominator of one path formula at one tuple. Refusals 2 to 11, 15, then 1.
 pub fn numerator(
     file: &[u8],
     text: &[u8],
@@ -87,19 +87,29 @@ pub fn numerator(
     path: usize,
     work: &mut [u64],
 ) -> Result<(u64, u64), u8> {
-    if work.len() < WORK {
-        return Err(1);
-    }
     let question = Question::of(file, text)?;
     let n_states = question.model.n as usize;
     if tuple.len() != question.sentence.letters || tuple.iter().any(|&s| usize::from(s) >= n_states) {
         return Err(15);
     }
+    if path >= question.sentence.path_places().count() {
+        return Err(15);
+    }
+    let area = needed(work, question.tuples)?;
     let at = tuple.iter().fold(0, |number, &s| number * n_states + usize::from(s));
-    let answer = question.answer(Way::Fitting);
-    let fractions = answer.paths.get(path).ok_or(15)?;
-    work[..WORK].fill(0);
+    let fractions = &question.answer(Way::Fitting).paths[path];
+    area.fill(0);
     Ok((fractions.tops[at], fractions.bottom))
+}
+
+/// T, the number of tuples of a sentence on a model.
+pub fn tuple_count(model: &Model, sentence: &Sentence) -> usize {
+    (model.n as usize).pow(sentence.letters as u32)
+}
+
+/// The front of a work area that a question of so many tuples needs. Refusal 1.
+pub fn needed(work: &mut [u64], tuples: usize) -> Result<&mut [u64], u8> {
+    work.get_mut(..PER_TUPLE * tuples).ok_or(1)
 }
 
 /// Everything that a sentence means on a model, found in the given way. Refusals 2 to 11.
@@ -367,7 +377,7 @@ impl Question {
         if too_large_by(stepping, &sentence, model.d) {
             return Err(10);
         }
-        let tuples = (model.n as usize).pow(sentence.letters as u32);
+        let tuples = tuple_count(&model, &sentence);
         if tuples > TUPLES {
             return Err(11);
         }
@@ -709,7 +719,7 @@ mod tests {
     }
 
     fn said(model: &Model, text: &str) -> Result<bool, u8> {
-        verdict(&file(model), text.as_bytes(), &mut [0; WORK])
+        verdict(&file(model), text.as_bytes(), &mut [0; ENOUGH])
     }
 
     /// The fraction of the only path formula, under a prefix for the tuple.
@@ -717,7 +727,7 @@ mod tests {
         let text = format!("{}.={path}#1/1;", "A".repeat(tuple.len()));
         let both = [Way::Runs, Way::Table].map(|way| answer(&file(model), text.as_bytes(), way).unwrap());
         assert_eq!(both[0], both[1], "{path}");
-        numerator(&file(model), text.as_bytes(), tuple, 0, &mut [0; WORK]).unwrap()
+        numerator(&file(model), text.as_bytes(), tuple, 0, &mut [0; ENOUGH]).unwrap()
     }
 
     #[test]
@@ -784,31 +794,47 @@ mod tests {
     }
 
     #[test]
-    fn the_smallest_row_is_given() {
+    fn the_smallest_row_is_given_and_1_last() {
         let good = file(&m1());
-        let mut work = [5; WORK];
-        assert_eq!(verdict(&[], b"", &mut work[1..]), Err(1));
-        assert_eq!(verdict(&[], b"", &mut work), Err(2));
-        assert_eq!(verdict(&[0; 512], b"", &mut work), Err(4));
-        assert_eq!(verdict(&[1; 512], b"", &mut work), Err(3));
-        assert_eq!(numerator(&good, b"A.b1", &[9], 7, &mut work), Err(9));
-        assert_eq!(numerator(&good, b"A.=PXa1#0/1;", &[2], 0, &mut work), Err(15));
-        assert_eq!(numerator(&good, b"A.=PXa1#0/1;", &[1, 1], 0, &mut work), Err(15));
-        assert_eq!(numerator(&good, b"A.=PXa1#0/1;", &[], 0, &mut work), Err(15));
-        assert_eq!(numerator(&good, b"A.=PXa1#0/1;", &[1], 1, &mut work), Err(15));
-        assert_eq!(work, [5; WORK]);
+        let path = b"A.=PXa1#0/1;";
+        for room in [0, 15, 16, ENOUGH] {
+            let mut work = vec![5; room];
+            assert_eq!(verdict(&[], b"", &mut work), Err(2));
+            assert_eq!(verdict(&[0; 512], b"", &mut work), Err(4));
+            assert_eq!(verdict(&[1; 512], b"", &mut work), Err(3));
+            assert_eq!(verdict(&good, b"", &mut work), Err(6));
+            assert_eq!(verdict(&file(&still(11, 4)), b"AAA.T", &mut work), Err(11));
+            assert_eq!(numerator(&good, b"A.b1", &[9], 7, &mut work), Err(9));
+            assert_eq!(numerator(&good, path, &[2], 0, &mut work), Err(15));
+            assert_eq!(numerator(&good, path, &[1, 1], 0, &mut work), Err(15));
+            assert_eq!(numerator(&good, path, &[], 0, &mut work), Err(15));
+            assert_eq!(numerator(&good, path, &[1], 1, &mut work), Err(15));
+            assert_eq!(work, vec![5; room]);
+        }
+        let mut work = [5; 15];
+        assert_eq!(verdict(&good, b"A.T", &mut work), Err(1));
+        assert_eq!(numerator(&good, path, &[1], 0, &mut work), Err(1));
+        assert_eq!(work, [5; 15]);
     }
 
     #[test]
-    fn an_answer_leaves_the_front_of_the_work_area_zero() {
-        let mut work = [5; WORK + 3];
-        assert_eq!(verdict(&file(&m1()), b"A.a1", &mut work), Ok(false));
-        assert_eq!(work[..WORK], [0; WORK]);
-        assert_eq!(work[WORK..], [5; 3]);
-        work[0] = 9;
-        assert_eq!(numerator(&file(&m1()), b"A.=PXa1#0/1;", &[1], 0, &mut work), Ok((4, 4)));
-        assert_eq!(work[..WORK], [0; WORK]);
-        assert_eq!(work[WORK..], [5; 3]);
+    fn a_question_needs_8_numbers_for_each_tuple() {
+        for (n, letters, needs) in
+            [(1, 1, 8), (1, 4, 8), (2, 1, 16), (5, 1, 40), (5, 4, 5_000), (32, 2, ENOUGH)]
+        {
+            let model = file(&still(n, 4));
+            let text = format!("{}.=PXa1#0/1;", "A".repeat(letters)).into_bytes();
+            let tuple = vec![0; letters];
+            let mut work = vec![5; needs + 3];
+            assert_eq!(verdict(&model, &text, &mut work[..needs - 1]), Err(1));
+            assert_eq!(numerator(&model, &text, &tuple, 0, &mut work[..needs - 1]), Err(1));
+            assert_eq!(work, vec![5; needs + 3]);
+            assert_eq!(verdict(&model, &text, &mut work[..needs]), Ok(true));
+            assert_eq!((&work[..needs], &work[needs..]), (&vec![0; needs][..], &[5; 3][..]));
+            work.fill(5);
+            assert_eq!(numerator(&model, &text, &tuple, 0, &mut work), Ok((0, 4)));
+            assert_eq!((&work[..needs], &work[needs..]), (&vec![0; needs][..], &[5; 3][..]));
+        }
     }
 
     #[test]
@@ -909,7 +935,7 @@ mod tests {
         assert_eq!(fraction(&m1(), "PX&a1>PXa2#1/4;", &[1, 0, 1]), (4, 16));
         assert_eq!(fraction(&m1(), "PU0,2:!a1>PXa3#1/4;", &[0, 1, 0]), (64 + 3 * 12, 256));
         let text = b"AAA.=PX&a1>PXa2#1/4;#0/1;";
-        assert_eq!(numerator(&file(&m1()), text, &[0, 0, 0], 1, &mut [0; WORK]), Ok((1, 4)));
+        assert_eq!(numerator(&file(&m1()), text, &[0, 0, 0], 1, &mut [0; ENOUGH]), Ok((1, 4)));
     }
 
     #[test]

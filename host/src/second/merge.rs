@@ -61,7 +61,7 @@ fn merged(model: &Model, groups: &[Vec<usize>]) -> Model {
 
 #[cfg(test)]
 mod tests {
-    use super::super::meaning::numerator;
+    use super::super::meaning::{numerator, ENOUGH};
     use super::super::model::examples::{halted, m1, m2};
     use super::*;
 
@@ -81,7 +81,7 @@ mod tests {
         assert_eq!(small.masks[..2], [0, 1]);
         assert_eq!(small.weights[0][..2], [2, 2]);
         assert_eq!(small.weights[1][..2], [0, 4]);
-        let asked = |file: &[u8]| numerator(file, b"A.=PU0,2:Ta1#0/1;", &[0], 0, &mut [0; 8_192]);
+        let asked = |file: &[u8]| numerator(file, b"A.=PU0,2:Ta1#0/1;", &[0], 0, &mut [0; ENOUGH]);
         assert_eq!(asked(&out[..1_024]), Ok((12, 16)));
         assert_eq!(asked(&file(&m2())), Ok((12, 16)));
     }
