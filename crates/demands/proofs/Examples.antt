@@ -1,9 +1,9 @@
 -- Document 01's starred lines hold: the one statement over the one table; and so do the examples of T-05 and T-09. Assumes nothing.
-use Prim.Native.Nat.{ℕ, _≤_}
+use Prim.Native.Nat.{ℕ, _*_, _^_, _≤_}
 use Prim.Native.String.{String}
 use mathlib.Core.Bool.{Bool, true, false, _&&_, false≢true}
 use mathlib.Core.List.{List, [], _∷_, _++_, map}
-use mathlib.Core.Path.{_≡_, refl}
+use mathlib.Core.Path.{_≡_, refl, ap}
 use native.Mathlib.Omega.{arith}
 use lib.ListN.{length}
 use Rattle.counting.proofs.Laws.{left-of, right-of}
@@ -21,15 +21,17 @@ use Rattle.sentence.specs.Grammar.Nests.{end, node}
 use Rattle.sentence.specs.Working.{sameKind}
 use Rattle.sentence.proofs.Suiting.{same-eq}
 use Rattle.meaning.specs.Lists.{below, every, Each, nothing, further}
+use Rattle.meaning.specs.Chain.{tupleCount}
 use Rattle.meaning.specs.Tree.{Formula, letterOf}
 use Rattle.meaning.specs.Examples.{M1, M2, M2merged, sketched, sameChain, Line, met, lines}
 use Rattle.meaning.proofs.Examples.{examples as meant}
 use Rattle.trees.specs.Listed.{formulaNodes, expressionNodes, pathCount}
 use Rattle.chain.specs.Of.{filledWeight}
+use Rattle.question.specs.Contract.{areaNeeded}
 use Rattle.merge.specs.Examples.{modelOfSketch, MergeMet}
 use Rattle.merge.proofs.Examples.{examples as merged}
 use Rattle.demands.specs.Watches.{Lengthened}
-use Rattle.demands.specs.Examples.{TextOf, SentenceText, Texted, modelOfLine, drawn, Met, M1halted, Halting, Lengthening}
+use Rattle.demands.specs.Examples.{TextOf, SentenceText, Texted, modelOfLine, drawn, Met, M1halted, Halting, Rooms, Lengthening}
 
 -- ---- the document's texts are those of the trees
 
@@ -144,6 +146,17 @@ examples = together lines meant texts merged models
 pub halting : Halting
 unfolding M1halted modelOfSketch fieldsRight rowsRight everyBelow sumBelow table filledWeight sameChain sketched M1 every below
 halting = record { right = refl; chain = refl; row-5 = (refl, refl); row-4 = refl }
+
+-- ---- T-07
+
+pub rooms : Rooms
+unfolding areaNeeded tupleCount sketched M1
+rooms = record {
+  one-state = λ c e. (ap (λ (k : ℕ). 8 * k ^ 1) e, ap (λ (k : ℕ). 8 * k ^ 4) e);
+  five-states = λ c e. (ap (λ (k : ℕ). 8 * k ^ 1) e, ap (λ (k : ℕ). 8 * k ^ 4) e);
+  ten-states = λ c e. (ap (λ (k : ℕ). 8 * k ^ 2) e, ap (λ (k : ℕ). 8 * k ^ 3) e);
+  of-M1 = (refl, refl);
+}
 
 -- ---- T-09
 

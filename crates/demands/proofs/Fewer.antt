@@ -8,8 +8,8 @@ use native.Mathlib.Nat.{pow-zero, zero-mul}
 use native.Mathlib.Omega.{arith}
 use lib.ListN.{length}
 use Rattle.refusal.specs.Answers.{gives}
-use Rattle.refusal.specs.Rows.{Given, by-row, by-none, OneLast}
-use Rattle.refusal.proofs.Ensuring.{right-of, others-free, room-enough, none-at-all}
+use Rattle.refusal.specs.Rows.{Given, by-row, by-none}
+use Rattle.refusal.proofs.Ensuring.{right-of, others-free, none-at-all}
 use Rattle.model.specs.Layout.{fieldsOf}
 use Rattle.model.specs.Contract.{fileRows, fileNumber}
 use Rattle.model.proofs.Theorems.{read-smallest}
@@ -75,13 +75,12 @@ no-row file text none n row = by (ℕ-discrete n 10)
     by (no d) = none n (same row d)
 
 still : {file text before after : List ℕ} {a : Judged.Answer} → VerdictEnsures file text before a after →
-    ((n : ℕ) → OneLast (BaseRow file text) (AreaShort file text (length before)) n → ⊥) →
+    ((n : ℕ) → BaseRow file text n → ⊥) → (AreaShort file text (length before) → ⊥) →
     (s : SentenceOf text) × (verdictReply a ≡ gives (Base.verdict (chainIn file) (map letterOf (s .prefix)) (s .body)))
-still {file} {text} x none =
-    let base = others-free none in
-    let right = right-of (none-at-all (no-row file text base) (room-enough none)) (x .ensured) in
+still {file} {text} x none enough =
+    let right = right-of (none-at-all (no-row file text none) enough) (x .ensured) in
     let s = right .2 .sentence in
-    let ok = accepted-base file text base in
+    let ok = accepted-base file text none in
     let as-was = values-unchanged .verdicts (chainIn file) (sound file ok) (total-some file ok) .verdicts
     (map letterOf (s .prefix)) (s .body) in
     (s, right .1 ∙ ap gives (right .2 .meant ∙ sym as-was))

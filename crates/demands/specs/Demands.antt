@@ -41,7 +41,8 @@ use Rattle.exports.specs.Sentences.{ExportedReadSentence, ExportedWriteSentence
 
 -- ---- Demand 1
 
--- How a call ends, of its rows (`R n` says that the row with the number n applies), what it is lent, its reply and what it leaves:
+-- How a call ends, of its rows (`R n` says that the row with the number n applies; row 1 applies only where no other does), what it is
+-- lent, its reply and what it leaves:
 pub record Ends {A L : Type 0} (R : ℕ → Type 0) (before : L) (reply : Reply A) (after : L) : Type 0 where
   -- in a numbered refusal exactly if its row applies and none with a smaller number,
   pub refusal : (n : ℕ) → (reply ≡ refuses n) ↔ (R n × ((m : ℕ) → R m → n ≤ m))
@@ -184,7 +185,7 @@ pub data Differ (c : Chain) (group : ℕ → ℕ) (M : ℕ) : Type 0 where
 pub record Keeps (file grouping merged : List ℕ) : Type 0 where
   -- a work area that is long enough for the full model is so for the merged one;
   pub room : {text : List ℕ} {room : ℕ} → (AreaShort file text room → ⊥) → AreaShort merged text room → ⊥
-  -- where it is, for every sentence not refused on the full model the verdicts are equal,
+  -- for every sentence not refused on the full model the verdicts are equal, where the second area is long enough for the merged one,
   pub verdicts : {text area area′ left left′ : List ℕ} {a b : Judged.Answer} → (AreaShort merged text (length area′) → ⊥) →
       VerdictEnsures file text area a left →
       ((n : ℕ) → VerdictRow file text (length area) n → ⊥) → VerdictEnsures merged text area′ b left′ → a ≡ b

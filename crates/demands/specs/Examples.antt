@@ -1,4 +1,4 @@
--- Document 01, 'Examples on both sides': all that a starred line claims; and examples of T-05 and T-09. The table of the lines is
+-- Document 01, 'Examples on both sides': all that a starred line claims; and examples of T-05, T-07 and T-09. The table of the lines is
 -- specs/Examples of the crate `meaning`. A line's numbers and verdicts are claims on the definitions of `meaning`, its text is that of the
 -- tree, what it says of merging holds of files (`merge`), and the chain that it speaks of is that of the model's file.
 use Prim.Native.String.{String}
@@ -14,10 +14,11 @@ use Rattle.sentence.specs.declared.Kind.{Kind}
 use Rattle.sentence.specs.declared.Kind.the-variants.{Expression}
 use Rattle.sentence.specs.declared.Node.{Node}
 use Rattle.sentence.specs.Grammar.{Nests, bodyText}
+use Rattle.meaning.specs.Chain.{Chain}
 use Rattle.meaning.specs.Tree.{Letter, Formula, probability, letterOf}
 use Rattle.meaning.specs.Examples.{Sketch, M1, sketched, sameChain, Line, fraction, worth, answer, merges, refusedWith, met}
 use Rattle.trees.specs.Listed.{expressionNodes}
-use Rattle.question.specs.Contract.{SentenceOf}
+use Rattle.question.specs.Contract.{SentenceOf, areaNeeded}
 use Rattle.chain.specs.Of.{chainOf}
 use Rattle.merge.specs.Examples.{modelOfSketch, MergeMet}
 use Rattle.demands.specs.Watches.{Lengthened}
@@ -75,6 +76,15 @@ pub record Halting : Type 0 where
   pub chain : sameChain (chainOf (M1halted 1)) (sketched M1) ≡ true
   pub row-5 : (fieldsRight (M1halted 0) ≡ true) × (rowsRight (M1halted 0) ≡ false)
   pub row-4 : fieldsRight (M1halted 2) ≡ false
+
+-- ---- T-07
+
+-- the numbers of work area that sentences of one, two and more letters need: of a chain with one state, with five, with ten, and of M1
+pub record Rooms : Type 0 where
+  pub one-state : (c : Chain) → c .N ≡ 1 → (areaNeeded c 1 ≡ 8) × (areaNeeded c 4 ≡ 8)
+  pub five-states : (c : Chain) → c .N ≡ 5 → (areaNeeded c 1 ≡ 40) × (areaNeeded c 4 ≡ 5000)
+  pub ten-states : (c : Chain) → c .N ≡ 10 → (areaNeeded c 2 ≡ 800) × (areaNeeded c 3 ≡ 8000)
+  pub of-M1 : (areaNeeded (sketched M1) 1 ≡ 16) × (areaNeeded (sketched M1) 2 ≡ 32)
 
 -- ---- T-09
 

@@ -4,7 +4,6 @@ use mathlib.Core.Bool.{Bool, true}
 use mathlib.Core.List.{List, map}
 use mathlib.Core.Path.{_≡_}
 use lib.ListN.{length}
-use Rattle.refusal.specs.Rows.{OneLast}
 use Rattle.refusal.specs.Answers.{gives}
 use Rattle.model.specs.Layout.{fieldsOf}
 use Rattle.model.specs.Contract.{fileNumber}
@@ -28,7 +27,7 @@ pub record SameFraction (c : Chain) (p : PathFormula) (n : ℕ) (tuple : Tuple) 
   pub numerators : Base.numerator p c n tuple ≡ top * shrunk p (c .D) n
   pub denominators : Base.denominator p (c .D) n ≡ bottom * shrunk p (c .D) n
 
--- the rows of a question before T-02: the same but for row 10, which went by the denominators of all n variables
+-- the rows but row 1 of a question before T-02: the same but for row 10, which went by the denominators of all n variables
 pub data BaseRow (file text : List ℕ) : ℕ → Type 0 where
   same : {n : ℕ} → QuestionRow file text n → (n ≡ 10 → ⊥) → BaseRow file text n
   size : {ps : List Bool} (f : Formula) → Spells ps (formulaNodes f) text → Base.exceeds f (fieldsOf file .d) (length ps) ≡ true →
@@ -40,7 +39,7 @@ pub record FewerVariables : Type 0 where
   pub values : (file : List ℕ) → fileNumber file ≡ 0 → (n : ℕ) → Unchanged (chainIn file) n
   -- every verdict that was given is still given, where the work area is long enough;
   pub still-given : {file text before after : List ℕ} {a : Judged.Answer} → VerdictEnsures file text before a after →
-      ((n : ℕ) → OneLast (BaseRow file text) (AreaShort file text (length before)) n → ⊥) →
+      ((n : ℕ) → BaseRow file text n → ⊥) → (AreaShort file text (length before) → ⊥) →
       (s : SentenceOf text) × (verdictReply a ≡ gives (Base.verdict (chainIn file) (map letterOf (s .prefix)) (s .body)))
   -- the two numbers of numerator, times one power of D, are the base's;
   pub fractions : {file text tuple before after : List ℕ} {path : ℕ} {a : Counted.Answer} →

@@ -5,19 +5,14 @@ use mathlib.Core.Logic.{_↔_}
 use mathlib.Core.Path.{_≡_}
 use lib.ListN.{length, getD}
 use Rattle.refusal.specs.Answers.{Reply, gives, refuses}
-use Rattle.question.specs.Contract.{QuestionRow, SentenceOf, areaNeeded, AreaShort}
+use Rattle.question.specs.Contract.{QuestionRow, SentenceOf, needed, AreaShort}
 use Rattle.verdict.specs.declared.Answer as Judged
 use Rattle.verdict.specs.Contract.{VerdictEnsures, verdictReply}
 use Rattle.numerator.specs.declared.Answer as Counted
 use Rattle.numerator.specs.Contract.{AskedRow, NumeratorEnsures, numeratorReply}
-use Rattle.demands.specs.Demands.{chainIn}
-
--- 8 × T, of a file and the sentence of a text
-abbrev pub needed : List ℕ → {text : List ℕ} → SentenceOf text → ℕ
-needed file s = areaNeeded (chainIn file) (length (s .prefix))
 
 -- How a call ends by its work area, of its rows but row 1 (`R n` says that the row with the number n applies), the area before, its reply
--- and the area after:
+-- and the area after; `needed` is 8 × T:
 pub record RoomBy {A : Type 0} (R : ℕ → Type 0) (file text before : List ℕ) (reply : Reply A) (after : List ℕ) : Type 0 where
   -- in refusal 1 exactly if no other row applies and the area is shorter than 8 × T,
   pub one : (reply ≡ refuses 1) ↔ (((n : ℕ) → R n → ⊥) × (s : SentenceOf text) × (length before < needed file s))

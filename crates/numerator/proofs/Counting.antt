@@ -1,4 +1,4 @@
--- The path formula's numerators, of a model, a sentence, a tuple and a number to which no row applies.
+-- The path formula's numerators, of a model, a sentence, a tuple and a number to which no row but 1 applies.
 use Prim.Native.Nat.{ℕ, _^_, _<_}
 use mathlib.Core.List.{List}
 use mathlib.Core.Path.{_≡_, sym, ap, ap₂, subst, _∙_}

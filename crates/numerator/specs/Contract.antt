@@ -13,7 +13,7 @@ use Rattle.meaning.specs.Meaning.{numerator, denominator}
 use Rattle.trees.specs.Listed.{formulaNodes}
 use Rattle.chain.specs.Of.{chainOf}
 use Rattle.paths.specs.Tuples.{membersBelow}
-use Rattle.question.specs.Contract.{QuestionRow, SentenceOf, areaNeeded, AreaShort, cleared}
+use Rattle.question.specs.Contract.{QuestionRow, SentenceOf, needed, AreaShort, cleared}
 use Rattle.numerator.specs.declared.Answer.{Answer}
 use Rattle.numerator.specs.declared.Answer.the-variants.{Counted, Refused}
 
@@ -46,7 +46,7 @@ pub record Counts (file text tuple : List ℕ) (path : ℕ) (before : List ℕ) 
   pub sentence : SentenceOf text
   pub top : values .0 ≡ numerator (numbered (sentence .body) path) (chainOf (fieldsOf file)) (length (sentence .prefix)) tuple
   pub bottom : values .1 ≡ denominator (numbered (sentence .body) path) (fieldsOf file .d) (length (sentence .prefix))
-  pub left : after ≡ cleared (areaNeeded (chainOf (fieldsOf file)) (length (sentence .prefix))) before
+  pub left : after ≡ cleared (needed file sentence) before
 
 -- what numerator ensures of the model file, the sentence text, the tuple, the path formula's number, the work area before and
 -- after, and what it answers

@@ -1,13 +1,17 @@
 -- The work area after an answer.
 use Prim.Native.Nat.{ℕ, _+_, _-_, _≤_, _<_}
+use mathlib.Core.Bool.{Bool}
 use mathlib.Core.List.{List, _++_}
 use mathlib.Core.Path.{_≡_, sym, ap, ap₂, _∙_}
 use native.Mathlib.Omega.{arith}
 use lib.ListN.{length, getD, take, drop, replicate, take-append-drop, length-replicate, getD-replicate, length-append, length-drop}
 use lib.ListN.{List·getD-append}
 use lib.Seq.{ext-getD, getD-take, getD-drop, getD-append-add, length-take-le, drop-append-seam}
+use Rattle.model.specs.Layout.{fieldsOf}
 use Rattle.layers.specs.Layers.{WrittenFront}
-use Rattle.question.specs.Contract.{cleared}
+use Rattle.trees.proofs.Once.{sentence-once}
+use Rattle.chain.specs.Of.{chainOf}
+use Rattle.question.specs.Contract.{SentenceOf, areaNeeded, needed, cleared}
 
 -- the area that was lent of it is as long as before, and so is the whole
 pub back-long : {n : ℕ} (w area : List ℕ) → n ≤ length w → length area ≡ n → length (area ++ drop n w) ≡ length w
@@ -35,6 +39,14 @@ cleared-so {n} {after} w area room long zeros =
 
     back : drop n after ≡ drop n w
     back = zeros .kept .rest ∙ ap (λ (k : ℕ). drop k (area ++ drop n w)) (sym long) ∙ drop-append-seam area (drop n w)
+
+-- it is the same for whichever sentence of the text
+pub cleared-once : (file before : List ℕ) {text after : List ℕ} (s t : SentenceOf text) → after ≡ cleared (needed file s) before →
+    after ≡ cleared (needed file t) before
+cleared-once file before s t e =
+    e ∙
+    ap (λ (ps : List Bool). cleared (areaNeeded (chainOf (fieldsOf file)) (length ps)) before)
+    (sentence-once (s .body) (t .body) (s .spelled) (t .spelled) .0)
 
 -- what stands in a cleared area: zeros, then what stood there, as many numbers as before
 module _ {n : ℕ} (w : List ℕ) where

@@ -1,4 +1,4 @@
--- A question to which no row applies: the model and the sentence that were read are ready for evaluation.
+-- A file and a text to which none of the question's rows applies: the model and the sentence that were read are ready for evaluation.
 use Prim.Native.Nat.{ℕ, zero, suc, _*_, _^_, _≤_, _<_}
 use mathlib.Core.Bool.{Bool, true, false}
 use mathlib.Core.List.{List}
@@ -31,7 +31,7 @@ use Rattle.chain.specs.Of.{chainOf, filledRows}
 use Rattle.chain.proofs.Filling.{filled-cell}
 use Rattle.chain.proofs.Accepted as accepted
 use Rattle.question.specs.declared.Question.{Question}
-use Rattle.question.specs.Contract.{QuestionRow, model, sentence, size, tuples, SentenceOf, areaNeeded, AreaShort}
+use Rattle.question.specs.Contract.{QuestionRow, model, sentence, size, tuples, SentenceOf, areaNeeded, needed, AreaShort}
 use Rattle.question.specs.Working.{FileOfModel, TextOfSentence, Ready, Answerable, SettingOf}
 use Rattle.question.proofs.Numbers.{least-model}
 use Rattle.question.proofs.Early.{file-read, text-read}
@@ -91,7 +91,7 @@ module _ {file text : List ℕ} (none : (n : ℕ) → QuestionRow file text n �
 -- a question to which no row applies
 module _ {file text : List ℕ} {q : Question} (y : Answerable file text q) where
   -- the numbers that it needs are those that its text's sentence needs on its file's chain
-  pub area-is : (s : SentenceOf text) → q .area ≡ areaNeeded (chainOf (fieldsOf file)) (length (s .prefix))
+  pub area-is : (s : SentenceOf text) → q .area ≡ needed file s
   area-is s =
       y .area ∙
       ap₂ (λ (x : Model) (k : ℕ). areaNeeded (chainOf x) k) (y .model .fields)

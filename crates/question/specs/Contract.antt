@@ -60,10 +60,14 @@ pub record SentenceOf (text : List ℕ) : Type 0 where
 unfoldable pub areaNeeded : Chain → ℕ → ℕ
 areaNeeded c n = 8 * tupleCount c n
 
+-- the same of the sentence of a text, on the chain of a file
+abbrev pub needed : List ℕ → {text : List ℕ} → SentenceOf text → ℕ
+needed file s = areaNeeded (chainOf (fieldsOf file)) (length (s .prefix))
+
 -- what row 1 is given for: the work area, of `room` numbers, is shorter than the text's sentence needs on the file's chain
 pub record AreaShort (file text : List ℕ) (room : ℕ) : Type 0 where
   pub sentence : SentenceOf text
-  pub short : room < areaNeeded (chainOf (fieldsOf file)) (length (sentence .prefix))
+  pub short : room < needed file sentence
 
 -- after an answer the first n numbers of the work area are zero, the others unchanged
 unfoldable pub cleared : ℕ → List ℕ → List ℕ

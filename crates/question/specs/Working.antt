@@ -56,7 +56,7 @@ pub record BothAnswered (m : Loaded.ModelRead) (s : Parsed.SentenceRead) : Type 
 pub record FirstNumber (m : Loaded.ModelRead) (s : Parsed.SentenceRead) (number : ℕ) : Type 0 where
   pub each : (file text : List ℕ) → ReadModelEnsures file m → ReadSentenceEnsures text s → Decided (QuestionRow file text) number
 
--- no row applies to the pair
+-- none of the question's rows applies to the pair
 pub record Ready (m : Model) (s : Sentence) : Type 0 where
   pub read : BothRead m s
   pub small : exceeds (read .sentence .body) (m .d) (s .letters) ≡ false

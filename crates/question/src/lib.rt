@@ -1,5 +1,5 @@
 // A question: a model file, a sentence text and a work area. The rows 2 to 11 of document 01, which verdict and numerator
-// share, how much of the work area a pair needs to which none applies, and what both make of it.
+// share, how much of the work area is needed where none of them applies, and the setting that such a pair is evaluated in.
 ghost use mathlib.Core.Path.{_≡_};
 ghost use Prim.Native.Nat.{_^_, _≤_};
 ghost use lib.ListN.{take};
@@ -115,7 +115,7 @@ fn first_number(m: ModelRead, s: SentenceRead) -> u8
     late_number(model, sentence)
 }
 
-// How many numbers of the work area a pair needs to which no row applies: 8 × T.
+// How many numbers of the work area a pair needs to which none of the rows applies: 8 × T.
 fn area_needed(m: Model, s: Sentence) -> usize
     requires { ⌜ Ready m s ⌝ }
     ensures { λ r. ⌜ r ≡ areaNeeded (chainOf m) (s .letters) ⌝ }
@@ -157,7 +157,7 @@ pub fn question_of(file: &[u8], text: &[u8]) -> Question
     }
 }
 
-// N, n, T and D of a pair to which no row applies.
+// N, n, T and D of such a pair.
 pub fn setting_of(m: Model, s: Sentence) -> Setting
     requires { ⌜ Ready m s ⌝ }
     ensures { λ r. ⌜ SettingOf m s r ⌝ }

@@ -44,22 +44,22 @@ module _ {A L : Type 0} {R : ℕ → Type 0} {Right : A → L → Type 0} {befor
 -- the rows of a call whose row 1 comes last
 module _ {R : ℕ → Type 0} {Short : Type 0} where
   -- another row goes before it
+  pub others-least : {n : ℕ} → R n → ((m : ℕ) → R m → n ≤ m) → (m : ℕ) → OneLast R Short m → n ≤ m
+  others-least row least m (other r) = least m r
+  others-least {n} row least m (no-other none short) = absurd (none n row)
+
   pub others-first : {n : ℕ} → Decided R n → 0 < n → Decided (OneLast R Short) n
-  others-first {n} (smallest row least) some = smallest (other row) from
-    where
-      from : (m : ℕ) → OneLast R Short m → n ≤ m
-      from m (other r) = least m r
-      from m (no-other none short) = absurd (none n row)
+  others-first (smallest row least) some = smallest (other row) (others-least row least)
   others-first (by-none none) some = absurd (omega arith)
 
   module _ (none : (n : ℕ) → R n → ⊥) where
     -- where no other applies, it does if there is too little room,
+    pub one-least : (m : ℕ) → OneLast R Short m → 1 ≤ m
+    one-least m (other r) = absurd (none m r)
+    one-least m (no-other none′ short) = omega arith
+
     pub one-decided : Short → Decided (OneLast R Short) 1
-    one-decided short = smallest (no-other none short) from
-      where
-        from : (m : ℕ) → OneLast R Short m → 1 ≤ m
-        from m (other r) = absurd (none m r)
-        from m (no-other none′ short′) = omega arith
+    one-decided short = smallest (no-other none short) one-least
 
     -- and else none does
     pub none-at-all : (Short → ⊥) → (m : ℕ) → OneLast R Short m → ⊥

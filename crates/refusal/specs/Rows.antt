@@ -41,8 +41,9 @@ pub data Decided (R : ℕ → Type 0) : ℕ → Type 0 where
 abbrev pub Given : List Row → ℕ → Type 0
 Given rows = Decided (λ n. Applies n rows)
 
--- The rows of a call that asks for room by the model (document 02, T-07): the smallest number that applies, but 1 only where no other
--- applies. `R n` says that another row, with the number n, applies, `Short` what row 1 is given for.
+-- The rows of a call that asks for room by the model (document 02, T-07): its other rows as they are, and row 1 only where none of them
+-- applies. `R n` says that the other row with the number n applies, `Short` is what row 1 is given for. So the smallest number that
+-- applies is 1 only where no other number does.
 pub data OneLast (R : ℕ → Type 0) (Short : Type 0) : ℕ → Type 0 where
   other : {n : ℕ} → R n → OneLast R Short n
   no-other : ((m : ℕ) → R m → ⊥) → Short → OneLast R Short 1

@@ -1,4 +1,4 @@
--- Evaluation and descent, of a model and a sentence to which no row applies.
+-- Evaluation and descent, of a model and a sentence to which none of the question's rows applies.
 use Prim.Native.Nat.{ℕ, _-_, _^_}
 use mathlib.Core.Bool.{Bool}
 use mathlib.Core.List.{List, map}

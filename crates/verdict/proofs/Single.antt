@@ -13,8 +13,8 @@ use Rattle.meaning.specs.Tree.{Formula, letterOf}
 use Rattle.meaning.specs.Meaning.{verdict}
 use Rattle.trees.proofs.Once.{sentence-once}
 use Rattle.chain.specs.Of.{chainOf}
-use Rattle.question.specs.Contract.{areaNeeded, cleared}
 use Rattle.question.proofs.Numbers.{row-few}
+use Rattle.question.proofs.Cleared.{cleared-once}
 use Rattle.verdict.specs.declared.Answer.{Answer}
 use Rattle.verdict.specs.declared.Answer.the-variants.{Holds, Fails, Refused}
 use Rattle.verdict.specs.Contract.{verdictReply, VerdictRow, Judges, VerdictEnsures}
@@ -31,14 +31,19 @@ reply-told (Refused n) Holds e = let z : _≡_ {A = ℕ} 0 1 = cc in absurd (ome
 reply-told (Refused n) Fails e = let z : _≡_ {A = ℕ} 0 1 = cc in absurd (omega arith)
 reply-told (Refused n) (Refused m) e = ap Refused (cc e)
 
+-- the right verdict is one, whatever the area
+pub one-value : {file text before before′ : List ℕ} (v v′ : Bool) (l l′ : List ℕ) → Judges file text before v l →
+    Judges file text before′ v′ l′ → v ≡ v′
+one-value {file} v v′ l l′ j j′ =
+    let one = sentence-once (j .sentence .body) (j′ .sentence .body) (j .sentence .spelled) (j′ .sentence .spelled) in
+    let same = ap₂ (λ (ps : List Bool) (h : Formula). verdict (chainOf (fieldsOf file)) (map letterOf ps) h) (one .0) (one .1) in
+    j .meant ∙ same ∙ sym (j′ .meant)
+
 -- what is right is one
 one-right : {file text before : List ℕ} (v v′ : Bool) (l l′ : List ℕ) → Judges file text before v l → Judges file text before v′ l′ →
     (v ≡ v′) × (l ≡ l′)
 one-right {file} {before = before} v v′ l l′ j j′ =
-    let one = sentence-once (j .sentence .body) (j′ .sentence .body) (j .sentence .spelled) (j′ .sentence .spelled) in
-    let same = ap₂ (λ (ps : List Bool) (h : Formula). verdict (chainOf (fieldsOf file)) (map letterOf ps) h) (one .0) (one .1) in
-    let area = ap (λ (ps : List Bool). cleared (areaNeeded (chainOf (fieldsOf file)) (length ps)) before) (one .0) in
-    (j .meant ∙ same ∙ sym (j′ .meant), j .left ∙ area ∙ sym (j′ .left))
+    (one-value v v′ l l′ j j′, cleared-once file before (j .sentence) (j′ .sentence) (j .left) ∙ sym (j′ .left))
 
 -- any two results that the contract allows are equal
 pub one-verdict : {file text before after after′ : List ℕ} {a b : Answer} → VerdictEnsures file text before a after →

@@ -10,7 +10,7 @@ use Rattle.model.specs.Layout.{fieldsOf}
 use Rattle.meaning.specs.Tree.{letterOf}
 use Rattle.meaning.specs.Meaning.{verdict}
 use Rattle.chain.specs.Of.{chainOf}
-use Rattle.question.specs.Contract.{QuestionRow, SentenceOf, areaNeeded, AreaShort, cleared}
+use Rattle.question.specs.Contract.{QuestionRow, SentenceOf, needed, AreaShort, cleared}
 use Rattle.verdict.specs.declared.Answer.{Answer}
 use Rattle.verdict.specs.declared.Answer.the-variants.{Holds, Fails, Refused}
 
@@ -28,7 +28,7 @@ VerdictRow file text room = OneLast (QuestionRow file text) (AreaShort file text
 pub record Judges (file text before : List ℕ) (holds : Bool) (after : List ℕ) : Type 0 where
   pub sentence : SentenceOf text
   pub meant : holds ≡ verdict (chainOf (fieldsOf file)) (map letterOf (sentence .prefix)) (sentence .body)
-  pub left : after ≡ cleared (areaNeeded (chainOf (fieldsOf file)) (length (sentence .prefix))) before
+  pub left : after ≡ cleared (needed file sentence) before
 
 -- what verdict ensures of the model file, the sentence text, the work area before and after, and what it answers
 pub record VerdictEnsures (file text before : List ℕ) (answer : Answer) (after : List ℕ) : Type 0 where
