@@ -55,18 +55,18 @@ module _ (file grouping merged : List ℕ) (accepted : fileNumber merged ≡ 0)
   question-free : {text : List ℕ} → ((n : ℕ) → QuestionRow file text n → ⊥) → (n : ℕ) → QuestionRow merged text n → ⊥
   question-free none n (model a) = none-of-file merged accepted a
   question-free none n (sentence r) = none n (sentence r)
-  question-free none n (labels f s e) =
-      none 9 (labels f s (ap (λ (a : ℕ). every (labelRight a) (formulaNodes f)) (sym (kept .labels)) ∙ e))
-  question-free none n (size {ps} f s e) = by (exceeds f (fieldsOf file .d) (length ps)) refl
+  question-free none n (labels s e) =
+      none 9 (labels s (ap (λ (a : ℕ). every (labelRight a) (formulaNodes (s .body))) (sym (kept .labels)) ∙ e))
+  question-free none n (size s e) = by (exceeds (s .body) (fieldsOf file .d) (length (s .prefix))) refl
     where
-      by : (t : Bool) → exceeds f (fieldsOf file .d) (length ps) ≡ t → ⊥
-      by true p = none 10 (size f s p)
-      by false p = true≢false (sym e ∙ kept .sizes f (length ps) p)
-  question-free none n (tuples {ps} f s e) = by (decLt 1024 (tupleCount (chainIn file) (length ps)))
+      by : (t : Bool) → exceeds (s .body) (fieldsOf file .d) (length (s .prefix)) ≡ t → ⊥
+      by true p = none 10 (size s p)
+      by false p = true≢false (sym e ∙ kept .sizes (s .body) (length (s .prefix)) p)
+  question-free none n (tuples s e) = by (decLt 1024 (tupleCount (chainIn file) (length (s .prefix))))
     where
-      by : Dec (1024 < tupleCount (chainIn file) (length ps)) → ⊥
-      by (yes h) = none 11 (tuples f s h)
-      by (no h) = let few = kept .tuples (length ps) in omega (arith, few, e)
+      by : Dec (1024 < tupleCount (chainIn file) (length (s .prefix))) → ⊥
+      by (yes h) = none 11 (tuples s h)
+      by (no h) = let few = kept .tuples (length (s .prefix)) in omega (arith, few, e)
 
   -- and a work area that is long enough stays so
   room-kept : {text : List ℕ} {room : ℕ} → (AreaShort file text room → ⊥) → AreaShort merged text room → ⊥
@@ -94,11 +94,11 @@ module _ (file grouping merged : List ℕ) (accepted : fileNumber merged ≡ 0)
   asked-free : {text tuple : List ℕ} {path : ℕ} → ((n : ℕ) → AskedRow file text tuple path n → ⊥) →
       (n : ℕ) → AskedRow merged text (map (groupOf grouping) tuple) path n → ⊥
   asked-free none n (question r) = question-free (λ n r. none n (question r)) n r
-  asked-free {tuple = tuple} none n (long f s e) = none 15 (long f s (λ x. e (length-map tuple (groupOf grouping) ∙ x)))
+  asked-free {tuple = tuple} none n (long s e) = none 15 (long s (λ x. e (length-map tuple (groupOf grouping) ∙ x)))
   asked-free {tuple = tuple} none n (member e) =
       let inside = members-inside (fieldsOf file .n) tuple (members none) in
       true≢false (sym (inside-members (kept .inside (length tuple) tuple inside)) ∙ e)
-  asked-free none n (missing f s e) = none 15 (missing f s e)
+  asked-free none n (missing s e) = none 15 (missing s e)
 
   numerators : {text tuple before before′ after after′ : List ℕ} {path : ℕ} {a b : Counted.Answer} →
       (AreaShort merged text (length before′) → ⊥) →

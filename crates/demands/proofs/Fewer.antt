@@ -13,9 +13,8 @@ use Rattle.refusal.proofs.Ensuring.{right-of, others-free, none-at-all}
 use Rattle.model.specs.Layout.{fieldsOf}
 use Rattle.model.specs.Contract.{fileRows, fileNumber}
 use Rattle.model.proofs.Theorems.{read-smallest}
-use Rattle.sentence.specs.Grammar.{Spells}
 use Rattle.meaning.specs.Chain.{Chain, Tuple, Inside}
-use Rattle.meaning.specs.Tree.{Formula, PathFormula, letterOf}
+use Rattle.meaning.specs.Tree.{PathFormula, letterOf}
 use Rattle.meaning.specs.Named.{v}
 use Rattle.meaning.specs.Meaning.{stepsOf, numerator, denominator}
 use Rattle.meaning.specs.Size.{exceeds}
@@ -23,7 +22,6 @@ use Rattle.meaning.proofs.Steps.{numerator-le, denominator-steps}
 use Rattle.unchanged.specs.Base as Base
 use Rattle.unchanged.specs.Unchanged.{shrunk, Unchanged}
 use Rattle.unchanged.proofs.Unchanged.{values-unchanged}
-use Rattle.trees.specs.Listed.{formulaNodes}
 use Rattle.chain.proofs.Accepted.{sound, total-some}
 use Rattle.question.specs.Contract.{QuestionRow, model, sentence, labels, size, tuples, SentenceOf, AreaShort}
 use Rattle.question.proofs.Numbers.{file-number, text-number}
@@ -50,13 +48,14 @@ accepted-base file text none = by (read-smallest file)
     by (by-none free) = refl
 
 -- the body is not too large for row 10,
-fits-base : (file text : List ℕ) → ((n : ℕ) → BaseRow file text n → ⊥) → {ps : List Bool} (f : Formula) →
-    Spells ps (formulaNodes f) text → exceeds f (fieldsOf file .d) (length ps) ≡ false
-fits-base file text none {ps} f sp =
-    unchanged file (accepted-base file text none) (length ps) .answered f (by (Base.exceeds f (fieldsOf file .d) (length ps)) refl)
+fits-base : (file text : List ℕ) → ((n : ℕ) → BaseRow file text n → ⊥) → (s : SentenceOf text) →
+    exceeds (s .body) (fieldsOf file .d) (length (s .prefix)) ≡ false
+fits-base file text none s =
+    let n = length (s .prefix) in
+    unchanged file (accepted-base file text none) n .answered (s .body) (by (Base.exceeds (s .body) (fieldsOf file .d) n) refl)
   where
-    by : (b : Bool) → Base.exceeds f (fieldsOf file .d) (length ps) ≡ b → b ≡ false
-    by true e = absurd (none 10 (Said.size f sp e))
+    by : (b : Bool) → Base.exceeds (s .body) (fieldsOf file .d) (length (s .prefix)) ≡ b → b ≡ false
+    by true e = absurd (none 10 (Said.size s e))
     by false e = refl
 
 -- and so no row applies
@@ -66,9 +65,9 @@ no-row file text none n row = by (ℕ-discrete n 10)
     ten : {n : ℕ} → QuestionRow file text n → n ≡ 10 → ⊥
     ten (model r) e = let m = file-number file r in omega arith
     ten (sentence r) e = let m = text-number r in omega arith
-    ten (labels f sp x) e = omega arith
-    ten (size f sp x) e = true≢false (sym x ∙ fits-base file text none f sp)
-    ten (tuples f sp x) e = omega arith
+    ten (labels s x) e = omega arith
+    ten (size s x) e = true≢false (sym x ∙ fits-base file text none s)
+    ten (tuples s x) e = omega arith
 
     by : Dec (n ≡ 10) → ⊥
     by (yes e) = ten row e

@@ -41,7 +41,7 @@ module _ {file text tuple : List ℕ} {path : ℕ} (none : (n : ℕ) → AskedRo
     where
       by : (t : Bool) → eqb (length tuple) (length (s .prefix)) ≡ t → length tuple ≡ length (s .prefix)
       by true e = eqb-true _ _ e
-      by false e = absurd (none 15 (long (s .body) (s .spelled) (eqb-false _ _ e)))
+      by false e = absurd (none 15 (long s (eqb-false _ _ e)))
 
   -- so it is a tuple of n states
   pub tuple-inside : (s : SentenceOf text) → Inside (fieldsOf file .n) (length (s .prefix)) tuple

@@ -77,9 +77,9 @@ question-not-one r = let some = row-two r in omega (arith, some)
 
 asked-not-one : {file text tuple : List ℕ} {path n : ℕ} → AskedRow file text tuple path n → n ≡ 1 → ⊥
 asked-not-one {n = n} (question r) e = let some = row-two r in omega (arith, some, e)
-asked-not-one (long f s x) e = omega arith
+asked-not-one (long s x) e = omega arith
 asked-not-one (member x) e = omega arith
-asked-not-one (missing f s x) e = omega arith
+asked-not-one (missing s x) e = omega arith
 
 verdict-room : {file text before after : List ℕ} {a : Judged.Answer} → VerdictEnsures file text before a after →
     RoomBy (QuestionRow file text) file text before (verdictReply a) after

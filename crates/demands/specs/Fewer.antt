@@ -1,20 +1,18 @@
 -- T-02 of document 02, variables that a path never looks at: of the calls, beside the meaning in which all n variables step.
 use Prim.Native.Nat.{ℕ, _*_, _≤_}
-use mathlib.Core.Bool.{Bool, true}
+use mathlib.Core.Bool.{true}
 use mathlib.Core.List.{List, map}
 use mathlib.Core.Path.{_≡_}
 use lib.ListN.{length}
 use Rattle.refusal.specs.Answers.{gives}
 use Rattle.model.specs.Layout.{fieldsOf}
 use Rattle.model.specs.Contract.{fileNumber}
-use Rattle.sentence.specs.Grammar.{Spells}
 use Rattle.meaning.specs.Chain.{Chain, Tuple, Inside}
-use Rattle.meaning.specs.Tree.{Formula, PathFormula, letterOf}
+use Rattle.meaning.specs.Tree.{PathFormula, letterOf}
 use Rattle.meaning.specs.Named.{v}
 use Rattle.meaning.specs.Meaning.{numerator, denominator}
 use Rattle.unchanged.specs.Base as Base
 use Rattle.unchanged.specs.Unchanged.{shrunk, Unchanged}
-use Rattle.trees.specs.Listed.{formulaNodes}
 use Rattle.question.specs.Contract.{QuestionRow, SentenceOf, AreaShort}
 use Rattle.verdict.specs.declared.Answer as Judged
 use Rattle.verdict.specs.Contract.{VerdictEnsures, verdictReply}
@@ -30,8 +28,7 @@ pub record SameFraction (c : Chain) (p : PathFormula) (n : ℕ) (tuple : Tuple) 
 -- the rows but row 1 of a question before T-02: the same but for row 10, which went by the denominators of all n variables
 pub data BaseRow (file text : List ℕ) : ℕ → Type 0 where
   same : {n : ℕ} → QuestionRow file text n → (n ≡ 10 → ⊥) → BaseRow file text n
-  size : {ps : List Bool} (f : Formula) → Spells ps (formulaNodes f) text → Base.exceeds f (fieldsOf file .d) (length ps) ≡ true →
-      BaseRow file text 10
+  size : (s : SentenceOf text) → Base.exceeds (s .body) (fieldsOf file .d) (length (s .prefix)) ≡ true → BaseRow file text 10
 
 -- Of whatever verdict and numerator answer, beside the meaning over all n variables (`Base`):
 pub record FewerVariables : Type 0 where

@@ -19,9 +19,9 @@ use Rattle.question.specs.declared.Question.{Question}
 use Rattle.question.specs.Contract.{QuestionRow, cleared}
 use Rattle.question.specs.Working.{Answerable}
 use Rattle.question.proofs.Numbers.{row-few}
-use Rattle.question.proofs.Pair.{letters-length}
+use Rattle.question.proofs.Pair.{letters-length, own-sentence}
 use Rattle.question.proofs.Stages.{one}
-use Rattle.question.proofs.Settled.{own-sentence, area-is, area-short, area-enough}
+use Rattle.question.proofs.Settled.{area-is, area-short, area-enough}
 use Rattle.numerator.specs.declared.Answer.the-variants.{Counted, Refused}
 use Rattle.numerator.specs.declared.Ratio.{Ratio}
 use Rattle.numerator.specs.Contract.{numbered, AskedRow, question, long, member, missing, NumeratorEnsures}
@@ -37,9 +37,9 @@ module _ {file text tuple : List ℕ} {number : ℕ} where
     where
       from : (k : ℕ) → AskedRow file text tuple number k → n ≤ k
       from k (question r) = least k r
-      from k (long f s e) = let few = row-few row in omega arith
+      from k (long s e) = let few = row-few row in omega arith
       from k (member e) = let few = row-few row in omega arith
-      from k (missing f s e) = let few = row-few row in omega arith
+      from k (missing s e) = let few = row-few row in omega arith
   refused-so (by-none none) h = absurd (omega arith)
 
   module _ (before : List ℕ) {q : Question} (y : Answerable file text q) where
@@ -52,24 +52,24 @@ module _ {file text tuple : List ℕ} {number : ℕ} where
       where
         row : (t u : Bool) → eqb (length tuple) (q .sentence .letters) ≡ t → membersBelow (q .model .n) tuple ≡ u →
             ((t && u) && ltb number (length (pathsOf (y .sentence .body)))) ≡ false → AskedRow file text tuple number 15
-        row false u l w h = long (y .sentence .body) (y .sentence .spelled) (λ x. eqb-false _ _ l (x ∙ sym (letters-length (y .sentence))))
+        row false u l w h = long (own-sentence (y .sentence)) (λ x. eqb-false _ _ l (x ∙ sym (letters-length (y .sentence))))
         row true false l w h = member (ap (λ (x : Model). membersBelow (x .n) tuple) (sym (y .model .fields)) ∙ w)
-        row true true l w h = missing (y .sentence .body) (y .sentence .spelled) (ltb-false _ _ h)
+        row true true l w h = missing (own-sentence (y .sentence)) (ltb-false _ _ h)
 
         from : (k : ℕ) → AskedRow file text tuple number k → 15 ≤ k
         from k (question r) = absurd (y .none k r)
-        from k (long f s e) = omega arith
+        from k (long s e) = omega arith
         from k (member e) = omega arith
-        from k (missing f s e) = omega arith
+        from k (missing s e) = omega arith
 
     module _ (parts : RightParts (q .model) (q .sentence) (y .sentence .body) tuple number) where
       free : (k : ℕ) → AskedRow file text tuple number k → ⊥
       free k (question r) = y .none k r
-      free k (long f sp e) = e (parts .long ∙ letters-length (y .sentence) ∙ ap length (sym (one (y .model) (y .sentence) f sp .0)))
+      free k (long s e) = e (parts .long ∙ letters-length (y .sentence) ∙ ap length (sym (one (y .model) (y .sentence) s .0)))
       free k (member e) = true≢false (sym (parts .members) ∙ ap (λ (x : Model). membersBelow (x .n) tuple) (y .model .fields) ∙ e)
-      free k (missing f sp e) =
+      free k (missing s e) =
           let low = parts .there in
-          let same : length (pathsOf f) ≡ length (pathsOf (y .sentence .body)) = ap (λ (x : Formula). length (pathsOf x)) (one (y .model) (y .sentence) f sp .1) in
+          let same = ap (λ (x : Formula). length (pathsOf x)) (one (y .model) (y .sentence) s .1) in
           omega (arith, low, same, e)
 
       -- a refusal because of the area

@@ -1,16 +1,14 @@
 -- Document 01, 'Calls and refusal numbers', for numerator: its rows, and what the call answers and leaves.
 use Prim.Native.Nat.{ℕ, _≤_}
-use mathlib.Core.Bool.{Bool, false}
+use mathlib.Core.Bool.{false}
 use mathlib.Core.List.{List}
 use mathlib.Core.Path.{_≡_}
 use lib.ListN.{length, getD}
 use Rattle.refusal.specs.Rows.{OneLast}
 use Rattle.refusal.specs.Answers.{Reply, gives, refuses, Ensured}
 use Rattle.model.specs.Layout.{fieldsOf}
-use Rattle.sentence.specs.Grammar.{Spells}
 use Rattle.meaning.specs.Tree.{Formula, always, PathFormula, next, pathsOf}
 use Rattle.meaning.specs.Meaning.{numerator, denominator}
-use Rattle.trees.specs.Listed.{formulaNodes}
 use Rattle.chain.specs.Of.{chainOf}
 use Rattle.paths.specs.Tuples.{membersBelow}
 use Rattle.question.specs.Contract.{QuestionRow, SentenceOf, needed, AreaShort, cleared}
@@ -30,11 +28,9 @@ numbered f path = getD (pathsOf f) path (next always)
 -- such path formula
 pub data AskedRow (file text tuple : List ℕ) (path : ℕ) : ℕ → Type 0 where
   question : {n : ℕ} → QuestionRow file text n → AskedRow file text tuple path n
-  long : {ps : List Bool} (f : Formula) → Spells ps (formulaNodes f) text → (length tuple ≡ length ps → ⊥) →
-      AskedRow file text tuple path 15
+  long : (s : SentenceOf text) → (length tuple ≡ length (s .prefix) → ⊥) → AskedRow file text tuple path 15
   member : membersBelow (fieldsOf file .n) tuple ≡ false → AskedRow file text tuple path 15
-  missing : {ps : List Bool} (f : Formula) → Spells ps (formulaNodes f) text → length (pathsOf f) ≤ path →
-      AskedRow file text tuple path 15
+  missing : (s : SentenceOf text) → length (pathsOf (s .body)) ≤ path → AskedRow file text tuple path 15
 
 -- the rows: those, and row 1 where none of them applies and the area is too short
 abbrev pub NumeratorRow : (file text tuple : List ℕ) → (path room : ℕ) → ℕ → Type 0

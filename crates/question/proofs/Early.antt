@@ -43,9 +43,9 @@ gives-text {file} {text} free said h = by (number-decided (said .ensured)) h
         from : (j : ℕ) → QuestionRow file text j → n ≤ j
         from j (model b) = absurd (none-of-file file free b)
         from j (sentence b) = least j b
-        from j (labels f s b) = let x = text-number row in omega arith
-        from j (size f s b) = let x = text-number row in omega arith
-        from j (tuples f s b) = let x = text-number row in omega arith
+        from j (labels s b) = let x = text-number row in omega arith
+        from j (size s b) = let x = text-number row in omega arith
+        from j (tuples s b) = let x = text-number row in omega arith
 
 pub text-read : {text : List ℕ} {r : Parsed.SentenceRead} → ReadSentenceEnsures text r → numberIn (replyOf (r .outcome)) ≡ 0 →
     TextOfSentence text (r .sentence)

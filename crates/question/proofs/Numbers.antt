@@ -32,17 +32,17 @@ text-number (many s e) = (omega arith, omega arith)
 pub row-two : {file text : List ℕ} {m : ℕ} → QuestionRow file text m → 2 ≤ m
 row-two {file} (model a) = let n = file-number file a in omega arith
 row-two (sentence r) = let n = text-number r in omega arith
-row-two (labels f s e) = omega arith
-row-two (size f s e) = omega arith
-row-two (tuples f s e) = omega arith
+row-two (labels s e) = omega arith
+row-two (size s e) = omega arith
+row-two (tuples s e) = omega arith
 
 -- and 11 or less
 pub row-few : {file text : List ℕ} {m : ℕ} → QuestionRow file text m → m ≤ 11
 row-few {file} (model a) = let n = file-number file a in omega arith
 row-few (sentence r) = let n = text-number r in omega arith
-row-few (labels f s e) = omega arith
-row-few (size f s e) = omega arith
-row-few (tuples f s e) = omega arith
+row-few (labels s e) = omega arith
+row-few (size s e) = omega arith
+row-few (tuples s e) = omega arith
 
 -- where the number given is 0, no row applies
 pub none-of : {file text : List ℕ} {n : ℕ} → Decided (QuestionRow file text) n → n ≤ 0 → (m : ℕ) →
@@ -62,9 +62,9 @@ module _ {file text : List ℕ} where
           below : suc k ≤ 5 → ((m : ℕ) → Applies m (fileRows file) → suc k ≤ m) → (m : ℕ) → QuestionRow file text m → suc k ≤ m
           below low least m (model a) = least m a
           below low least m (sentence r) = let n = text-number r in omega arith
-          below low least m (labels f s e) = omega arith
-          below low least m (size f s e) = omega arith
-          below low least m (tuples f s e) = omega arith
+          below low least m (labels s e) = omega arith
+          below low least m (size s e) = omega arith
+          below low least m (tuples s e) = omega arith
 
 -- ---- T, a power that stays small
 

@@ -16,7 +16,12 @@ use Rattle.trees.specs.Standing.{FormulaAt}
 use Rattle.trees.proofs.Once.{formula-once}
 use Rattle.trees.proofs.Stretch.{record-stands}
 use Rattle.chain.proofs.Accepted as accepted
+use Rattle.question.specs.Contract.{SentenceOf}
 use Rattle.question.specs.Working.{FileOfModel, TextOfSentence}
+
+-- the sentence of a text that was read
+abbrev pub own-sentence : {text : List ℕ} {s : Sentence} → TextOfSentence text s → SentenceOf text
+own-sentence b = record { prefix = b .prefix; body = b .body; spelled = b .spelled }
 
 module _ {file : List ℕ} {m : Model} (a : FileOfModel file m) where
   pub states-few : m .n ≤ 32

@@ -35,12 +35,8 @@ use Rattle.question.specs.Contract.{QuestionRow, model, sentence, size, 
 use Rattle.question.specs.Working.{FileOfModel, TextOfSentence, Ready, Answerable, SettingOf}
 use Rattle.question.proofs.Numbers.{least-model}
 use Rattle.question.proofs.Early.{file-read, text-read}
-use Rattle.question.proofs.Pair.{states-few, letters-few, letters-length}
+use Rattle.question.proofs.Pair.{states-few, letters-few, letters-length, own-sentence}
 use Rattle.question.proofs.Stages.{size-same, tuples-same, one}
-
--- the sentence of a text that was read
-abbrev pub own-sentence : {text : List ℕ} {s : Sentence} → TextOfSentence text s → SentenceOf text
-own-sentence b = record { prefix = b .prefix; body = b .body; spelled = b .spelled }
 
 module _ {file text : List ℕ} (none : (n : ℕ) → QuestionRow file text n → ⊥) where
   -- the file is accepted
@@ -60,7 +56,7 @@ module _ {file text : List ℕ} (none : (n : ℕ) → QuestionRow file text n �
     where
       by : Dec (1024 < tupleCount (chainOf (fieldsOf file)) (length (s .prefix))) →
           tupleCount (chainOf (fieldsOf file)) (length (s .prefix)) ≤ 1024
-      by (yes h) = absurd (none 11 (tuples (s .body) (s .spelled) h))
+      by (yes h) = absurd (none 11 (tuples s h))
       by (no h) = omega arith
 
   -- the readers' answers, where no row applies
@@ -85,7 +81,7 @@ module _ {file text : List ℕ} (none : (n : ℕ) → QuestionRow file text n �
       b = sentence-of said
 
       fits : (t : Bool) → exceeds (b .body) (fieldsOf file .d) (length (b .prefix)) ≡ t → t ≡ false
-      fits true e = absurd (none 10 (size (b .body) (b .spelled) e))
+      fits true e = absurd (none 10 (size (own-sentence b) e))
       fits false e = refl
 
 -- a question to which no row applies
@@ -95,7 +91,7 @@ module _ {file text : List ℕ} {q : Question} (y : Answerable file text q) wher
   area-is s =
       y .area ∙
       ap₂ (λ (x : Model) (k : ℕ). areaNeeded (chainOf x) k) (y .model .fields)
-      (letters-length (y .sentence) ∙ ap length (sym (one (y .model) (y .sentence) (s .body) (s .spelled) .0)))
+      (letters-length (y .sentence) ∙ ap length (sym (one (y .model) (y .sentence) s .0)))
 
   -- so the work area is too short exactly if it is shorter than that
   pub area-short : {room : ℕ} → room < q .area → AreaShort file text room

@@ -14,7 +14,6 @@ use Rattle.model.proofs.Theorems.{read-smallest}
 use Rattle.sentence.specs.declared.Node.{Node}
 use Rattle.sentence.specs.declared.Slot.{Slot}
 use Rattle.sentence.specs.declared.Sentence.{Sentence}
-use Rattle.sentence.specs.Grammar.{Spells}
 use Rattle.sentence.specs.Record.{nodesOf}
 use Rattle.sentence.proofs.Records.{same-sentence}
 use Rattle.meaning.specs.Lists.{every}
@@ -24,10 +23,10 @@ use Rattle.meaning.specs.Size.{exceeds}
 use Rattle.trees.specs.Listed.{formulaNodes}
 use Rattle.trees.proofs.Once.{sentence-once}
 use Rattle.chain.specs.Of.{chainOf}
-use Rattle.question.specs.Contract.{labelRight, QuestionRow, model, sentence, labels, size, tuples}
+use Rattle.question.specs.Contract.{labelRight, SentenceOf, QuestionRow, model, sentence, labels, size, tuples}
 use Rattle.question.specs.Working.{FileOfModel, TextOfSentence}
 use Rattle.question.proofs.Numbers.{file-number}
-use Rattle.question.proofs.Pair.{letters-length}
+use Rattle.question.proofs.Pair.{letters-length, own-sentence}
 
 -- no row of an accepted file applies
 pub none-of-file : (file : List ℕ) → fileNumber file ≡ 0 → {n : ℕ} → Applies n (fileRows file) → ⊥
@@ -60,8 +59,8 @@ module _ {file text : List ℕ} {m : Model} {s : Sentence} (a : FileOfModel file
   tuples-same = ap₂ (λ (n k : ℕ). n ^ k) (ap (λ (x : Model). x .n) (a .fields)) (letters-length b)
 
   -- the text's sentence is the one that was read
-  pub one : {ps : List Bool} (f : Formula) → Spells ps (formulaNodes f) text → (ps ≡ b .prefix) × (f ≡ b .body)
-  one f sp = sentence-once f (b .body) sp (b .spelled)
+  pub one : (s : SentenceOf text) → (s .prefix ≡ b .prefix) × (s .body ≡ b .body)
+  one s = sentence-once (s .body) (b .body) (s .spelled) (b .spelled)
 
   -- the rows that are left, of the model and the sentence that were read
   pub data Late : ℕ → Type 0 where
@@ -72,15 +71,15 @@ module _ {file text : List ℕ} {m : Model} {s : Sentence} (a : FileOfModel file
   late : {k : ℕ} → QuestionRow file text k → Late k
   late (model r) = absurd (none-of-file file (a .accepted) r)
   late {k} (sentence r) = absurd (b .clean k r)
-  late (labels f sp e) =
-      nine (ap (λ (g : Formula). every (labelRight (fieldsOf file .a)) (formulaNodes g)) (sym (one f sp .1)) ∙ e)
-  late (size f sp e) =
-      ten (ap₂ (λ (g : Formula) (ps : List Bool). exceeds g (fieldsOf file .d) (length ps)) (sym (one f sp .1)) (sym (one f sp .0)) ∙ e)
-  late (tuples {ps} f sp e) =
-      eleven (subst (λ (qs : List Bool). 1024 < tupleCount (chainOf (fieldsOf file)) (length qs)) (one f sp .0) e)
+  late (labels s e) =
+      nine (ap (λ (g : Formula). every (labelRight (fieldsOf file .a)) (formulaNodes g)) (sym (one s .1)) ∙ e)
+  late (size s e) =
+      ten (ap₂ (λ (g : Formula) (ps : List Bool). exceeds g (fieldsOf file .d) (length ps)) (sym (one s .1)) (sym (one s .0)) ∙ e)
+  late (tuples s e) =
+      eleven (subst (λ (qs : List Bool). 1024 < tupleCount (chainOf (fieldsOf file)) (length qs)) (one s .0) e)
 
   pub gives-9 : every (labelRight (fieldsOf file .a)) (formulaNodes (b .body)) ≡ false → Decided (QuestionRow file text) 9
-  gives-9 e = by-row (labels (b .body) (b .spelled) e) (λ k r. from (late r))
+  gives-9 e = by-row (labels (own-sentence b) e) (λ k r. from (late r))
     where
       from : {k : ℕ} → Late k → 9 ≤ k
       from (nine h) = omega arith
@@ -89,7 +88,7 @@ module _ {file text : List ℕ} {m : Model} {s : Sentence} (a : FileOfModel file
 
   module _ (right : every (labelRight (fieldsOf file .a)) (formulaNodes (b .body)) ≡ true) where
     pub gives-10 : exceeds (b .body) (fieldsOf file .d) (length (b .prefix)) ≡ true → Decided (QuestionRow file text) 10
-    gives-10 e = by-row (size (b .body) (b .spelled) e) (λ k r. from (late r))
+    gives-10 e = by-row (size (own-sentence b) e) (λ k r. from (late r))
       where
         from : {k : ℕ} → Late k → 10 ≤ k
         from (nine h) = absurd (true≢false (sym right ∙ h))
@@ -98,7 +97,7 @@ module _ {file text : List ℕ} {m : Model} {s : Sentence} (a : FileOfModel file
 
     module _ (small : exceeds (b .body) (fieldsOf file .d) (length (b .prefix)) ≡ false) where
       pub gives-11 : 1024 < tupleCount (chainOf (fieldsOf file)) (length (b .prefix)) → Decided (QuestionRow file text) 11
-      gives-11 e = by-row (tuples (b .body) (b .spelled) e) (λ k r. from (late r))
+      gives-11 e = by-row (tuples (own-sentence b) e) (λ k r. from (late r))
         where
           from : {k : ℕ} → Late k → 11 ≤ k
           from (nine h) = absurd (true≢false (sym right ∙ h))

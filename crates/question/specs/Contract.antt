@@ -36,25 +36,20 @@ labelRight a Product = true
 labelRight a Next = true
 labelRight a (Until k1 k2) = true
 
--- the rows but row 1: `QuestionRow file text n` says that the row with the number n applies to the model file and the sentence text.
--- A sentence is the prefix ps and the body f that spell the text: every node list of the grammar is that of a tree, and of one only
--- (`formula-of` and `sentence-once` of the crate `trees`).
-pub data QuestionRow (file text : List ℕ) : ℕ → Type 0 where
-  model : {n : ℕ} → Applies n (fileRows file) → QuestionRow file text n
-  sentence : {n : ℕ} → ReadRow text n → QuestionRow file text n
-  labels : {ps : List Bool} (f : Formula) → Spells ps (formulaNodes f) text →
-      every (labelRight (fieldsOf file .a)) (formulaNodes f) ≡ false →
-      QuestionRow file text 9
-  size : {ps : List Bool} (f : Formula) → Spells ps (formulaNodes f) text → exceeds f (fieldsOf file .d) (length ps) ≡ true →
-      QuestionRow file text 10
-  tuples : {ps : List Bool} (f : Formula) → Spells ps (formulaNodes f) text → 1024 < tupleCount (chainOf (fieldsOf file)) (length ps) →
-      QuestionRow file text 11
-
--- the sentence of a text: the prefix and the body that spell it
+-- the sentence of a text: the prefix and the body that spell it. Every node list of the grammar is that of a tree, and of one only
+-- (`formula-of` and `sentence-once` of the crate `trees`)
 pub record SentenceOf (text : List ℕ) : Type 0 where
   pub prefix : List Bool
   pub body : Formula
   pub spelled : Spells prefix (formulaNodes body) text
+
+-- the rows but row 1: `QuestionRow file text n` says that the row with the number n applies to the model file and the sentence text
+pub data QuestionRow (file text : List ℕ) : ℕ → Type 0 where
+  model : {n : ℕ} → Applies n (fileRows file) → QuestionRow file text n
+  sentence : {n : ℕ} → ReadRow text n → QuestionRow file text n
+  labels : (s : SentenceOf text) → every (labelRight (fieldsOf file .a)) (formulaNodes (s .body)) ≡ false → QuestionRow file text 9
+  size : (s : SentenceOf text) → exceeds (s .body) (fieldsOf file .d) (length (s .prefix)) ≡ true → QuestionRow file text 10
+  tuples : (s : SentenceOf text) → 1024 < tupleCount (chainOf (fieldsOf file)) (length (s .prefix)) → QuestionRow file text 11
 
 -- how many numbers of the work area a sentence of n letters needs on a chain: 8 × T
 unfoldable pub areaNeeded : Chain → ℕ → ℕ

@@ -47,9 +47,9 @@ over-text file text free h = by-row (sentence (long h)) from
     from : (k : ℕ) → QuestionRow file text k → 6 ≤ k
     from k (model a) = absurd (none-of-file file free a)
     from k (sentence r) = text-number r .0
-    from k (labels f s e) = omega arith
-    from k (size f s e) = omega arith
-    from k (tuples f s e) = omega arith
+    from k (labels s e) = omega arith
+    from k (size s e) = omega arith
+    from k (tuples s e) = omega arith
 
 -- so the number of an accepted or a refused file does not depend on what is over
 both-over : (file q text : List ℕ) → 400 < length q → 400 < length text →

@@ -15,7 +15,8 @@ use Rattle.chain.specs.Of.{chainOf}
 use Rattle.question.specs.declared.Question.{Question}
 use Rattle.question.specs.Contract.{QuestionRow, cleared}
 use Rattle.question.specs.Working.{Answerable}
-use Rattle.question.proofs.Settled.{own-sentence, area-is, area-short, area-enough}
+use Rattle.question.proofs.Pair.{own-sentence}
+use Rattle.question.proofs.Settled.{area-is, area-short, area-enough}
 use Rattle.verdict.specs.declared.Answer.{Answer}
 use Rattle.verdict.specs.declared.Answer.the-variants.{Refused}
 use Rattle.verdict.specs.Contract.{verdictReply, VerdictEnsures}

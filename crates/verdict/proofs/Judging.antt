@@ -46,7 +46,8 @@ module _ {m : Model} {s : Sentence} {g : Setting} {rows : List (List ℕ)} (r : 
       }
 
   -- the prefix can be descended
-  pub descent-ready : {w : List ℕ} → length w ≡ areaNeeded (chainOf m) (s .letters) → DescentReady (s .exists) (g .variables) (g .states) 0 0 w
+  pub descent-ready : {w : List ℕ} → length w ≡ areaNeeded (chainOf m) (s .letters) →
+      DescentReady (s .exists) (g .variables) (g .states) 0 0 w
   descent-ready long =
       let size = sizes r so in
       let whole = size .whole in

@@ -1,4 +1,6 @@
 -- `verdict::verdict` meets its contract: the rows' number, or the verdict with the work area cleared.
+use Prim.Native.Nat.{ℕ}
+use mathlib.Core.List.{List}
 use mathlib.Core.Path.{_≡_, sym, _∙_}
 use native.Mathlib.Omega.{arith}
 use borrow.Author.Needs.{needs}
@@ -22,40 +24,41 @@ answerable c = c .before .question-of .ensures .answerable (c .if1 .left)
 returns-2 : tie.Need-returns-2
 returns-2 c = refused-1 (answerable (c .before)) (c .if2 .taken)
 
--- the front of the area that is lent has the numbers that are needed
-lent : (c : tie.Else2) →
-    let work = c .before .before .before .before .before .before .args .work .now in
-    let area = c .before .before .question-of .result .area in
-    length (take area work) ≡ area
-lent c = length-take-le (c .before .before .question-of .result .area) (c .before .before .before .before .before .before .args .work .now) (c .if2 .left)
+-- the work area before the call, and how many numbers of it are needed
+abbrev work : tie.Else1 → List ℕ
+work c = c .before .before .before .before .before .args .work .now
+
+abbrev area : tie.Else1 → ℕ
+area c = c .before .question-of .result .area
+
+-- the front of it that is lent has those
+lent : (c : tie.Else2) → length (take (area (c .before)) (work (c .before))) ≡ area (c .before)
+lent c = length-take-le (area (c .before)) (work (c .before)) (c .if2 .left)
 
 slice-aggregate-judged : tie.Need-slice-aggregate-judged
 slice-aggregate-judged c = sym (lent (c .before .before .before))
 
 judged-requires : tie.Need-judged-requires
-judged-requires c κs =
-    let room = c .before .before .before in
-    let y = answerable (room .before) in
-    (y .ready, lent room ∙ y .area)
+judged-requires c κs = let y = answerable (c .before .before .before .before) in (y .ready, lent (c .before .before .before) ∙ y .area)
 
 -- its length is unchanged on return
-back : (c : tie.After-judged) → length (c .judged .last .1 .1 .0) ≡ c .before .before .before .before .before .before .question-of .result .area
+back : (c : tie.After-judged) → length (c .judged .last .1 .1 .0) ≡ area (c .before .before .before .before .before)
 back c = c .judged .kept .1 .1 .0 ∙ lent (c .before .before .before .before)
 
 zero-requires : tie.Need-zero-requires
 zero-requires c κs =
     let judged = c .before .before .before in
     let room = judged .before .before .before .before in
-    let long = back-long (room .before .before .before .before .before .before .args .work .now) (judged .judged .last .1 .1 .0) (room .if2 .left) (back judged) in
+    let long = back-long (work (room .before)) (judged .judged .last .1 .1 .0) (room .if2 .left) (back judged) in
     omega (arith, long, room .if2 .left)
 
 returns-3 : tie.Need-returns-3
 returns-3 c =
-    let judged = c .before .before .before .before .before .before .before in
+    let zeroed = c .before .before .before in
+    let judged = zeroed .before .before .before .before in
     let room = judged .before .before .before .before in
     answered-so (answerable (room .before)) (room .if2 .left) (judged .judged .ensures) (c .answer-of .ensures)
-    (cleared-so (room .before .before .before .before .before .before .args .work .now) (judged .judged .last .1 .1 .0) (room .if2 .left) (back judged)
-    (c .before .before .before .zero .ensures))
+    (cleared-so (work (room .before)) (judged .judged .last .1 .1 .0) (room .if2 .left) (back judged) (zeroed .zero .ensures))
 
 pub verdict-spec : {M : Type 1} → statement M
 verdict-spec =
