@@ -23,7 +23,7 @@ use Rattle.descent.specs.Descent.{met_at, descended, letters_from}
 -- a state that decides: met for `E`, not met for `A`
 pub decided : (e : Bool) (test : ℕ → Bool) (N s : ℕ) → s < N → test s ≡ e → ranges (letter_of e) test (below N) ≡ e
 unfolding ranges
-decided true test N s l h = there_is_from test (below N) s (below_has N l) h
+decided true test N s l h = there_is_from test s (below N) (below_has N l) h
 decided false test N s l h = same_truth (every test (below N)) false
     (λ all. absurd (true≢false (sym ((every_means test (below N)).0 all s (below_has N l)) ∙ h)))
     (λ e. absurd (false≢true e))

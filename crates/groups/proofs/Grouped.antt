@@ -67,7 +67,7 @@ module _ (c : Chain) (grouping : List ℕ) where
         (every_all (group_count grouping) (is_used grouping)
         (λ g l.
         let u = is.used g (omega arith) in
-        there_is_from (λ s. eqb (group_of grouping s) g) (below (length grouping)) u.0 (below_has (length grouping) (omega arith))
+        there_is_from (λ s. eqb (group_of grouping s) g) u.0 (below (length grouping)) (below_has (length grouping) (omega arith))
         (eq-eqb (group_of grouping u.0) g u.2)))
 
   module _ (right : grouping_right c.N grouping ≡ true) where

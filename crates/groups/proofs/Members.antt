@@ -33,7 +33,7 @@ module _ (f : ℕ → ℕ) (g : ℕ) where
   used_first {n} {r} h = same_truth (ltb r n) (there_is (λ s. eqb (f s) g) (below n))
       (λ e.
       let less = ltb-true r n e in
-      there_is_from (λ s. eqb (f s) g) (below n) r (below_has n less) (eq-eqb (f r) g (h.found less)))
+      there_is_from (λ s. eqb (f s) g) r (below n) (below_has n less) (eq-eqb (f r) g (h.found less)))
       (λ e.
       let w = there_is_found (λ s. eqb (f s) g) (below n) e in
       let small = below_member n w.1 in

@@ -72,6 +72,6 @@ module _ (c : Chain) (letters : List Letter) (meets : Tuple → Bool) where
         let q = there_is_found (λ s. ranged c letters (λ ss. meets (s ∷ ss))) (below c.N) e in
         (q.0, below_member c.N q.1, q.2),
     λ q.
-        there_is_from (λ s. ranged c letters (λ ss. meets (s ∷ ss))) (below c.N) q.0
+        there_is_from (λ s. ranged c letters (λ ss. meets (s ∷ ss))) q.0 (below c.N)
         (below_has c.N q.1) q.2,
   )

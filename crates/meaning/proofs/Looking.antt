@@ -74,7 +74,7 @@ alike_chosen at (suc n) (longer {x = x} {y = y} {s = s} {t = t} e a) =
     first bs false e r = r
 
 -- a tuple is alike another one into which its states at the places are put
-alike_beside : (at : ℕ → Bool) {N n : ℕ} {s t : Tuple} → Inside N n s → Inside N n t →
+alike_beside : {N : ℕ} (at : ℕ → Bool) {n : ℕ} {s t : Tuple} → Inside N n s → Inside N n t →
     Alike at t (placed (map at (below n)) s (chosen (map at (below n)) t))
 unfolding below chosen placed
 alike_beside at nothing nothing = ended

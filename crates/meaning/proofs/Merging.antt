@@ -270,12 +270,12 @@ module _ (c : Chain) (group : ℕ → ℕ) (m : Chain) (merge : Merged c group m
       (λ e.
       let u = there_is_found p (below c.N) e in
       let i = below_member c.N u.1 in
-      there_is_from q (below m.N) (group u.0) (below_has m.N (merge.grouping.inside u.0 i))
+      there_is_from q (group u.0) (below m.N) (below_has m.N (merge.grouping.inside u.0 i))
       (sym (h u.0 i) ∙ u.2))
       (λ e.
       let v = there_is_found q (below m.N) e in
       let u = merge.grouping.used v.0 (below_member m.N v.1) in
-      there_is_from p (below c.N) u.0 (below_has c.N u.1) (h u.0 u.1 ∙ ap q u.2 ∙ v.2))
+      there_is_from p u.0 (below c.N) (below_has c.N u.1) (h u.0 u.1 ∙ ap q u.2 ∙ v.2))
 
   ranges_merged : (letter : Letter) (p q : ℕ → Bool) → ((s : ℕ) → s < c.N → p s ≡ q (group s)) →
       ranges letter p (below c.N) ≡ ranges letter q (below m.N)

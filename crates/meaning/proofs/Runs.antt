@@ -27,7 +27,7 @@ module _ {A B : Type 0} where
       (r.0, Memᴰ.tail r.1, r.2))
       (Memᴰ.append_cases (g x) m)
 
-  flat_has : (g : A → List B) {xs : List A} {x : A} {y : B} → Memᴰ x xs → Memᴰ y (g x) →
+  flat_has : (g : A → List B) {x : A} {xs : List A} {y : B} → Memᴰ x xs → Memᴰ y (g x) →
       Memᴰ y (flat_map g xs)
   unfolding flat_map
   flat_has g {y = y} (Memᴰ.head {x = z} {xs = zs} e) m =

@@ -43,11 +43,11 @@ module _ {A : Type 0} where
           (r.0, Memᴰ.tail r.1, r.2)
 
   -- and where there is one, it is true
-  pub there_is_from : (test : A → Bool) (xs : List A) (x : A) → Memᴰ x xs → test x ≡ true → there_is test xs ≡ true
+  pub there_is_from : (test : A → Bool) (x : A) (xs : List A) → Memᴰ x xs → test x ≡ true → there_is test xs ≡ true
   unfolding there_is
-  there_is_from test xs x (Memᴰ.head {x = y} {xs = ys} e) p = ap (λ b. b || there_is test ys) (ap test (sym e) ∙ p)
-  there_is_from test xs x (Memᴰ.tail {x = y} {xs = ys} m) p =
-      ap (λ b. test y || b) (there_is_from test ys x m p) ∙ or-true (test y)
+  there_is_from test x xs (Memᴰ.head {x = y} {xs = ys} e) p = ap (λ b. b || there_is test ys) (ap test (sym e) ∙ p)
+  there_is_from test x xs (Memᴰ.tail {x = y} {xs = ys} m) p =
+      ap (λ b. test y || b) (there_is_from test x ys m p) ∙ or-true (test y)
 
   -- tests that agree at every member
   pub every_same : (p q : A → Bool) (xs : List A) → ((x : A) → Memᴰ x xs → p x ≡ q x) → every p xs ≡ every q xs

@@ -58,7 +58,7 @@ module _ (first second : Tuple → Bool) where
 
       back : Match first second k1 k2 r → until_takes first second k1 k2 r ≡ true
       back m =
-          there_is_from (matches k1 r) (below (suc k2)) m.j (below_has (suc k2) (omega arith))
+          there_is_from (matches k1 r) m.j (below (suc k2)) (below_has (suc k2) (omega arith))
           (both-met (le-leb k1 m.j m.opened)
           (both-met m.meets
           ((every_means (λ x. first (position r x)) (below m.j)).1 (λ i w. m.before i (below_member m.j w)))))

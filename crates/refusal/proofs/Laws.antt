@@ -26,6 +26,7 @@ in_order low (r ∷ rows) e = both (ltb low r.number) refl e (λ rest. in_order 
 
 -- every row of an ascending list that applies has a number above the bound
 pub above : {low : ℕ} {rows : List Row} → Ascending low rows → (m : ℕ) → Applies m rows → low < m
+above (none {low = low}) m w = elim w [ ]
 above (more h t) m (here e a) = omega arith
 above (more h t) m (later w) =
     let r = above t m w in
