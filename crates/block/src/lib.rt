@@ -1,4 +1,6 @@
 // The blocks of a model file: bytes, numbers of two bytes, and the block's check.
+#![tactic(auto)]
+
 ghost use Rattle.std.specs.Prelude.{◌≡◌, ◌+◌, ◌*◌, ◌^◌, ◌<◌, get_or, drop};
 ghost use Rattle.block.specs.Block.{byte_of, two, check_of, check_right, checks_right};
 ghost use Rattle.block.specs.Working.{Grown};
