@@ -1,5 +1,7 @@
 // The model file of document 01: its record, and what the layout asks of it. The layout is said once, in specs/Layout; the contracts of
 // read model and write model are in specs/Contract. Each of the two calls is a crate of its own.
+#![tactic(auto)]
+
 pub mod matrix;
 pub mod rules;
 

@@ -1,5 +1,4 @@
 -- `model::rules::fields_right` meets its contract, by what its parts ensure.
-use borrow.Author.Rules.{rules}
 use Prim.Native.Nat.{ℕ}
 use mathlib.Core.Bool.{Bool, true, false, ◌&&◌, ◌||◌}
 use mathlib.Core.List.{List, []}
@@ -9,8 +8,7 @@ use lib.ListN.{get_or}
 use Rattle.counting.specs.Below.{every_below}
 use Rattle.counting.proofs.Laws.{and_true, left_of, right_of, every_at, every_all, same_truth}
 use Rattle.model.specs.Rules.{numbers_right, mask_right, weight_right, fields_right}
-use Rattle.model.proofs.rules.fields_right.Statement.{statement}
-use Rattle.model.proofs.rules.fields_right.Tie as tie
+use Rattle.model.proofs.rules.fields_right.Goals as goal
 
 -- two tests of every number are a test of every number and another
 both_tests : (n : ℕ) (p q : ℕ → Bool) → every_below n (λ k. p k && q k) ≡ (every_below n p && every_below n q)
@@ -29,20 +27,16 @@ and_both : (a b c : Bool) → (a && (b && c)) ≡ (a && b && c)
 and_both true b c = refl
 and_both false b c = refl
 
-returns : tie.Need-returns
+pub returns : goal.returns
 unfolding fields_right
 returns c =
-    let m = c.before.before.before.before.before.before.before.args.m in
-    ap₂ ◌&&◌ c.before.before.before.numbers-right.ensures
-    (c.states-right.ensures ∙
+    let m = c.args.m in
+    ap₂ ◌&&◌ c.numbers_right.ensures
+    (c.states_right.ensures ∙
     ap
     (λ (rows : List (List ℕ)).
     every_below 32
     (λ s. mask_right m s && every_below 32 (λ t. ltb s m.n && ltb t m.n || eqb (get_or (get_or rows s []) t 0) 0)))
-    c.before.before.before.before.before.rows_of_lem.ensures ∙
+    c.rows_of-rows.ensures ∙
     both_tests 32 (mask_right m) (λ s. every_below 32 (weight_right m s))) ∙
     and_both (numbers_right m) (every_below 32 (mask_right m)) (every_below 32 (λ s. every_below 32 (weight_right m s)))
-
-pub fields_right_spec : {M : Type 1} → statement M
-fields_right_spec =
-    tie.close (tie.spec (λ c κs. search rules) (λ c. search rules) (λ c κs. search rules) (λ c κs. search rules) returns)
