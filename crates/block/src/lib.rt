@@ -52,7 +52,7 @@ fn byte_in(file: &[u8], block: usize, j: usize) -> u8
 }
 
 // A block reader shows one block of the lent file at a time: it holds the file and the number of that block.
-#[derive(Drop)]
+#[derive(Clone, Copy)]
 struct Reader<'a> {
     pub file: &'a [u8],
     pub block: usize,
@@ -87,7 +87,7 @@ pub fn two_of(low: u8, high: u8) -> u16
 }
 
 // The running totals of the check, taken from the back: that of the bytes seen so far, and that of those totals.
-#[derive(Drop)]
+#[derive(Clone, Copy)]
 pub struct Totals {
     pub plain: u32,
     pub weighed: u32,

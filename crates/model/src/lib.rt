@@ -19,7 +19,7 @@ pub const ROWS_END: usize = 450;
 
 // A model as its file says it: N states, A labels, D, the version, a label mask for each state, and the weight from each
 // state to each. The record can hold what no file can: such a record is refused by write_model.
-#[derive(Drop)]
+#[derive(Clone, Copy)]
 pub struct Model {
     pub n: u32,
     pub a: u32,
@@ -30,7 +30,7 @@ pub struct Model {
 }
 
 // What read_model returns: the answer, and the model beside it. A refusal carries an empty model.
-#[derive(Drop)]
+#[derive(Clone, Copy)]
 pub struct ModelRead {
     pub outcome: Outcome,
     pub model: Model,

@@ -2,7 +2,7 @@
 ghost use Rattle.std.specs.Prelude.{◌≡◌};
 
 // The weights from each state to each: row s, column t.
-#[derive(Drop)]
+#[derive(Clone, Copy)]
 pub struct Weights {
     pub rows: [[u16; 32]; 32],
 }
