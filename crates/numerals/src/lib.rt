@@ -1,5 +1,7 @@
 // Numbers in a text, read and written. Document 01: a number is one to five digits, with no
 // leading zero unless it is `0`.
+#![tactic(auto)]
+
 ghost use Rattle.std.specs.Prelude.{◌+◌, ◌-◌, ◌≤◌, ◌<◌, false, [], ◌∷◌, ◌≡◌, length, get_or};
 ghost use Rattle.numerals.specs.Numeral.{number_text};
 ghost use Rattle.numerals.specs.Working.{Closing, NumberResult, NumbersResult, NoDigit, Put, numbers_text};
