@@ -1,5 +1,7 @@
 // The record of a sentence, and what document 01 says of each node: whether its numbers are in their range, and what it wants
 // after it. The grammar is in specs/Grammar, the record in specs/Record. Reader and writer are crates of their own.
+#![tactic(auto)]
+
 ghost use Rattle.std.specs.Prelude.{◌≡◌};
 ghost use Rattle.sentence.specs.Grammar.{out_of_range, wants_of};
 
