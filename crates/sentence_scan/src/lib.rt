@@ -1,5 +1,7 @@
 // The first pass over the body of a text: is it in the grammar, where does it end, how many nodes does it have, and is a number of
 // one out of its range?
+#![tactic(auto)]
+
 ghost use Rattle.std.specs.Prelude.{◌+◌, ◌^◌, ◌≤◌, ◌<◌, false, [], ◌∷◌, ◌≡◌, get_or};
 ghost use Rattle.sentence_scan.specs.Working.{begun_at, keep_bad, passed_to, stopped_at, InText, ReadsKinds, NodeReads};
 
