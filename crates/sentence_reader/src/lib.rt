@@ -12,21 +12,21 @@ use sentence::{LETTERS, NODES, Node, Relation, Sentence, Slot, TEXT_BYTES};
 use sentence_scan::{Tally, begun, state_formula};
 
 // What read sentence returns: its answer, and the sentence beside it.
-#[derive(Drop)]
+#[derive(Clone, Copy)]
 pub struct SentenceRead {
     pub outcome: Outcome,
     pub sentence: Sentence,
 }
 
 // A node that was read, and the place past its own text.
-#[derive(Drop)]
+#[derive(Clone, Copy)]
 pub struct NodeRead {
     pub node: Node,
     pub next: usize,
 }
 
 // A prefix that was read, and the place past its dot.
-#[derive(Drop)]
+#[derive(Clone, Copy)]
 pub struct PrefixRead {
     pub ok: bool,
     pub letters: usize,

@@ -9,14 +9,14 @@ use numerals::{byte_at, two_numbers};
 use sentence::{Kind, Node, is_fault};
 
 // The nodes read so far: how many, and whether one is out of its range.
-#[derive(Drop)]
+#[derive(Clone, Copy)]
 pub struct Tally {
     pub count: usize,
     pub fault: bool,
 }
 
 // The state of the scan: whether the text is in the grammar so far, the place of the next byte, and the nodes.
-#[derive(Drop)]
+#[derive(Clone, Copy)]
 pub struct Progress {
     pub ok: bool,
     pub at: usize,
