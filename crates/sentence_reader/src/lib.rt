@@ -1,5 +1,7 @@
 // Read sentence: the prefix and the nodes of a text, or the refusal. The contract is in specs/Contract. The text is read
 // twice: once to see whether it is in the grammar and its numbers in their ranges, once more to fill the record.
+#![tactic(auto)]
+
 ghost use Rattle.std.specs.Prelude.{◌-◌, ◌≤◌, ◌<◌, false, ◌≡◌, length, replicate, set};
 ghost use Rattle.sentence_reader.specs.Contract.{ReadSentenceEnsures};
 ghost use Rattle.sentence.specs.Record.{slot};
