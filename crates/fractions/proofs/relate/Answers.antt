@@ -1,5 +1,4 @@
 -- `fractions::relate` meets its contract, by the relation.
-use borrow.Author.Rules.{rules}
 use mathlib.Core.Bool.{Bool}
 use mathlib.Core.Path.{◌≡◌, refl, sym, ap, ap₂, ◌∙◌}
 use lib.IntN.{ℤ}
@@ -9,8 +8,7 @@ use mir.Val.{SFits, to_z, of_z}
 use Rattle.meaning.specs.Meaning.{related}
 use Rattle.fractions.specs.declared.Relation.{Relation}
 use Rattle.fractions.specs.Operations.{meant_relation}
-use Rattle.fractions.proofs.relate.Statement.{statement}
-use Rattle.fractions.proofs.relate.Tie as tie
+use Rattle.fractions.proofs.relate.Goals as goal
 
 -- what the known relation says of two numbers as they are read back, the relation says of them
 as_told : {relation known : Relation} {a b : ℤ} {t : Bool} → relation ≡ known → SFits w64 a → SFits w64 b →
@@ -20,37 +18,22 @@ as_told {known = known} {a = a} {b = b} e fits-a fits-b p =
     ap₂ (related (meant_relation known)) (to_z-of_z fits-a) (to_z-of_z fits-b) ∙
     sym (ap (λ r. related (meant_relation r) a b) e)
 
-returns : tie.Need-returns
+pub returns-in-Less : goal.returns-in-Less
 unfolding related
-returns c = as_told c.enum_told.given.1 c.before.before.ranges.a c.before.before.ranges.b refl
+returns-in-Less c = as_told c.in-Less.is c.ranges.a c.ranges.b refl
 
-returns-2 : tie.Need-returns-2
+pub returns-in-AtMost : goal.returns-in-AtMost
 unfolding related
-returns-2 c = as_told c.enum-told2.given.1 c.before.before.ranges.a c.before.before.ranges.b refl
+returns-in-AtMost c = as_told c.in-AtMost.is c.ranges.a c.ranges.b refl
 
-returns-3 : tie.Need-returns-3
+pub returns-in-Equal : goal.returns-in-Equal
 unfolding related
-returns-3 c = as_told c.enum-told3.given.1 c.before.before.ranges.a c.before.before.ranges.b refl
+returns-in-Equal c = as_told c.in-Equal.is c.ranges.a c.ranges.b refl
 
-returns-4 : tie.Need-returns-4
+pub returns-in-AtLeast : goal.returns-in-AtLeast
 unfolding related
-returns-4 c = as_told c.enum-told4.given.1 c.before.before.ranges.a c.before.before.ranges.b refl
+returns-in-AtLeast c = as_told c.in-AtLeast.is c.ranges.a c.ranges.b refl
 
-returns-5 : tie.Need-returns-5
+pub returns-in-Greater : goal.returns-in-Greater
 unfolding related
-returns-5 c = as_told c.enum-told5.given.1 c.before.before.ranges.a c.before.before.ranges.b refl
-
-pub relate_spec : {M : Type 1} → statement M
-relate_spec =
-    tie.close
-    (tie.spec
-    (λ c. search rules)
-    (λ c. search rules)
-    (λ c. search rules)
-    (λ c. search rules)
-    (λ c. search rules)
-    returns
-    returns-2
-    returns-3
-    returns-4
-    returns-5)
+returns-in-Greater c = as_told c.in-Greater.is c.ranges.a c.ranges.b refl
