@@ -120,7 +120,7 @@ fn operator(p: Progress) -> Progress
 }
 
 // Reads a state formula from the next byte on, in a sentence of n letters. Each call has a smaller rest of the text.
-#[cycle(expression_path_state_formula)]
+#[cycle(scan)]
 pub fn state_formula(text: &[u8], n: usize, p: Progress) -> Progress
     requires { InText text.now p }
     ensures { ReadsKinds (Kind.State ∷ []) text.now n p result }
@@ -142,7 +142,7 @@ pub fn state_formula(text: &[u8], n: usize, p: Progress) -> Progress
 }
 
 // Reads an expression, likewise.
-#[cycle(expression_path_state_formula)]
+#[cycle(scan)]
 fn expression(text: &[u8], n: usize, p: Progress) -> Progress
     requires { InText text.now p }
     ensures { ReadsKinds (Kind.Expression ∷ []) text.now n p result }
@@ -162,7 +162,7 @@ fn expression(text: &[u8], n: usize, p: Progress) -> Progress
 }
 
 // Reads a path, likewise.
-#[cycle(expression_path_state_formula)]
+#[cycle(scan)]
 fn path(text: &[u8], n: usize, p: Progress) -> Progress
     requires { InText text.now p }
     ensures { ReadsKinds (Kind.Path ∷ []) text.now n p result }

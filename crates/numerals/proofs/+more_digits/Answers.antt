@@ -26,6 +26,7 @@ pub returns-else-b-close : goal.returns-else-b-close
 returns-else-b-close t c =
     let b = c.byte_at-b in
     let other : NoDigit b.result =
-    elim c.in_default.branch [ in_default-via-then-b-lt48 w ↦ inl (omega arith) | in_default-via-else-b-lt48+else-b-lt58 w ↦ inr (omega arith) ] in
+    elim c.in_default.branch
+    [ in_default-via-then-b-lt48 w ↦ inl (omega arith) | in_default-via-else-b-lt48+else-b-lt58 w ↦ inr (omega arith) ] in
     unclosed c.args.text.now c.args.at c.args.value b.result c.args.close c.no_number-in_default.result
     c.requires.1 c.requires.2 c.requires.3 (sym b.ensures) other c.if-b-close.false c.no_number-in_default.ensures

@@ -31,6 +31,7 @@ pub returns-in_default : goal.returns-in_default
 returns-in_default c =
     let b = c.byte_at-b in
     let other : NoDigit b.result =
-    elim c.in_default.branch [ in_default-via-then-b-lt48 w ↦ inl (omega arith) | in_default-via-else-b-lt48+else-b-lt58 w ↦ inr (omega arith) ] in
+    elim c.in_default.branch
+    [ in_default-via-then-b-lt48 w ↦ inl (omega arith) | in_default-via-else-b-lt48+else-b-lt58 w ↦ inr (omega arith) ] in
     no_first c.args.text.now c.args.at b.result c.args.close c.no_number-in_default.result (sym b.ensures) other
     c.no_number-in_default.ensures

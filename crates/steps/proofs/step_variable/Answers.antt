@@ -21,8 +21,10 @@ loop-j-preserved c =
     let done = c.step_column.ensures in (
       layer_next pre (omega arith) inv.0 (rw inv.1.begins at done.0),
       elim c.if-within-stride.branch [
-        | then-within-stride w ↦ column_at_as pre.some pre.apart (column_at_row pre.some pre.apart inv.1 w.if-within-stride.true) w.at-is w.within-is
-        | else-within-stride w ↦ column_at_as pre.some pre.apart (column_at_more pre.some pre.apart inv.1 w.if-within-stride.false) w.at-is w.within-is
+        | then-within-stride w ↦ column_at_as pre.some pre.apart (column_at_row pre.some pre.apart inv.1 w.if-within-stride.true)
+            w.at-is w.within-is
+        | else-within-stride w ↦ column_at_as pre.some pre.apart (column_at_more pre.some pre.apart inv.1 w.if-within-stride.false)
+            w.at-is w.within-is
       ],
       done.1,
     )

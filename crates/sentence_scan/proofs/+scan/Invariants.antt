@@ -3,7 +3,7 @@
 -- Assumes nothing.
 use lib.ListN.{length}
 use Prim.Native.Nat.{◌-◌}
-use Rattle.sentence_scan.proofs.+expression_path_state_formula.Given as goal
+use Rattle.sentence_scan.proofs.+scan.Given as goal
 
 abbrev pub decreases-expression : goal.decreases-expression
 decreases-expression l = length l.text.now - l.p.at

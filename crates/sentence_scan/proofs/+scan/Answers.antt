@@ -13,11 +13,12 @@ use Rattle.sentence_scan.proofs.Results.{reads_then, reads_node, reads_leaf}
 use Rattle.sentence_scan.proofs.NodeAt.{operator_passed, comparison_passed, arithmetic_passed, no_reading, no_state}
 use Rattle.sentence_scan.proofs.NodeAt.{no_expression}
 use Prim.Native.Nat.{◌≤◌, ◌<◌}
-use Rattle.sentence_scan.proofs.+expression_path_state_formula.Goals as goal
-use Rattle.sentence_scan.proofs.+expression_path_state_formula.Goals.{expression-in_default-via-then-b-lt42, expression-in_default-via-else-b-lt42+else-b-lt44}
-use Rattle.sentence_scan.proofs.+expression_path_state_formula.Goals.{state_formula-in_default-via-then-b-lt60}
-use Rattle.sentence_scan.proofs.+expression_path_state_formula.Goals.{state_formula-in_default-via-else-b-lt60+else-b-lt63+then-b-lt97}
-use Rattle.sentence_scan.proofs.+expression_path_state_formula.Goals.{state_formula-in_default-via-else-b-lt60+else-b-lt63+else-b-lt97+else-b-lt113}
+use Rattle.sentence_scan.proofs.+scan.Goals as goal
+use Rattle.sentence_scan.proofs.+scan.Goals.{expression-in_default-via-then-b-lt42}
+use Rattle.sentence_scan.proofs.+scan.Goals.{expression-in_default-via-else-b-lt42+else-b-lt44}
+use Rattle.sentence_scan.proofs.+scan.Goals.{state_formula-in_default-via-then-b-lt60}
+use Rattle.sentence_scan.proofs.+scan.Goals.{state_formula-in_default-via-else-b-lt60+else-b-lt63+then-b-lt97}
+use Rattle.sentence_scan.proofs.+scan.Goals.{state_formula-in_default-via-else-b-lt60+else-b-lt63+else-b-lt97+else-b-lt113}
 
 pub expression-returns-in-80 : goal.expression-returns-in-80
 expression-returns-in-80 t c =
