@@ -1,8 +1,10 @@
 // The calls of document 01 as other languages see them: functions on numbers and slices, with the answer codes that
-// include/twolsken.h states. Each is thin over the library's own call.
-mod merging;
-mod questions;
-mod sentences;
+// include/twolsken.h states. Each is thin over the library's own call; the crate `exports_c` exports them.
+#![tactic(auto)]
+
+pub mod merging;
+pub mod questions;
+pub mod sentences;
 
 ghost use Rattle.exports.specs.Models.{ExportedReadModel, model_of_parts, ExportedWriteModel};
 
@@ -12,8 +14,7 @@ use refusal::Outcome;
 
 // Read model: returns 0 and leaves the model in the three lent parts (N, A, D and the version; the masks; the weights), or returns
 // the refusal's number and leaves the lent memory unchanged.
-#[unsafe(no_mangle)]
-pub extern "C" fn twolsken_read_model(
+pub fn twolsken_read_model(
     file: &[u8],
     head: &mut [u32; 4],
     masks: &mut [u16; 32],
@@ -39,8 +40,7 @@ pub extern "C" fn twolsken_read_model(
 
 // Write model, of the three parts that read model leaves (N, A, D and the version; the masks; the weights): returns the number of bytes
 // written at the front of the output, or 2^32 plus the refusal's number, with the output unchanged.
-#[unsafe(no_mangle)]
-pub extern "C" fn twolsken_write_model(
+pub fn twolsken_write_model(
     head: &[u32; 4],
     masks: &[u16; 32],
     rows: &[[u16; 32]; 32],

@@ -5,8 +5,7 @@ use codes::written_code;
 
 // Merge: returns the number of bytes of the merged model's file, written at the front of the output, or 2^32 plus the
 // refusal's number, with the output unchanged.
-#[unsafe(no_mangle)]
-pub extern "C" fn twolsken_merge(file: &[u8], grouping: &[u8], out: &mut [u8]) -> u64
+pub fn twolsken_merge(file: &[u8], grouping: &[u8], out: &mut [u8]) -> u64
     ensures { ExportedMerge file.now grouping.now out.old out.new result }
 {
     let written = merge::merge(file, grouping, out);

@@ -3,8 +3,7 @@ ghost use Rattle.exports.specs.Questions.{ExportedVerdict, ExportedNumerator};
 
 // Verdict: returns 256 where the sentence holds on the model and 257 where it does not, and clears as many numbers of the
 // work area as row 1 asks for; or returns the refusal's number and leaves the area unchanged.
-#[unsafe(no_mangle)]
-pub extern "C" fn twolsken_verdict(file: &[u8], text: &[u8], work: &mut [u64]) -> u32
+pub fn twolsken_verdict(file: &[u8], text: &[u8], work: &mut [u64]) -> u32
     ensures { ExportedVerdict file.now text.now work.old work.new result }
 {
     let answer = verdict::verdict(file, text, work);
@@ -17,8 +16,7 @@ pub extern "C" fn twolsken_verdict(file: &[u8], text: &[u8], work: &mut [u64]) -
 
 // Numerator: returns 0, leaves the numerator and the denominator in the two lent numbers, and clears as many numbers of the
 // work area as row 1 asks for; or returns the refusal's number and leaves the lent memory unchanged.
-#[unsafe(no_mangle)]
-pub extern "C" fn twolsken_numerator(
+pub fn twolsken_numerator(
     file: &[u8],
     text: &[u8],
     tuple: &[u8],

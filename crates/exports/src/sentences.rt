@@ -9,8 +9,7 @@ use sentence::Sentence;
 
 // Read sentence: returns 0 and leaves the sentence in the three lent parts (the number of letters and the count; the
 // letters; the codes), or returns the refusal's number and leaves the lent memory unchanged.
-#[unsafe(no_mangle)]
-pub extern "C" fn twolsken_read_sentence(
+pub fn twolsken_read_sentence(
     text: &[u8],
     head: &mut [u64; 2],
     exists: &mut [u8; 4],
@@ -37,8 +36,7 @@ pub extern "C" fn twolsken_read_sentence(
 
 // Write sentence: returns the number of bytes written at the front of the output, or 2^32 plus the refusal's number, with
 // the output unchanged.
-#[unsafe(no_mangle)]
-pub extern "C" fn twolsken_write_sentence(
+pub fn twolsken_write_sentence(
     letters: u64,
     count: u64,
     exists: &[u8; 4],

@@ -1,6 +1,6 @@
 // The line that the program prints.
 ghost use Rattle.std.specs.Prelude.{◌≡◌, take};
-ghost use Rattle.io.specs.Counts.{IsPrefixLen};
+ghost use Rattle.std.specs.Counts.{IsPrefixLen};
 ghost use Rattle.lines.specs.Lines.{line_of, refused_line};
 
 use verdict::Answer;

@@ -1,5 +1,4 @@
 -- The laws that the program's proofs share, and what its first bytes tell of a file.
-pub mod Fronts
 pub mod Enough
 pub mod AnySize
 pub mod Room

@@ -1,32 +1,36 @@
 // Reading a file by its name.
 ghost use Rattle.twolsken.specs.Working.{AtFront};
 
-// What a file is: so many bytes, at the front of a buffer; or it cannot be read.
+use std::fs::File;
+use std::io::{ErrorKind, Read, Write};
+use std::{io, str};
+
+// What a file is: so many bytes, at the front of a buffer; or it cannot be read, and why.
 #[derive(Drop)]
 pub enum Contents {
     Bytes(usize),
-    Unreadable,
+    Unreadable(io::Error),
 }
 
 // One read. The system may hand over fewer bytes than there is room for; none are the end of the file.
-fn read_once(fd: i32, buf: &mut [u8]) -> Contents
+fn read_once(file: &mut File, buf: &mut [u8]) -> Contents
     ensures { AtFront result buf.new }
 {
-    let got = libc::read(fd, buf);
-    if got < 0 {
-        return Contents::Unreadable;
+    match file.read(buf) {
+        Ok(n) => Contents::Bytes(n),
+        Err(error) => Contents::Unreadable(error),
     }
-    Contents::Bytes(io::count(got, buf))
 }
 
 // Reads until the end of the file or until the buffer is full.
-fn read_all(fd: i32, buf: &mut [u8]) -> Contents
+fn read_all(file: &mut File, buf: &mut [u8]) -> Contents
     ensures { AtFront result buf.new }
 {
     let mut done = 0;
     while done < buf.len() {
-        let Contents::Bytes(n) = read_once(fd, &mut buf[done..]) else {
-            return Contents::Unreadable;
+        let n = match read_once(file, &mut buf[done..]) {
+            Contents::Bytes(n) => n,
+            Contents::Unreadable(error) => return Contents::Unreadable(error),
         };
         if n == 0 {
             break;
@@ -36,23 +40,46 @@ fn read_all(fd: i32, buf: &mut [u8]) -> Contents
     Contents::Bytes(done)
 }
 
-// Reads the named file of the current folder; a missing file is empty. Where it cannot be read, the reason goes to standard
-// error.
-pub(crate) fn read_file(name: &[u8], buf: &mut [u8]) -> Contents
+// Opens the named file of the current folder and reads it; a missing file is empty.
+fn read_named(rt: &HostRuntime, name: &str, buf: &mut [u8]) -> Contents
     ensures { AtFront result buf.new }
 {
-    let fd = os::open_read(name);
-    if fd < 0 {
-        if os::errno() == libc::ENOENT {
-            return Contents::Bytes(0);
+    match File::open(rt, name) {
+        Ok(mut file) => read_all(&mut file, buf),
+        Err(error) => {
+            if error.kind() == ErrorKind::NotFound {
+                Contents::Bytes(0)
+            } else {
+                Contents::Unreadable(error)
+            }
         }
-        os::fail(name);
-        return Contents::Unreadable;
     }
-    let read = read_all(fd, buf);
-    if let Contents::Unreadable = read {
-        os::fail(name);
+}
+
+// Reads the named file of the current folder; a missing file is empty. Where it cannot be read, the reason goes to standard
+// error.
+pub(crate) fn read_file(rt: &HostRuntime, name: &str, buf: &mut [u8]) -> Contents
+    ensures { AtFront result buf.new }
+{
+    let read = read_named(rt, name, buf);
+    if let Contents::Unreadable(error) = &read {
+        report(rt, name, error);
     }
-    libc::close(fd);
     read
+}
+
+// Writes a line to standard error: what failed, a colon and the reason, without the number of the error that `io::Error` adds.
+// Where that cannot be written either, nothing more can be said.
+pub(crate) fn report(rt: &HostRuntime, what: &str, error: &io::Error) {
+    let mut line = [0u8; 256];
+    let mut rest = &mut line[..];
+    let _ = write!(rest, "{error}");
+    let room = rest.len();
+    let said = &line[..256usize.saturating_sub(room)];
+    let text = str::from_utf8(said).unwrap_or("");
+    let reason = match text.split_once(" (os error ") {
+        Some((reason, _)) => reason,
+        None => text,
+    };
+    let _ = eprintln!(rt; "{what}: {reason}");
 }

@@ -1,16 +1,19 @@
 // The program: it reads the files `model.blk` and `sentence.txt` of the folder that it is run in, and prints the verdict as
 // one line: `holds`, `fails`, or `refused` with a blank and the number. A missing file is empty, and one final newline of
 // the sentence is dropped. If a file exists and cannot be read, the program prints the reason to standard error and no verdict.
+#![tactic(auto)]
+
 mod file;
 
 ghost use Rattle.std.specs.Prelude.{◌≡◌, length};
-ghost use Rattle.io.specs.Counts.{IsPrefixLen};
+ghost use Rattle.std.specs.Counts.{IsPrefixLen};
 ghost use Rattle.twolsken.specs.Contract.{AnswersFiles, AnswersBuffers};
 
-use file::{Contents, read_file};
-use libc::STDOUT_FILENO;
+use file::{Contents, read_file, report};
 use lines::line::line;
 use lines::text::without_newline;
+use std::io;
+use std::io::Write;
 use verdict::Answer;
 
 // How many numbers the program's own work area has: 8 for each of 1,024 tuples, so that no question is refused 1.
@@ -25,11 +28,11 @@ fn answer(model: &[u8], sentence: &[u8]) -> Answer
 }
 
 // Prints the line of an answer.
-fn print(answer: Answer) {
+fn print(rt: &HostRuntime, answer: Answer) {
     let mut out = [0u8; 12];
     let n = line(answer, &mut out);
-    if !io::write_all(STDOUT_FILENO, &out[..n]) {
-        os::fail(b"standard output");
+    if let Err(error) = io::writer(rt).write_all(&out[..n]) {
+        report(rt, "standard output", &error);
     }
 }
 
@@ -48,14 +51,14 @@ fn judged(model: &[u8], m: usize, sentence: &[u8], s: usize) -> Answer
 }
 
 // Reads the two files, each as far as its buffer goes, and prints the verdict's line.
-fn main() {
+fn main(rt: HostRuntime) {
     let mut model = [0u8; 3073];
-    let Contents::Bytes(m) = read_file(b"model.blk", &mut model) else {
+    let Contents::Bytes(m) = read_file(&rt, "model.blk", &mut model) else {
         return;
     };
     let mut sentence = [0u8; 402];
-    let Contents::Bytes(s) = read_file(b"sentence.txt", &mut sentence) else {
+    let Contents::Bytes(s) = read_file(&rt, "sentence.txt", &mut sentence) else {
         return;
     };
-    print(judged(&model, m, &sentence, s));
+    print(&rt, judged(&model, m, &sentence, s));
 }

@@ -2,17 +2,15 @@
 -- Assumes nothing.
 use Prim.Native.Nat.{ℕ, ◌+◌, ◌*◌, ◌/◌, ◌%◌, ◌≤◌, ◌<◌}
 use mathlib.Core.List.{List, [], ◌∷◌, ◌++◌}
-use mathlib.Core.Path.{◌≡◌, refl, sym, ap, ◌∙◌}
+use mathlib.Core.Path.{◌≡◌, sym, ap, ◌∙◌}
 use native.Mathlib.Omega.{arith}
-use borrow.Author.Rules.{rules}
 use Rattle.numerals.specs.Numeral.{number_text}
 use Rattle.numerals.proofs.Numbers.{one_digit, digit_more}
 use Rattle.lines.specs.Lines.{refused_line}
-use Rattle.lines.proofs.line.refused_line.Statement.{statement}
-use Rattle.lines.proofs.line.refused_line.Tie as tie
+use Rattle.lines.proofs.line.refused_line.Goals as goal
 
 -- the line of a number with the text t
-abbrev framed : List ℕ → List ℕ
+abbrev pub framed : List ℕ → List ℕ
 framed t = 114 ∷ 101 ∷ 102 ∷ 117 ∷ 115 ∷ 101 ∷ 100 ∷ 32 ∷ (t ++ 10 ∷ [])
 
 -- a number's text, as one digit
@@ -37,38 +35,15 @@ three n low high =
     ap (λ (t : List ℕ). t ++ (48 + n % 10) ∷ []) (two (n / 10) (omega arith) (omega arith)) ∙
     ap (λ (k : ℕ). (48 + k) ∷ (48 + n / 10 % 10) ∷ (48 + n % 10) ∷ []) (omega arith)
 
-returns : tie.Need-returns
+pub returns-then-number-lt10-clause-out_after : goal.returns-then-number-lt10-clause-out_after
 unfolding refused_line
-returns c =
-    let at-if1 = c.before.before in
-    ((omega arith, refl), ap framed (sym (one at-if1.before.args.number at-if1.if1.true)))
+returns-then-number-lt10-clause-out_after c = ap framed (sym (one c.args.number c.if-number-lt10.true))
 
-returns-2 : tie.Need-returns-2
+pub returns-then-number-lt100-clause-out_after : goal.returns-then-number-lt100-clause-out_after
 unfolding refused_line
-returns-2 c =
-    let at-if2 = c.before.before in
-    let at-if1 = at-if2.before in
-    ((omega arith, refl), ap framed (sym (two at-if1.before.args.number at-if1.if1.false at-if2.if2.true)))
+returns-then-number-lt100-clause-out_after c =
+    ap framed (sym (two c.args.number c.if-number-lt10.false c.if-number-lt100.true))
 
-returns-3 : tie.Need-returns-3
+pub returns-clause-out_after : goal.returns-clause-out_after
 unfolding refused_line
-returns-3 c =
-    let at-if2 = c.before.before in
-    ((omega arith, refl), ap framed (sym (three at-if2.before.before.args.number at-if2.if2.false (omega arith))))
-
-pub refused_line_spec : {M : Type 1} → statement M
-refused_line_spec =
-    tie.close
-    (tie.spec
-    (λ c. search rules)
-    (λ c. search rules)
-    returns
-    (λ c. search rules)
-    (λ c. search rules)
-    (λ c. search rules)
-    returns-2
-    (λ c. search rules)
-    (λ c. search rules)
-    (λ c. search rules)
-    (λ c. search rules)
-    returns-3)
+returns-clause-out_after c = ap framed (sym (three c.args.number c.if-number-lt100.false (omega arith)))
