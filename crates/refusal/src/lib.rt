@@ -3,14 +3,14 @@
 // No call's own rows stand here.
 
 // The answer of a reader, beside the value that it read.
-#[derive(Drop)]
+#[derive(Clone, Copy)]
 pub enum Outcome {
     Done,
     Refused(u8),
 }
 
 // The answer of a writer or of merge: the number of bytes written at the front of the output, or the refusal's number.
-#[derive(Drop)]
+#[derive(Clone, Copy)]
 pub enum Written {
     Wrote(usize),
     Refused(u8),

@@ -1,5 +1,7 @@
 // The first pass over the body of a text: is it in the grammar, where does it end, how many nodes does it have, and is a number of
 // one out of its range?
+#![tactic(auto)]
+
 ghost use Rattle.std.specs.Prelude.{◌+◌, ◌^◌, ◌≤◌, ◌<◌, false, [], ◌∷◌, ◌≡◌, get_or};
 ghost use Rattle.sentence_scan.specs.Working.{begun_at, keep_bad, passed_to, stopped_at, InText, ReadsKinds, NodeReads};
 
@@ -7,14 +9,14 @@ use numerals::{byte_at, two_numbers};
 use sentence::{Kind, Node, is_fault};
 
 // The nodes read so far: how many, and whether one is out of its range.
-#[derive(Drop)]
+#[derive(Clone, Copy)]
 pub struct Tally {
     pub count: usize,
     pub fault: bool,
 }
 
 // The state of the scan: whether the text is in the grammar so far, the place of the next byte, and the nodes.
-#[derive(Drop)]
+#[derive(Clone, Copy)]
 pub struct Progress {
     pub ok: bool,
     pub at: usize,

@@ -7,14 +7,14 @@ ghost use Rattle.surveys.specs.Surveys.{TreeSurveyed, TreesSurveyed, layers_of_t
 use sentence::{Node, Slot, Wants, wants_of};
 
 // Where a node's own nodes end, and the layers that its evaluation needs.
-#[derive(Drop)]
+#[derive(Clone, Copy)]
 pub struct Extent {
     pub next: usize,
     pub layers: usize,
 }
 
 // Where two operands begin, in the order in which they are evaluated, and whether that is not the order in which they stand.
-#[derive(Drop)]
+#[derive(Clone, Copy)]
 pub struct Order {
     pub first: usize,
     pub then: usize,
