@@ -1,6 +1,7 @@
 // The refusal numbers of document 01: the two kinds of answer that readers and writers share, the definitions of
 // specs/ that give the document's number for each of their cases, and the laws that every call's proof cites.
 // No call's own rows stand here.
+#![tactic(auto)]
 
 // The answer of a reader, beside the value that it read.
 #[derive(Clone, Copy)]
