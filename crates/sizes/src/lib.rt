@@ -1,5 +1,7 @@
 // The size rule, refusal 10, over the places of a sentence's record. No number here grows past 2^62 + 1: of a number above 2^62
 // only that matters.
+#![tactic(auto)]
+
 ghost use Rattle.std.specs.Prelude.{ℕ, ◌+◌, ◌*◌, ◌^◌, ◌≤◌, ◌<◌, false, ◌≡◌};
 ghost use Rattle.meaning.specs.Size.{exceeds as exceedsRule};
 ghost use Rattle.meaning.specs.Tree.{Formula};

@@ -1,5 +1,7 @@
 // How many layers a node's evaluation needs at once, and where its nodes end. Of two operands the one that needs more is
 // evaluated first, so that no sentence of 64 nodes needs more than seven layers.
+#![tactic(auto)]
+
 ghost use Rattle.std.specs.Prelude.{◌≡◌, ◌+◌, ◌≤◌, ◌<◌, max};
 ghost use Rattle.trees.specs.Need.{paired};
 ghost use Rattle.surveys.specs.Surveys.{TreeSurveyed, TreesSurveyed, layers_of_two, Ordered};
