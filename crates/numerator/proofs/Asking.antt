@@ -1,10 +1,10 @@
 -- Whether the tuple and the number are right, of a sentence that was read.
 use Prim.Native.Nat.{ℕ, ◌<◌}
-use mathlib.Core.Bool.{Bool, true, false, not}
+use mathlib.Core.Bool.{Bool, true, false}
 use mathlib.Core.List.{List}
 use mathlib.Core.Path.{◌≡◌, refl, sym, ap, ◌∙◌}
 use native.Mathlib.Omega.{arith}
-use borrow.Author.Tests.{lt-ltb, le-ltb, ltb-true, eqb-true, not-true, not-false}
+use borrow.Author.Tests.{lt-ltb, le-ltb, ltb-true, eqb-true}
 use lib.Dec.{ltb, eqb}
 use lib.ListN.{length}
 use Rattle.counting.proofs.Laws.{left_of, right_of}
@@ -64,8 +64,8 @@ right_parts m s f tuple number e =
 -- what the test of the two says, of the text that the sentence is read from
 module _ {m : Model} {s : Sentence} {tuple : List ℕ} {number : ℕ} {r : Bool} (asked : Right m s tuple number r) {text : List ℕ}
     (b : TextOfSentence text s) where
-  pub asks_wrong : not r ≡ true → asks_right m s b.body tuple number ≡ false
-  asks_wrong e = sym (asked.each text b) ∙ not-true r e
+  pub asks_wrong : r ≡ false → asks_right m s b.body tuple number ≡ false
+  asks_wrong e = sym (asked.each text b) ∙ e
 
-  pub asks_so : not r ≡ false → asks_right m s b.body tuple number ≡ true
-  asks_so e = sym (asked.each text b) ∙ not-false r e
+  pub asks_so : r ≡ true → asks_right m s b.body tuple number ≡ true
+  asks_so e = sym (asked.each text b) ∙ e

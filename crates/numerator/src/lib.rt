@@ -1,4 +1,6 @@
 // Numerator: the rows of a question and row 15, row 1 after them, then the path formula's numerators at every tuple, of which one is asked.
+#![tactic(auto)]
+
 ghost use Rattle.std.specs.Prelude.{◌≡◌, length};
 ghost use Rattle.chain.specs.Of.{chain_of};
 ghost use Rattle.question.specs.Contract.{area_needed};
