@@ -1,0 +1,18 @@
+-- `exports::sentences::twolsken_write_sentence` meets its contract, by what write sentence ensures of its answer.
+use mathlib.Core.Bool.{Bool}
+use mathlib.Core.List.{List}
+use mathlib.Core.Path.{ap₂, subst}
+use Rattle.sentence.specs.declared.Slot.{Slot}
+use Rattle.sentence.specs.declared.Sentence.{Sentence}
+use Rattle.exports.specs.Sentences.{ExportedWriteSentence}
+use Rattle.exports.proofs.sentences.twolsken_write_sentence.Goals as goal
+
+-- the record that is written is that of the lent parts
+pub returns : goal.returns
+returns c =
+    let a = c.args in
+    let same = ap₂ {C = Sentence}
+    (λ (exists : List Bool) (nodes : List Slot). record { letters = a.letters; exists = exists; count = a.count; nodes = nodes })
+    c.letters_of.ensures c.places_of.ensures in
+    subst (λ (s : Sentence). ExportedWriteSentence s a.out.now c.write_sentence-written.new.out c.written_code.result) same
+    (record { answer = c.write_sentence-written.result; ensures = c.write_sentence-written.ensures; coded = c.written_code.ensures })
