@@ -87,7 +87,8 @@ differ_so m grouping fields e = by (eqb (mask_of m s) (mask_of m t)) refl
         (bits_same 16 (mask_of m s) (mask_of m t) (mask_two m fields s (omega (arith, few, first.1)))
         (mask_two m fields t (omega (arith, few, second.1))) same))
     by true p =
-        let test : ℕ → Bool = λ h. eqb (weight_into (chain_of m) (group_of grouping) s h) (weight_into (chain_of m) (group_of grouping) t h) in
+        let test : ℕ → Bool = λ h. eqb (weight_into (chain_of m) (group_of grouping) s h)
+        (weight_into (chain_of m) (group_of grouping) t h) in
         let third = some_fails (group_count grouping) test
         (second_fails (eqb (mask_of m s) (mask_of m t)) (every_below (group_count grouping) test)
         (unless_right (eqb (group_of grouping s) (group_of grouping t)) (alike m grouping s t) second.2) p) in

@@ -18,7 +18,7 @@ use Rattle.sentence_writer.specs.Contract.{WriteRow, WriteSentenceEnsures}
 use Rattle.meaning.specs.Lists.{total, Each, Distinct}
 use Rattle.meaning.specs.Chain.{Chain, Tuple, Inside, Run, run_weight}
 use Rattle.meaning.specs.Tree.{probability, PathFormula, letter_of}
-use Rattle.meaning.specs.Named.{Some, count, named, v, chosen}
+use Rattle.meaning.specs.Named.{Some, count, named, chosen}
 use Rattle.meaning.specs.Meaning.{steps_of, value, verdict}
 use Rattle.meaning.specs.Watches.{takes}
 use Rattle.meaning.specs.Merging.{weight_into, Grouping}
