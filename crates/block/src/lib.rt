@@ -44,16 +44,15 @@ fn from_block<'a>(file: &'a [u8], block: usize) -> &'a [u8]
     &file[at..]
 }
 
-// Byte j of a block of the file, and 0 past the file's end. The covered function that the block reader is thin over.
+// Byte j of a block of the file, and 0 past the file's end. The function on a slice and numbers that the block reader is thin over.
 fn byte_in(file: &[u8], block: usize, j: usize) -> u8
     ensures { result ≡ byte_of file.now block j }
 {
     byte_at(from_block(file, block), j)
 }
 
-// A block reader shows one block of the lent file at a time: it holds the file and the number of that block. The borrow
-// checker does not cover a struct that holds a reference, so the three functions over it are proved by a walk of their code.
-#[derive(Drop)]
+// A block reader shows one block of the lent file at a time: it holds the file and the number of that block.
+#[derive(Clone, Copy)]
 struct Reader<'a> {
     pub file: &'a [u8],
     pub block: usize,
@@ -73,8 +72,7 @@ fn shown<'a>(r: Reader<'a>, j: usize) -> u8
     byte_in(r.file, r.block, j)
 }
 
-// Byte j of a block of the file, as a block reader shows it. Its parameters are plain, so every caller is covered, and
-// whoever reads blocks calls it.
+// Byte j of a block of the file, as a block reader shows it. Whoever reads blocks calls it.
 pub fn block_byte(file: &[u8], block: usize, j: usize) -> u8
     ensures { result ≡ byte_of file.now block j }
 {
@@ -89,7 +87,7 @@ pub fn two_of(low: u8, high: u8) -> u16
 }
 
 // The running totals of the check, taken from the back: that of the bytes seen so far, and that of those totals.
-#[derive(Drop)]
+#[derive(Clone, Copy)]
 pub struct Totals {
     pub plain: u32,
     pub weighed: u32,

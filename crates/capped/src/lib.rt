@@ -1,4 +1,6 @@
 // Products, sums and powers that stop above 2^62: of a larger number only that it is larger matters, and it is kept as 2^62 + 1.
+#![tactic(auto)]
+
 ghost use Rattle.std.specs.Prelude.{◌+◌, ◌*◌, ◌^◌, ◌≤◌, ◌≡◌};
 ghost use Rattle.meaning.specs.Size.{size_limit, too_large};
 ghost use Rattle.capped.specs.Capping.{capped};

@@ -1,5 +1,7 @@
 // The chain that a model record describes. specs/Of says what it is; here its rows are filled, for verdict, numerator and merge,
 // and in proofs/ stand the laws about the chain of an accepted file that the layers above cite.
+#![tactic(auto)]
+
 ghost use Rattle.std.specs.Prelude.{◌≡◌, cond, [], ◌<◌, eqb, get_or};
 ghost use Rattle.counting.specs.Below.{table};
 ghost use Rattle.chain.specs.Of.{filled_rows};

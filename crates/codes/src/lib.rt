@@ -1,5 +1,7 @@
 // The codes that the exported calls speak in: a writer's answer as one number, a node as three numbers (a tag and what the node
 // holds), a letter as one. specs/Codes says which code stands for what.
+#![tactic(auto)]
+
 ghost use Rattle.std.specs.Prelude.{◌≡◌};
 ghost use Rattle.codes.specs.Codes.{code_of, relation_code, code_of_node, codes_of, letter_code, letter_codes};
 ghost use Rattle.codes.specs.Codes.{no_node, label_of, comparison_of, node_of, node_of_code, places_of_codes, letters_of};

@@ -1,4 +1,6 @@
 // The quantifier descent: fixes one variable and calls itself with one letter fewer.
+#![tactic(auto)]
+
 ghost use Rattle.std.specs.Prelude.{◌≡◌, ◌<◌, length};
 ghost use Rattle.descent.specs.Descent.{met_at, descended, letters_from, DescentReady};
 

@@ -1,5 +1,7 @@
 // Fractions: expression numerators as i64, with their sign, over the denominators that the size rule bounds; and layers
 // of their codes.
+#![tactic(auto)]
+
 pub mod codes;
 mod signs;
 
@@ -8,7 +10,7 @@ ghost use Rattle.meaning.specs.Meaning.{related, compared};
 ghost use Rattle.fractions.specs.Operations.{over, operated, meant_relation, OperandsFit, CrossesFit};
 
 // The three operations on expressions.
-#[derive(Drop)]
+#[derive(Clone, Copy)]
 pub enum Operation {
     Sum,
     Difference,
@@ -16,7 +18,7 @@ pub enum Operation {
 }
 
 // The five comparisons.
-#[derive(Drop)]
+#[derive(Clone, Copy)]
 pub enum Relation {
     Less,
     AtMost,
@@ -26,7 +28,7 @@ pub enum Relation {
 }
 
 // What to make of two numerators: the numerator of an operation, or the truth of a comparison.
-#[derive(Drop)]
+#[derive(Clone, Copy)]
 enum Making {
     Operated(Operation),
     Compared(Relation),

@@ -48,7 +48,8 @@ module _ (m : Model) (grouping : List ℕ) where
   -- two states that are alike have one mask, and the same weight into every group
   alike_mask : (s t : ℕ) → alike m grouping s t ≡ true → mask_of m s ≡ mask_of m t
   alike_mask s t e =
-      eqb-true (mask_of m s) (mask_of m t) (left_of (eqb (mask_of m s) (mask_of m t)) (every_below (group_count grouping) (same_weight s t)) e)
+      eqb-true (mask_of m s) (mask_of m t)
+      (left_of (eqb (mask_of m s) (mask_of m t)) (every_below (group_count grouping) (same_weight s t)) e)
 
   alike_weight : (s t : ℕ) → alike m grouping s t ≡ true → (h : ℕ) → h < group_count grouping →
       weight_into (chain_of m) (group_of grouping) s h ≡ weight_into (chain_of m) (group_of grouping) t h

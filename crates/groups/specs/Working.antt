@@ -14,7 +14,8 @@ pub record FirstMember (f : ℕ → ℕ) (g n r : ℕ) : Type 0 where
 -- two states agree in their masks and in the first columns of their totals
 abbrev pub pair_alike : List ℕ → List (List ℕ) → ℕ → ℕ → ℕ → Bool
 pair_alike masks totals count s t =
-    eqb (get_or masks s 0) (get_or masks t 0) && every_below count (λ h. eqb (get_or (get_or totals s []) h 0) (get_or (get_or totals t []) h 0))
+    eqb (get_or masks s 0) (get_or masks t 0) && every_below count
+    (λ h. eqb (get_or (get_or totals s []) h 0) (get_or (get_or totals t []) h 0))
 
 -- the masks of the groups below a count, and 0 from it on
 abbrev pub masks_of_groups : List ℕ → List ℕ → ℕ → List ℕ

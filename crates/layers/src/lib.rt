@@ -1,5 +1,7 @@
 // Layers: the numbers of all T tuples at once, in the work area that a caller lends. The front T numbers are the first
 // layer, the next T the second, and so on.
+#![tactic(auto)]
+
 pub mod periods;
 pub mod plain;
 pub mod power;

@@ -1,6 +1,7 @@
 -- What a path takes, its numerator and denominator, the value of an expression, when a formula is met at a tuple and
 -- when a sentence holds: document 01, 'Meaning', with T-02 of document 02, and source document 000, section 2.2.
-use Rattle.std.specs.Prelude.{ℕ, zero, suc, ◌*◌, ◌^◌, Bool, true, false, cond, not, ◌&&◌, List, [], ◌∷◌, leb, ℤ, pos, ◌+ℤ◌, ◌-ℤ◌, ◌*ℤ◌, get_or, length}
+use Rattle.std.specs.Prelude.{ℕ, zero, suc, ◌*◌, ◌^◌, Bool, true, false, cond, not, ◌&&◌}
+use Rattle.std.specs.Prelude.{List, [], ◌∷◌, leb, ℤ, pos, ◌+ℤ◌, ◌-ℤ◌, ◌*ℤ◌, get_or, length}
 use Rattle.std.specs.Int.Signed.{lt_z, le_z}
 use Rattle.meaning.specs.Lists.{below, every, there_is, total}
 use Rattle.meaning.specs.Chain.{Chain, Tuple, Run, run_weight, runs}

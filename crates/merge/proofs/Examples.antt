@@ -98,7 +98,8 @@ merged_0_1_2 = refl
 number_model_m2 : (grouping : List ℕ) → merge_number (file_of model_m2) grouping 3072 ≡ first (group_rows model_m2 grouping 3072)
 number_model_m2 grouping = number_of model_m2 fields_model_m2 adds_model_m2 long_model_m2 grouping 3072
 
-merging_model_m2 : (grouping : List ℕ) (result : Sketch) → grouping_right model_m2.n grouping ≡ true → groups_alike model_m2 grouping ≡ true →
+merging_model_m2 : (grouping : List ℕ) (result : Sketch) → grouping_right model_m2.n grouping ≡ true → groups_alike model_m2 grouping ≡
+    true →
     merged_model model_m2 grouping ≡ model_of_sketch result → MergeMet (merges M2 grouping result)
 unfolding MergeMet
 merging_model_m2 grouping result grouped alike e = (

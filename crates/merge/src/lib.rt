@@ -1,5 +1,7 @@
 // Merge: the model of a file, its states put together by a grouping, written as a file. What a grouping is and what the merged
 // model is stands in specs/Groups of the crate `groups`; the call's rows and what it writes in specs/Contract.
+#![tactic(auto)]
+
 ghost use Rattle.std.specs.Prelude.{◌≡◌, true, length};
 ghost use Rattle.refusal.specs.Answers.{Writes};
 ghost use Rattle.model.specs.Layout.{file_of};

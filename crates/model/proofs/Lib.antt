@@ -3,7 +3,6 @@ pub mod Answer
 pub mod Places
 pub mod Rightness
 pub mod Roundtrip
-pub mod Spelled
 pub mod Standing
 pub mod Theorems
 pub mod Words

@@ -15,7 +15,8 @@ use Rattle.counting.proofs.Laws.{table_at, table_is, every_at, every_all, left_o
 use Rattle.block.specs.Block.{byte_of, blocks_in, two, low_byte, high_byte, check_of, check_right, checks_right}
 use Rattle.block.proofs.Laws.{check_same}
 use Rattle.model.specs.declared.Model.{Model}
-use Rattle.model.specs.Layout.{mask_of, weight_of, Shaped, two_at, four_at, mask_at, weight_at, byte_of_two, head_byte, content_byte, byte_at}
+use Rattle.model.specs.Layout.{mask_of, weight_of, Shaped, two_at, four_at}
+use Rattle.model.specs.Layout.{mask_at, weight_at, byte_of_two, head_byte, content_byte, byte_at}
 use Rattle.model.specs.Layout.{block_bytes, blocks_below, blocks, file_of, fields_of}
 use Rattle.model.specs.Rules.{length_right, fields_right, laid_out, rows_right}
 use Rattle.model.specs.Contract.{file_number}

@@ -17,7 +17,8 @@ use Rattle.counting.specs.Below.{sum_below, every_below}
 use Rattle.counting.proofs.Laws.{every_at, every_all, and_true, left_of, right_of, sum_same, Tested, holds, fails, tested}
 use Rattle.block.specs.Block.{byte_of, two, blocks_in}
 use Rattle.model.specs.Layout.{mask_of, weight_of, mask_at, weight_at, fields_of, head_byte, row_byte, content_byte, blocks, byte_of_two}
-use Rattle.model.specs.Rules.{within, mask_right, weight_right, fields_right, adds_up, empty_row, halted, rows_right, length_right, laid_out}
+use Rattle.model.specs.Rules.{within, mask_right, weight_right, fields_right, adds_up}
+use Rattle.model.specs.Rules.{empty_row, halted, rows_right, length_right, laid_out}
 use Rattle.model.specs.Words.{N, A, version_of, D, LaidOut, AddUp}
 use Rattle.model.proofs.Places.{byte_there}
 use Rattle.model.proofs.Rightness.{laid_fields, states_some, states_few, labels_some, labels_few, total_some, total_few, version_few}
@@ -339,5 +340,6 @@ module _ (file : List ℕ) (bytes : Bytes file) (e : laid_out file (fields_of fi
 
 -- row 5, which is stated by `rows_right`, asks what the documents' sentences on rows ask, of every file of bytes to which row 4 does not
 -- apply
-pub row_5_in_words : (file : List ℕ) → Bytes file → laid_out file (fields_of file) ≡ true → (rows_right (fields_of file) ≡ true) ↔ AddUp file
+pub row_5_in_words : (file : List ℕ) → Bytes file → laid_out file (fields_of file) ≡ true → (rows_right (fields_of file) ≡ true) ↔ AddUp
+    file
 row_5_in_words file bytes laid = (rows_words file bytes laid, words_rows file bytes laid)

@@ -42,4 +42,5 @@ pub record LaidOut (file : List ℕ) : Type 0 where
 -- Every state's weights add up to D; in version 1 a row may instead be zero in all its weights.
 abbrev pub AddUp : List ℕ → Type 0
 AddUp file =
-    (s : ℕ) → s < N file → (sum_below 32 (weight_at file s) ≡ D file) ⊎ ((version_of file ≡ 1) × ((t : ℕ) → t < 32 → weight_at file s t ≡ 0))
+    (s : ℕ) → s < N file → (sum_below 32 (weight_at file s) ≡ D file) ⊎
+    ((version_of file ≡ 1) × ((t : ℕ) → t < 32 → weight_at file s t ≡ 0))

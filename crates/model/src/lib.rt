@@ -1,5 +1,7 @@
 // The model file of document 01: its record, and what the layout asks of it. The layout is said once, in specs/Layout; the contracts of
 // read model and write model are in specs/Contract. Each of the two calls is a crate of its own.
+#![tactic(auto)]
+
 pub mod matrix;
 pub mod rules;
 
@@ -17,7 +19,7 @@ pub const ROWS_END: usize = 450;
 
 // A model as its file says it: N states, A labels, D, the version, a label mask for each state, and the weight from each
 // state to each. The record can hold what no file can: such a record is refused by write_model.
-#[derive(Drop)]
+#[derive(Clone, Copy)]
 pub struct Model {
     pub n: u32,
     pub a: u32,
@@ -28,7 +30,7 @@ pub struct Model {
 }
 
 // What read_model returns: the answer, and the model beside it. A refusal carries an empty model.
-#[derive(Drop)]
+#[derive(Clone, Copy)]
 pub struct ModelRead {
     pub outcome: Outcome,
     pub model: Model,

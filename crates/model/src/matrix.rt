@@ -1,10 +1,8 @@
-// The weight matrix: an array of 32 rows of 32 numbers, by value, and the struct that carries it in a model. The
-// borrow checker does not cover a literal of such a struct, nor a read of its field, so these two functions are
-// proved by a walk of their code; every caller of the two is covered.
+// The weight matrix: an array of 32 rows of 32 numbers, by value, and the struct that carries it in a model.
 ghost use Rattle.std.specs.Prelude.{◌≡◌};
 
 // The weights from each state to each: row s, column t.
-#[derive(Drop)]
+#[derive(Clone, Copy)]
 pub struct Weights {
     pub rows: [[u16; 32]; 32],
 }

@@ -1,5 +1,7 @@
 // Read model: the rows of a model file in the order of their numbers, then its fields. The layout, the record and the call's contract
 // are those of the crate `model`.
+#![tactic(auto)]
+
 mod fields;
 mod laid;
 

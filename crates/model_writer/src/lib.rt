@@ -1,4 +1,6 @@
 // Write model: the rows of the record in the order of their numbers, then its file, block by block.
+#![tactic(auto)]
+
 ghost use Rattle.std.specs.Prelude.{◌≡◌, [], ◌++◌, ◌+◌, ◌*◌, ◌/◌, ◌%◌, ◌<◌, ◌≤◌, length, get_or, drop};
 ghost use Rattle.counting.specs.Below.{table};
 ghost use Rattle.refusal.specs.Answers.{at_front};

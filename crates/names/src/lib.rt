@@ -1,4 +1,6 @@
 // Which variables a path names: those of the labels among its nodes, of nested paths too. They are found once for each path.
+#![tactic(auto)]
+
 ghost use Rattle.std.specs.Prelude.{◌≡◌, ◌≤◌, take};
 ghost use Rattle.meaning.specs.Named.{count};
 ghost use Rattle.names.specs.Names.{mentions, mentioned, names_between};

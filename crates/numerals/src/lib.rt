@@ -1,5 +1,7 @@
 // Numbers in a text, read and written. Document 01: a number is one to five digits, with no
 // leading zero unless it is `0`.
+#![tactic(auto)]
+
 ghost use Rattle.std.specs.Prelude.{◌+◌, ◌-◌, ◌≤◌, ◌<◌, false, [], ◌∷◌, ◌≡◌, length, get_or};
 ghost use Rattle.numerals.specs.Numeral.{number_text};
 ghost use Rattle.numerals.specs.Working.{Closing, NumberResult, NumbersResult, NoDigit, Put, numbers_text};
@@ -8,7 +10,7 @@ ghost use Rattle.numerals.specs.Working.{Closing, NumberResult, NumbersResult, N
 pub const BEYOND: u32 = 100000;
 
 // A number that was read, and the place past the byte after it.
-#[derive(Drop)]
+#[derive(Clone, Copy)]
 pub struct NumberRead {
     pub ok: bool,
     pub value: u32,
@@ -16,7 +18,7 @@ pub struct NumberRead {
 }
 
 // Two numbers that were read, and the place past the byte after the second.
-#[derive(Drop)]
+#[derive(Clone, Copy)]
 pub struct NumbersRead {
     pub ok: bool,
     pub first: u32,

@@ -15,14 +15,14 @@ use question::{question_of, setting_of};
 use sentence::Sentence;
 
 // What numerator answers.
-#[derive(Drop)]
+#[derive(Clone, Copy)]
 pub enum Answer {
     Counted { numerator: u64, denominator: u64 },
     Refused(u8),
 }
 
 // A numerator and its denominator.
-#[derive(Drop)]
+#[derive(Clone, Copy)]
 pub struct Ratio {
     pub top: u64,
     pub bottom: u64,

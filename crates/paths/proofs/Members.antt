@@ -145,6 +145,7 @@ right_ready n N s e letters states =
     record { few = omega arith; states = states; below = right_of (eqb (length s) n) (members_below N s) e }
 
 -- a layer holds its function's number of the tuple at the tuple's place
-pub layer_there : {N n r : ℕ} {g : Tuple → ℕ} {w : List ℕ} {s : Tuple} → Layer N n g w → length s ≡ n → TuplePlace N s r → get_or w r 0 ≡ g s
+pub layer_there : {N n r : ℕ} {g : Tuple → ℕ} {w : List ℕ} {s : Tuple} → Layer N n g w → length s ≡ n → TuplePlace N s r →
+    get_or w r 0 ≡ g s
 layer_there {N} {n} {r} {g} {w} {s} h long place =
     h.at r (subst (λ (k : ℕ). r < N ^ k) long place.inside) ∙ ap g (subst (λ (k : ℕ). tuple_of N k r ≡ s) long place.same)

@@ -1,4 +1,6 @@
 // What the numerator call is asked about: the path formula with a number, counted from 0 in written order, and a tuple.
+#![tactic(auto)]
+
 ghost use Rattle.std.specs.Prelude.{◌≡◌, ◌≤◌};
 ghost use Rattle.trees.specs.Listed.{starts_path};
 ghost use Rattle.paths.specs.Places.{PathPlace, TupleReady, TuplePlace};

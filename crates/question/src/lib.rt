@@ -120,7 +120,7 @@ fn area_needed(m: Model, s: Sentence) -> usize
 
 // A file and a text as the calls take them: the number that the rows 2 to 11 give, and where that is 0 the model, the sentence and how
 // many numbers of the work area they need.
-#[derive(Drop)]
+#[derive(Clone, Copy)]
 pub struct Question {
     pub number: u8,
     pub model: Model,

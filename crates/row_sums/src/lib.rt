@@ -1,4 +1,6 @@
 // Sums of products over the weights that are not 0. Where the windows are long D is small, and a row has at most D of them.
+#![tactic(auto)]
+
 ghost use Rattle.std.specs.Prelude.{◌≡◌, ℕ, ◌+◌, ◌*◌, ◌≤◌, ◌<◌, length, get_or};
 ghost use Rattle.counting.specs.Below.{sum_below};
 ghost use Rattle.meaning.specs.Size.{size_limit};

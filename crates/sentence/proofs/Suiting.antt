@@ -1,6 +1,6 @@
 -- The tests of a node's kind and of its text say what the grammar says. Assumes nothing.
 use Prim.Native.Nat.{ℕ, ◌≤◌, ◌<◌}
-use mathlib.Core.Bool.{true, false, ◌&&◌, true≢false}
+use mathlib.Core.Bool.{true, ◌&&◌, true≢false}
 use mathlib.Core.Path.{◌≡◌, refl, sym}
 use borrow.Author.Tests.{lt-ltb, le-leb, ltb-true, leb-true}
 use lib.Dec.{ltb, leb}

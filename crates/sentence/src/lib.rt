@@ -1,5 +1,7 @@
 // The record of a sentence, and what document 01 says of each node: whether its numbers are in their range, and what it wants
 // after it. The grammar is in specs/Grammar, the record in specs/Record. Reader and writer are crates of their own.
+#![tactic(auto)]
+
 ghost use Rattle.std.specs.Prelude.{◌≡◌};
 ghost use Rattle.sentence.specs.Grammar.{out_of_range, wants_of};
 
@@ -18,7 +20,7 @@ pub const NODES: usize = 64;
 pub const LETTERS: usize = 4;
 
 // The five comparisons.
-#[derive(Drop)]
+#[derive(Clone, Copy)]
 pub enum Relation {
     Less,
     AtMost,
@@ -28,7 +30,7 @@ pub enum Relation {
 }
 
 // The three kinds of node.
-#[derive(Drop)]
+#[derive(Clone, Copy)]
 pub enum Kind {
     State,
     Expression,
@@ -36,7 +38,7 @@ pub enum Kind {
 }
 
 // A node. Label 0 is `a`; a variable is its digit, 1..4.
-#[derive(Drop)]
+#[derive(Clone, Copy)]
 pub enum Node {
     True,
     Label { label: u8, variable: u8 },
@@ -53,13 +55,13 @@ pub enum Node {
 }
 
 // One place of the record.
-#[derive(Drop)]
+#[derive(Clone, Copy)]
 pub struct Slot {
     pub node: Node,
 }
 
 // A sentence: exists[i] says that the letter i + 1 is `E`; places past the count are no part of it.
-#[derive(Drop)]
+#[derive(Clone, Copy)]
 pub struct Sentence {
     pub letters: usize,
     pub exists: [bool; 4],
@@ -68,7 +70,7 @@ pub struct Sentence {
 }
 
 // What follows a node: nothing, one thing, or two of one kind.
-#[derive(Drop)]
+#[derive(Clone, Copy)]
 pub enum Wants {
     Nothing,
     One(Kind),

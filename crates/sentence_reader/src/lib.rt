@@ -1,5 +1,7 @@
 // Read sentence: the prefix and the nodes of a text, or the refusal. The contract is in specs/Contract. The text is read
 // twice: once to see whether it is in the grammar and its numbers in their ranges, once more to fill the record.
+#![tactic(auto)]
+
 ghost use Rattle.std.specs.Prelude.{◌-◌, ◌≤◌, ◌<◌, false, ◌≡◌, length, replicate, set};
 ghost use Rattle.sentence_reader.specs.Contract.{ReadSentenceEnsures};
 ghost use Rattle.sentence.specs.Record.{slot};
@@ -12,21 +14,21 @@ use sentence::{LETTERS, NODES, Node, Relation, Sentence, Slot, TEXT_BYTES};
 use sentence_scan::{Tally, begun, state_formula};
 
 // What read sentence returns: its answer, and the sentence beside it.
-#[derive(Drop)]
+#[derive(Clone, Copy)]
 pub struct SentenceRead {
     pub outcome: Outcome,
     pub sentence: Sentence,
 }
 
 // A node that was read, and the place past its own text.
-#[derive(Drop)]
+#[derive(Clone, Copy)]
 pub struct NodeRead {
     pub node: Node,
     pub next: usize,
 }
 
 // A prefix that was read, and the place past its dot.
-#[derive(Drop)]
+#[derive(Clone, Copy)]
 pub struct PrefixRead {
     pub ok: bool,
     pub letters: usize,

@@ -1,5 +1,7 @@
 // The first pass over the body of a text: is it in the grammar, where does it end, how many nodes does it have, and is a number of
 // one out of its range?
+#![tactic(auto)]
+
 ghost use Rattle.std.specs.Prelude.{◌+◌, ◌^◌, ◌≤◌, ◌<◌, false, [], ◌∷◌, ◌≡◌, get_or};
 ghost use Rattle.sentence_scan.specs.Working.{begun_at, keep_bad, passed_to, stopped_at, InText, ReadsKinds, NodeReads};
 
@@ -7,14 +9,14 @@ use numerals::{byte_at, two_numbers};
 use sentence::{Kind, Node, is_fault};
 
 // The nodes read so far: how many, and whether one is out of its range.
-#[derive(Drop)]
+#[derive(Clone, Copy)]
 pub struct Tally {
     pub count: usize,
     pub fault: bool,
 }
 
 // The state of the scan: whether the text is in the grammar so far, the place of the next byte, and the nodes.
-#[derive(Drop)]
+#[derive(Clone, Copy)]
 pub struct Progress {
     pub ok: bool,
     pub at: usize,
@@ -118,7 +120,7 @@ fn operator(p: Progress) -> Progress
 }
 
 // Reads a state formula from the next byte on, in a sentence of n letters. Each call has a smaller rest of the text.
-#[cycle(expression_path_state_formula)]
+#[cycle(scan)]
 pub fn state_formula(text: &[u8], n: usize, p: Progress) -> Progress
     requires { InText text.now p }
     ensures { ReadsKinds (Kind.State ∷ []) text.now n p result }
@@ -140,7 +142,7 @@ pub fn state_formula(text: &[u8], n: usize, p: Progress) -> Progress
 }
 
 // Reads an expression, likewise.
-#[cycle(expression_path_state_formula)]
+#[cycle(scan)]
 fn expression(text: &[u8], n: usize, p: Progress) -> Progress
     requires { InText text.now p }
     ensures { ReadsKinds (Kind.Expression ∷ []) text.now n p result }
@@ -160,7 +162,7 @@ fn expression(text: &[u8], n: usize, p: Progress) -> Progress
 }
 
 // Reads a path, likewise.
-#[cycle(expression_path_state_formula)]
+#[cycle(scan)]
 fn path(text: &[u8], n: usize, p: Progress) -> Progress
     requires { InText text.now p }
     ensures { ReadsKinds (Kind.Path ∷ []) text.now n p result }

@@ -1,4 +1,6 @@
 // A record's list of nodes: whether it is a thing of the grammar, how long its text is, and whether a node is out of its range.
+#![tactic(auto)]
+
 ghost use Rattle.std.specs.Prelude.{◌+◌, ◌≤◌, ◌<◌, [], ◌∷◌, ◌≡◌, length, drop};
 ghost use Rattle.sentence.specs.Grammar.{node_text, writable, kind_of};
 ghost use Rattle.sentence.specs.Record.{listed};
@@ -9,14 +11,14 @@ use numerals::{BEYOND, number_size};
 use sentence::{Kind, Node, Slot, Wants, is_fault, wants_of};
 
 // A place in a node list, and whether the list nests so far.
-#[derive(Drop)]
+#[derive(Clone, Copy)]
 pub struct Place {
     pub ok: bool,
     pub at: usize,
 }
 
 // The length of a list's text, and whether a node of it is out of its range.
-#[derive(Drop)]
+#[derive(Clone, Copy)]
 pub struct Survey {
     pub size: usize,
     pub fault: bool,

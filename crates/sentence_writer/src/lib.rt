@@ -1,5 +1,7 @@
 // Write sentence: the text of a record at the front of the output, or the refusal. The contract is in specs/Contract. All
 // that can be refused is decided before a byte is written.
+#![tactic(auto)]
+
 ghost use Rattle.std.specs.Prelude.{◌+◌, ◌≤◌, ◌<◌, [], ◌∷◌, map, ◌≡◌, length, take, drop};
 ghost use Rattle.sentence.specs.Grammar.{node_text, body_text, relation_byte, letter_byte, Writable};
 ghost use Rattle.sentence_writer.specs.Contract.{WriteSentenceEnsures};

@@ -1,5 +1,7 @@
 // The size rule, refusal 10, over the places of a sentence's record. No number here grows past 2^62 + 1: of a number above 2^62
 // only that matters.
+#![tactic(auto)]
+
 ghost use Rattle.std.specs.Prelude.{ℕ, ◌+◌, ◌*◌, ◌^◌, ◌≤◌, ◌<◌, false, ◌≡◌};
 ghost use Rattle.meaning.specs.Size.{exceeds as exceedsRule};
 ghost use Rattle.meaning.specs.Tree.{Formula};
@@ -14,7 +16,7 @@ use sentence::{Node, Sentence, Slot, Wants, wants_of};
 
 // What is found of a tree: where its nodes end; an expression's d and m, capped; a path's steps; and whether some number of the size
 // rule is above 2^62. What a tree of its kind does not have is 0.
-#[derive(Drop)]
+#[derive(Clone, Copy)]
 struct Measure {
     next: usize,
     d: u64,
@@ -24,7 +26,7 @@ struct Measure {
 }
 
 // What is found of two trees, one after another.
-#[derive(Drop)]
+#[derive(Clone, Copy)]
 struct MeasureTwo {
     next: usize,
     d1: u64,

@@ -94,7 +94,8 @@ scaled D m bound =
     omega arith
 
 -- whether the variable with m after it moves, of the last l of n
-pub is_moving : {n l m : ℕ} (moving : Some) → l ≤ n → m < l → get_or (last_of n l moving) (l - suc m) false ≡ get_or moving (n - suc m) false
+pub is_moving : {n l m : ℕ} (moving : Some) → l ≤ n → m < l →
+    get_or (last_of n l moving) (l - suc m) false ≡ get_or moving (n - suc m) false
 is_moving {n} {l} {m} moving few less =
     let e : n - l + (l - suc m) ≡ n - suc m = omega arith in
     get_or-drop (n - l) (take n moving) (l - suc m) false ∙

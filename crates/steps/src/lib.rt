@@ -1,5 +1,7 @@
 // A joint step of some variables of a layer in place, one after another: for v of them v × N products a tuple, or v times as many
 // as a row has weights that are not 0, where each has few. The other variables stay.
+#![tactic(auto)]
+
 ghost use Rattle.std.specs.Prelude.{◌≡◌, true, false, suc, ◌*◌, ◌-◌, ◌≤◌, ◌<◌, length, get_or, take};
 ghost use Rattle.layers.specs.Held.{most_states, most_variables};
 ghost use Rattle.row_sums.specs.Sparse.{RowsNamed};

@@ -1,5 +1,7 @@
 // How many layers a node's evaluation needs at once, and where its nodes end. Of two operands the one that needs more is
 // evaluated first, so that no sentence of 64 nodes needs more than seven layers.
+#![tactic(auto)]
+
 ghost use Rattle.std.specs.Prelude.{◌≡◌, ◌+◌, ◌≤◌, ◌<◌, max};
 ghost use Rattle.trees.specs.Need.{paired};
 ghost use Rattle.surveys.specs.Surveys.{TreeSurveyed, TreesSurveyed, layers_of_two, Ordered};
@@ -7,14 +9,14 @@ ghost use Rattle.surveys.specs.Surveys.{TreeSurveyed, TreesSurveyed, layers_of_t
 use sentence::{Node, Slot, Wants, wants_of};
 
 // Where a node's own nodes end, and the layers that its evaluation needs.
-#[derive(Drop)]
+#[derive(Clone, Copy)]
 pub struct Extent {
     pub next: usize,
     pub layers: usize,
 }
 
 // Where two operands begin, in the order in which they are evaluated, and whether that is not the order in which they stand.
-#[derive(Drop)]
+#[derive(Clone, Copy)]
 pub struct Order {
     pub first: usize,
     pub then: usize,

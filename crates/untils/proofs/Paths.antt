@@ -31,7 +31,8 @@ truth_small {N} {n} p h k l = le_trans (le_of_eq (h.at k l)) (small (p (tuple_of
 
 -- a variable before the first that an until names occurs in neither formula
 unnamed : (k1 k2 : ℕ) (f g : Formula) (n : ℕ) {l : ℕ} → l ≤ length (named (until k1 k2 f g) n) →
-    ((i : ℕ) → i < l → get_or (named (until k1 k2 f g) n) i false ≡ false) → (i : ℕ) → i < l → (occurs (suc i) f || occurs (suc i) g) ≡ false
+    ((i : ℕ) → i < l → get_or (named (until k1 k2 f g) n) i false ≡ false) → (i : ℕ) → i < l → (occurs (suc i) f || occurs (suc i) g) ≡
+    false
 unfolding occurs
 unnamed k1 k2 f g n few quiet i less =
     let p = until k1 k2 f g in

@@ -188,7 +188,8 @@ module _ {rows : List (List ℕ)} {N n v T d k1 k2 last few : ℕ} {moving : Som
     }
 
     -- the layer of a test in the front, and behind it, by the tuples of the last variables
-    front_layer : (test : Tuple → Bool) → Layer N n (truth test) before → Layer N last (truth (λ x. test (tuple_of N (n - last) 0 ++ x))) mid
+    front_layer : (test : Tuple → Bool) → Layer N n (truth test) before → Layer N last
+        (truth (λ x. test (tuple_of N (n - last) 0 ++ x))) mid
     front_layer test one = record {
       at = λ k l.
           let less : k < few = omega (arith, whole) in

@@ -1,4 +1,6 @@
 // The numerator of an until at all tuples: by steps left, one joint step and one choice a layer.
+#![tactic(auto)]
+
 ghost use Rattle.std.specs.Prelude.{◌≡◌, ◌⊎◌, ◌+◌, ◌^◌, ◌≤◌, ◌<◌, length, get_or, take};
 ghost use Rattle.layers.specs.Layers.{WrittenAt};
 ghost use Rattle.layers.specs.Held.{most_variables, most_tuples};

@@ -16,7 +16,7 @@ use question::{question_of, setting_of};
 use sentence::Sentence;
 
 // What verdict answers.
-#[derive(Drop)]
+#[derive(Clone, Copy)]
 pub enum Answer {
     Holds,
     Fails,

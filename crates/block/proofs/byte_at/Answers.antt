@@ -1,5 +1,4 @@
 -- `block::byte_at` meets its contract: past the end `get_or` has its default.
-use borrow.Author.Rules.{rules}
 use lib.ListN.{get_or-eq_default}
 use mathlib.Core.Path.{sym}
 use Rattle.block.proofs.byte_at.Goals as goal

@@ -1,5 +1,4 @@
 -- `block::byte_in` meets its contract: byte j of the file from the block on is byte j of the block.
-use borrow.Author.Rules.{rules}
 use mathlib.Core.Path.{◌∙◌}
 use Rattle.block.proofs.Laws.{part_byte}
 use Rattle.block.proofs.byte_in.Goals as goal

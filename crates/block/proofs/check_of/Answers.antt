@@ -1,6 +1,5 @@
 -- `block::check_of` meets its contract, by what `weighed` ensures of the block's part of the file: byte j of the part is byte j of the
 -- block.
-use borrow.Author.Rules.{rules}
 use Rattle.block.proofs.Laws.{part_check}
 use Rattle.block.proofs.check_of.Goals as goal
 

@@ -1,5 +1,4 @@
 -- `block::check_right` meets its contract, by what `check_of` and `block_byte` ensure.
-use borrow.Author.Rules.{rules}
 use Prim.Native.Nat.{ℕ}
 use mathlib.Core.Bool.{Bool, ◌&&◌}
 use mathlib.Core.Path.{ap₂, ◌∙◌}

@@ -1,14 +1,10 @@
 -- `block::checks_right` meets its contract. The invariant: the checks of the blocks passed are right.
 use borrow.Author.Rules.{rules}
-use Prim.Native.Nat.{◌≤◌, ◌-◌, ◌/◌}
+use Prim.Native.Nat.{◌/◌}
 use native.Mathlib.Omega.{arith}
 use lib.ListN.{length}
-use borrow.Author.Tests.{not-true, not-false}
-use mathlib.Core.Bool.{true}
 use mathlib.Core.Path.{◌≡◌, sym, ◌∙◌}
-use Rattle.counting.specs.Below.{every_below}
 use Rattle.counting.proofs.Laws.{every_none, every_more, every_but}
-use Rattle.block.specs.Block.{byte_of, check_right}
 use Rattle.block.proofs.checks_right.Goals as goal
 
 pub loop-i-init : goal.loop-i-init

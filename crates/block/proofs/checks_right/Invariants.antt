@@ -1,13 +1,8 @@
 -- `block::checks_right` meets its contract. The invariant: the checks of the blocks passed are right.
-use borrow.Author.Rules.{rules}
-use Prim.Native.Nat.{◌≤◌, ◌-◌, ◌/◌}
-use native.Mathlib.Omega.{arith}
-use lib.ListN.{length}
-use borrow.Author.Tests.{not-true, not-false}
+use Prim.Native.Nat.{◌≤◌, ◌-◌}
 use mathlib.Core.Bool.{true}
-use mathlib.Core.Path.{◌≡◌, sym, ◌∙◌}
+use mathlib.Core.Path.{◌≡◌}
 use Rattle.counting.specs.Below.{every_below}
-use Rattle.counting.proofs.Laws.{every_none, every_more, every_but}
 use Rattle.block.specs.Block.{byte_of, check_right}
 use Rattle.block.proofs.checks_right.Given as goal
 

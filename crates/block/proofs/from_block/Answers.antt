@@ -1,5 +1,4 @@
 -- `block::from_block` meets its contract: where the file ends before the block, nothing is left of it.
-use borrow.Author.Rules.{rules}
 use Prim.Native.Nat.{◌*◌, ◌≤◌}
 use mathlib.Core.Path.{sym, ◌∙◌}
 use native.Mathlib.Omega.{arith}

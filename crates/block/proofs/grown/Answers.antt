@@ -1,5 +1,4 @@
 -- `block::grown` meets its contract: written out, so that an edit of the code is refused here and not at a caller.
-use borrow.Author.Rules.{rules}
 use Prim.Native.Nat.{ℕ, ◌+◌}
 use mathlib.Core.Path.{ap}
 use Rattle.block.proofs.grown.Goals as goal

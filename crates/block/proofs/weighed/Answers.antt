@@ -1,11 +1,10 @@
 -- `block::weighed` meets its contract. The invariant: the bytes from `i` on are in the two totals (Backwards), which are small: each byte
 -- adds at most 255 to the first, and the first, at most 510 × 255, to the second.
-use borrow.Author.Rules.{rules}
-use Prim.Native.Nat.{◌+◌, ◌-◌, ◌*◌, ◌≤◌}
+use Prim.Native.Nat.{◌+◌, ◌-◌}
 use mathlib.Core.Path.{◌≡◌}
 use native.Mathlib.Omega.{arith}
 use lib.ListN.{get_or}
-use Rattle.block.proofs.Backwards.{Backwards, backwards_none, backwards_next, backwards_all}
+use Rattle.block.proofs.Backwards.{backwards_none, backwards_next, backwards_all}
 use Rattle.block.proofs.weighed.Goals as goal
 
 pub loop-i-init : goal.loop-i-init

@@ -1,11 +1,8 @@
 -- `block::weighed` meets its contract. The invariant: the bytes from `i` on are in the two totals (Backwards), which are small: each byte
 -- adds at most 255 to the first, and the first, at most 510 × 255, to the second.
-use borrow.Author.Rules.{rules}
-use Prim.Native.Nat.{◌+◌, ◌-◌, ◌*◌, ◌≤◌}
-use mathlib.Core.Path.{◌≡◌}
-use native.Mathlib.Omega.{arith}
+use Prim.Native.Nat.{◌+◌, ◌*◌, ◌≤◌}
 use lib.ListN.{get_or}
-use Rattle.block.proofs.Backwards.{Backwards, backwards_none, backwards_next, backwards_all}
+use Rattle.block.proofs.Backwards.{Backwards}
 use Rattle.block.proofs.weighed.Given as goal
 
 abbrev pub invariant-loop-i : goal.invariant-loop-i

@@ -1,0 +1,26 @@
+-- `model::rules::row_ends` meets its contract: below N a row is zero from N on, else from 0 on.
+use mathlib.Core.Bool.{Bool, ◌&&◌, ◌||◌}
+use mathlib.Core.Path.{ap, sym, ◌∙◌}
+use native.Mathlib.Omega.{arith}
+use lib.Dec.{ltb, eqb}
+use lib.ListN.{get_or}
+use borrow.Author.Tests.{lt-ltb, le-ltb}
+use Rattle.counting.proofs.Laws.{every_same}
+use Rattle.model.proofs.rules.row_ends.Goals as goal
+
+pub returns-then-s-n : goal.returns-then-s-n
+returns-then-s-n c =
+    let row = c.args.row.now in
+    let n = c.args.n in
+    c.zero_from.ensures ∙
+    every_same 32 (λ t less. ap (λ (b : Bool). b && ltb t n || eqb (get_or row t 0) 0) (sym (lt-ltb _ n c.if-s-n.true)))
+
+pub returns-else-s-n : goal.returns-else-s-n
+returns-else-s-n c =
+    let row = c.args.row.now in
+    let n = c.args.n in
+    c.zero_from-else-s-n.ensures ∙
+    every_same 32
+    (λ t less.
+    ap (λ (b : Bool). b || eqb (get_or row t 0) 0) (le-ltb t 0 (omega arith)) ∙
+    ap (λ (b : Bool). b && ltb t n || eqb (get_or row t 0) 0) (sym (le-ltb _ n c.if-s-n.false)))

@@ -1,0 +1,15 @@
+-- `model_writer::write_blocks` meets its contract: the blocks are written one after another.
+use Prim.Native.Nat.{◌-◌, ◌≤◌}
+use mathlib.Core.Path.{◌≡◌}
+use lib.ListN.{length}
+use Rattle.refusal.specs.Answers.{at_front}
+use Rattle.model.specs.Layout.{model_of, blocks_below}
+use Rattle.model_writer.proofs.write_blocks.Given as goal
+
+abbrev pub invariant-loop-i : goal.invariant-loop-i
+invariant-loop-i l =
+    (l.i ≤ l.count) × (length l.out ≡ length l.initial.out) ×
+    (l.out ≡ at_front (blocks_below (model_of l.n l.a l.d l.version l.masks l.rows) l.i) l.initial.out)
+
+abbrev pub decreases-loop-i : goal.decreases-loop-i
+decreases-loop-i l = l.count - l.i

@@ -1,0 +1,8 @@
+-- `more_digits` meets its contract: each byte is a case of NumberAt. The measure is what is left of the text.
+-- Assumes nothing.
+use Prim.Native.Nat.{◌-◌}
+use lib.ListN.{length}
+use Rattle.numerals.proofs.+more_digits.Given as goal
+
+abbrev pub decreases-more_digits : goal.decreases-more_digits
+decreases-more_digits l = length l.text.now - l.at

@@ -1,0 +1,18 @@
+-- `totals::totals::totals_of` meets its contract: the matrix is filled row by row.
+use mathlib.Core.Path.{refl}
+use native.Mathlib.Omega.{arith}
+use Rattle.counting.proofs.Laws.{filled_none, filled_next, filled_all}
+use Rattle.totals.proofs.totals.totals_of.Goals as goal
+
+pub loop-s-init : goal.loop-s-init
+loop-s-init c = filled_none refl
+
+pub totals_row-requires : goal.totals_row-requires
+totals_row-requires c =
+    (c.requires.0, c.requires.1 c.loop-s.s (omega arith))
+
+pub loop-s-preserved : goal.loop-s-preserved
+loop-s-preserved c = filled_next c.loop-s.invariant (omega arith) c.totals_row.ensures
+
+pub returns : goal.returns
+returns c = filled_all c.loop-s.invariant (omega arith)
