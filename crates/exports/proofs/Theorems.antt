@@ -137,7 +137,8 @@ values_refused e before = ap (λ (x : Reply (ℕ × ℕ)). values_left x before)
 
 -- ---- a verdict's code tells the verdict
 
-code_tells : (a b : Judged.Answer) → number_in (verdict_reply a) ≤ 11 → number_in (verdict_reply b) ≤ 11 → verdict_code a ≡ verdict_code b → a ≡ b
+code_tells : (a b : Judged.Answer) → number_in (verdict_reply a) ≤ 11 → number_in (verdict_reply b) ≤ 11 →
+    verdict_code a ≡ verdict_code b → a ≡ b
 unfolding verdict_code
 code_tells Holds Holds x y e = refl
 code_tells Holds Fails x y e = absurd (omega arith)
