@@ -187,6 +187,13 @@ pub record BothRun {k : Kind} {nodes : List Slot} {g : Setting} {masks : List �
   pub same : length mid ≡ length w
   pub long : length lent ≡ length (take (length mid - g.tuples) (drop g.tuples mid))
 
+-- so it is known by what the two calls left, and how long
+pub both_run : {k : Kind} {nodes : List Slot} {g : Setting} {masks : List ℕ} {rows : List (List ℕ)} {at : ℕ} {w : List ℕ}
+    (ready : TreesReady k nodes g masks rows at w) {r : Order} (o : Ordered nodes at r) {mid lent : List ℕ} {next bottom next' bottom' : ℕ}
+    (one : TreeDone k nodes g masks rows r.first mid next bottom) (other : TreeDone k nodes g masks rows r.then lent next' bottom') →
+    length mid ≡ length w → length lent ≡ length (take (length mid - g.tuples) (drop g.tuples mid)) → BothRun ready o one other
+both_run ready o one other same long = record { same = same; long = long }
+
 module _ {k : Kind} {nodes : List Slot} {g : Setting} {masks : List ℕ} {rows : List (List ℕ)} {at : ℕ} {w : List ℕ}
     {ready : TreesReady k nodes g masks rows at w} {r : Order} {o : Ordered nodes at r} {mid lent : List ℕ} {next bottom next' bottom' : ℕ}
     {one : TreeDone k nodes g masks rows r.first mid next bottom} {other : TreeDone k nodes g masks rows r.then lent next' bottom'}

@@ -110,10 +110,6 @@ module _ {k : Kind} {nodes : List Slot} {g : Setting} {masks : List ℕ} {rows :
   pub next_fits : Fits w64 (at + 1)
   next_fits = let h = tree_inside in record { fits = omega arith }
 
-  -- so is where the node lies in the array
-  pub place_fits : Fits w64 (at * 12)
-  place_fits = let h = tree_inside in record { fits = omega arith }
-
   -- a node is counted three times, so that the functions for two operands and for an operation on them stand between a node and the
   -- next: the count falls from the node to its one operand,
   pub to_operand : {t : ℕ} → 3 * (64 - at) ≡ t → 3 * (64 - (at + 1)) < t

@@ -16,7 +16,7 @@ use sentence::{Node, Slot};
 use surveys::order_of;
 
 // A state formula: its truth at all tuples. Unspecified for other nodes.
-#[cycle(combined_expression_path_state_formula_two_expressions_two_formulas)]
+#[cycle(nodes)]
 pub fn state_formula(
     nodes: [Slot; 64],
     g: Setting,
@@ -60,7 +60,7 @@ pub fn state_formula(
 
 // Two state formulas, the one that needs more layers first; the first one's truth in the front layer, the other's in the
 // next.
-#[cycle(combined_expression_path_state_formula_two_expressions_two_formulas)]
+#[cycle(nodes)]
 fn two_formulas(
     nodes: [Slot; 64],
     g: Setting,
@@ -84,7 +84,7 @@ fn two_formulas(
 }
 
 // An expression: the code of its numerator at all tuples, and its denominator. Unspecified for other nodes.
-#[cycle(combined_expression_path_state_formula_two_expressions_two_formulas)]
+#[cycle(nodes)]
 fn expression(
     nodes: [Slot; 64],
     g: Setting,
@@ -125,7 +125,7 @@ fn nothing(at: usize) -> Valued
 }
 
 // Two expressions and what an operation makes of them.
-#[cycle(combined_expression_path_state_formula_two_expressions_two_formulas)]
+#[cycle(nodes)]
 fn combined(
     op: Operation,
     nodes: [Slot; 64],
@@ -147,7 +147,7 @@ fn combined(
 }
 
 // Two expressions, the one that needs more layers first; the first one's codes in the front layer, the other's in the next.
-#[cycle(combined_expression_path_state_formula_two_expressions_two_formulas)]
+#[cycle(nodes)]
 fn two_expressions(
     nodes: [Slot; 64],
     g: Setting,
@@ -180,7 +180,7 @@ fn two_expressions(
 }
 
 // A path: its numerator at all tuples, and its denominator. Unspecified for other nodes.
-#[cycle(combined_expression_path_state_formula_two_expressions_two_formulas)]
+#[cycle(nodes)]
 pub fn path(
     nodes: [Slot; 64],
     g: Setting,

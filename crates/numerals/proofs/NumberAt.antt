@@ -80,8 +80,8 @@ zero_closed t at close e f l =
     (omega arith) (omega arith)
 
 -- the first digit of the number at a place is the byte there
-first_of : (t : List ℕ) (at w : ℕ) (rest : List ℕ) (h : Head (number_text w) w) → drop at t ≡ number_text w ++ rest → h.first ≡ get_or t
-    at 0
+first_of : (t : List ℕ) (at w : ℕ) (rest : List ℕ) (h : Head (number_text w) w) → drop at t ≡ number_text w ++ rest
+    → h.first ≡ get_or t at 0
 first_of t at w rest h same = ap first_byte (sym (ap (λ (l : List ℕ). l ++ rest) h.same) ∙ sym same) ∙ first_byte_here t at
 
 -- a leading zero, with another byte than the closing one after it

@@ -1,4 +1,6 @@
 // A path from the truth of its formulas: its numerators at all tuples and its denominator. Which variables step is found from its nodes.
+#![tactic(auto)]
+
 ghost use Rattle.path_steps.specs.Within.{NextFits, NextTaken, WindowFits, WindowTaken};
 
 use layers::STATES;
@@ -9,7 +11,7 @@ use steps::joint_step;
 use untils::until_repeated;
 
 // What evaluation is over: N states, n variables, T tuples, and D.
-#[derive(Drop)]
+#[derive(Clone, Copy)]
 pub struct Setting {
     pub states: usize,
     pub variables: usize,

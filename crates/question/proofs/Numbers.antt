@@ -21,6 +21,7 @@ file_number_bounds file (here e a) = (omega arith, omega arith)
 file_number_bounds file (later (here e a)) = (omega arith, omega arith)
 file_number_bounds file (later (later (here e a))) = (omega arith, omega arith)
 file_number_bounds file (later (later (later (here e a)))) = (omega arith, omega arith)
+file_number_bounds file (later (later (later (later w)))) = elim w [ ]
 
 pub text_number : {text : List ℕ} {n : ℕ} → ReadRow text n → (6 ≤ n) × (n ≤ 8)
 text_number (outside h) = (omega arith, omega arith)

@@ -31,7 +31,7 @@ use Rattle.chain.specs.Of.{chain_of, filled_rows}
 use Rattle.chain.proofs.Filling.{filled_cell}
 use Rattle.chain.proofs.Accepted as accepted
 use Rattle.question.specs.declared.Question.{Question}
-use Rattle.question.specs.Contract.{QuestionRow, model, sentence, size, tuples, SentenceOf, area_needed, needed, AreaShort}
+use Rattle.question.specs.Contract.{QuestionRow, sentence, size, tuples, SentenceOf, area_needed, needed, AreaShort}
 use Rattle.question.specs.Working.{FileOfModel, TextOfSentence, Ready, Answerable, SettingOf}
 use Rattle.question.proofs.Numbers.{least_model}
 use Rattle.question.proofs.Early.{file_read, text_read}

@@ -1,5 +1,7 @@
 // A question: a model file, a sentence text and a work area. The rows 2 to 11 of document 01, which verdict and numerator
 // share, how much of the work area is needed where none of them applies, and the setting that such a pair is evaluated in.
+#![tactic(auto)]
+
 ghost use Rattle.std.specs.Prelude.{◌≡◌, ◌^◌, ◌≤◌, take};
 ghost use Rattle.refusal.specs.Answers.{number_in, reply_of};
 ghost use Rattle.meaning.specs.Lists.{every};

@@ -109,8 +109,8 @@ pub answer_many : {t : List ℕ} {ps : List Bool} {ns : List Node} → Spells ps
 answer_many s h e g = record { ensured = refused refl refl (many s g) (λ m r. omega (arith, (row_ranged s h e r).0)) }
 
 pub answer_done : {t : List ℕ} {ps : List Bool} {ns : List Node} → Spells ps ns t → length t ≤ 400
-    → some_out_of_range (length ps) ns ≡ false → length ns ≤ 64 → ReadSentenceEnsures t
-    (record { outcome = Done; sentence = record_of ps ns })
+    → some_out_of_range (length ps) ns ≡ false → length ns ≤ 64
+    → ReadSentenceEnsures t (record { outcome = Done; sentence = record_of ps ns })
 answer_done {ps = ps} {ns} s h e g =
     record {
       ensured = answered refl (record { prefix = ps; nodes = ns; spells = s; fields = refl })
@@ -201,8 +201,8 @@ whole t p r (prefix ps ok l h same n e x) good body fine over = by body.result
     count = omega arith
 
     to_end : (ns : List Node) → drop p.next t ≡ body_text ns ++ drop r.at t → drop p.next t ≡ body_text ns
-    to_end ns text = text ∙ ap (λ (s : List ℕ). body_text ns ++ s) (ap (λ (i : ℕ). drop i t) over ∙ drop-length t) ∙ append-nil
-        (body_text ns)
+    to_end ns text =
+        text ∙ ap (λ (s : List ℕ). body_text ns ++ s) (ap (λ (i : ℕ). drop i t) over ∙ drop-length t) ∙ append-nil (body_text ns)
 
     by : Result (State ∷ []) t p.letters (begun_at p.next) r → Read t p.next p.letters p.exists r.kept
     by (stopped a b) = absurd (true≢false a)

@@ -214,8 +214,8 @@ operator_passed n b t letters p q text w out l byte e f i same =
 relation_of : (b : ℕ) → ((b ≡ 71) ⊎ (b ≡ 76)) ⊎ ((60 ≤ b) × (b < 63)) → (r : Relation) × (node_text (Compare r) ≡ b ∷ []) × (1 ≤ b)
 relation_of b came = ⊎_elim (⊎_elim (is AtLeast 71 refl (omega arith)) (is AtMost 76 refl (omega arith))) between came
   where
-    is : (r : Relation) (c : ℕ) → node_text (Compare r) ≡ c ∷ [] → 1 ≤ c → b ≡ c → (r : Relation) × (node_text (Compare r) ≡ b ∷ []) ×
-        (1 ≤ b)
+    is : (r : Relation) (c : ℕ) → node_text (Compare r) ≡ c ∷ [] → 1 ≤ c → b ≡ c
+        → (r : Relation) × (node_text (Compare r) ≡ b ∷ []) × (1 ≤ b)
     is r c text l e = (r, text ∙ ap (λ (x : ℕ). x ∷ []) (sym e), omega arith)
 
     between : (60 ≤ b) × (b < 63) → (r : Relation) × (node_text (Compare r) ≡ b ∷ []) × (1 ≤ b)

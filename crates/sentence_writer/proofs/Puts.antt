@@ -39,7 +39,8 @@ put_no_letter out exists letters from h e =
 
 -- a node of a list and the nodes after it
 pub put_cons : {out mid after : List ℕ} {at next r : ℕ} (l : List Node) (from : ℕ) (n : Node) → drop from l ≡ n ∷ drop (from + 1) l
-    → Put out at (node_text n) next mid → Put mid next (body_text (drop (from + 1) l)) r after → Put out at (body_text (drop from l)) r after
+    → Put out at (node_text n) next mid → Put mid next (body_text (drop (from + 1) l)) r after
+    → Put out at (body_text (drop from l)) r after
 put_cons l from n here a b = put_as (ap body_text (sym here)) (put_then (node_text n) (body_text (drop (from + 1) l)) a b)
 
 pub cons_length : (l : List Node) (from : ℕ) (n : Node) → drop from l ≡ n ∷ drop (from + 1) l

@@ -17,4 +17,5 @@ pub data WriteRow (s : Sentence) (room : ℕ) : ℕ → Type 0 where
 -- what write sentence ensures of the record, the output before and after, and of what it returns: the text that the record's
 -- prefix and nodes spell stands at the front
 pub record WriteSentenceEnsures (s : Sentence) (before : List ℕ) (w : Written) (after : List ℕ) : Type 0 where
-  pub ensured : Ensured (WriteRow s (length before)) (TextAtFront (Spells (prefix_of s) (nodes_of s)) before) before (reply_of_written w) after
+  pub ensured : Ensured (WriteRow s (length before)) (TextAtFront (Spells (prefix_of s) (nodes_of s)) before)
+      before (reply_of_written w) after

@@ -219,7 +219,8 @@ module _ (slots : List Slot) (at : ℕ) (r : Extent) (room : at < 64) where
         expressions = λ a b m q v w. let h = s.expressions a b m q v w in (e ∙ h.0, l ∙ h.1);
       }
 
-      by : (n : Node) → node_at slots at ≡ n → operand_count (wants_of n) ≡ 2 → r.layers ≡ layers_of_two n t.layers → TreeSurveyed slots at r
+      by : (n : Node) → node_at slots at ≡ n → operand_count (wants_of n) ≡ 2 → r.layers ≡ layers_of_two n t.layers
+          → TreeSurveyed slots at r
       by True n h l = absurd (omega arith)
       by (Label x i) n h l = absurd (omega arith)
       by Not n h l = absurd (omega arith)

@@ -72,7 +72,8 @@ mutual
 
   -- an expression
   pub need_in_allowed : (a : Expression) → Allowed (need_in a) (length (expression_nodes a))
-  need_in_allowed (probability w) = more (need_from w) (length (path_nodes w)) (suc (length (path_nodes w))) (omega arith) (need_from_allowed w)
+  need_in_allowed (probability w) =
+      more (need_from w) (length (path_nodes w)) (suc (length (path_nodes w))) (omega arith) (need_from_allowed w)
   need_in_allowed (constant a b) = (omega arith, omega arith)
   need_in_allowed (sum a b) =
       joined (paired (need_in a) (need_in b)) (expression_nodes a) (expression_nodes b)

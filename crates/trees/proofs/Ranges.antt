@@ -27,7 +27,7 @@ InRange n (x ∷ ns) = Writable x × (out_of_range n x ≡ false) × InRange n n
 pub nests_in_range : {ks : List Kind} {ns : List Node} (n : ℕ) → Nests ks ns → some_out_of_range n ns ≡ false → InRange n ns
 nests_in_range n end e = tt
 nests_in_range n (node {n = x} {ns = ns} w k rest) e =
-    (w, or_left (out_of_range n x) (some_out_of_range n ns) e, nests_in_range n rest (or_right (out_of_range n x) (some_out_of_range n ns) e))
+    (w, or_left (out_of_range n x) _ e, nests_in_range n rest (or_right (out_of_range n x) (some_out_of_range n ns) e))
 
 in_front : (n : ℕ) (ms ns : List Node) → InRange n (ms ++ ns) → InRange n ms
 in_front n [] ns h = tt

@@ -89,7 +89,8 @@ module _ (n D : ℕ) where
     formula_within (negation f) = λ h. formula_within f (h.0, h.1, omega (arith, h.2))
     formula_within (both f g) = two_formulas And f g (formula_within f) (formula_within g)
     formula_within (compare r a b) =
-        two_expressions (Compare (relation_spelled r)) a b (large_cross (size a D n) (size b D n)) (expression_within a) (expression_within b)
+        two_expressions (Compare (relation_spelled r)) a b (large_cross (size a D n) (size b D n))
+        (expression_within a) (expression_within b)
 
     expression_within : (a : Expression) → PassesIn a
     expression_within (probability w) =

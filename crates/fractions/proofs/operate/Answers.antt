@@ -39,7 +39,8 @@ cross-requires-in-Difference-2 c = cross_asked (differences c.requires c.in-Diff
 
 pub minus-requires : goal.minus-requires
 minus-requires c =
-    crosses_fit (differences c.requires c.in-Difference.is) c.ranges.a c.ranges.b c.cross-in-Difference.ensures c.cross-in-Difference-2.ensures
+    crosses_fit (differences c.requires c.in-Difference.is) c.ranges.a c.ranges.b
+    c.cross-in-Difference.ensures c.cross-in-Difference-2.ensures
 
 pub times-requires : goal.times-requires
 unfolding sized mul_s

@@ -1,12 +1,10 @@
 -- `more_digits` meets its contract: each byte is a case of NumberAt. The measure is what is left of the text.
 -- Assumes nothing.
-use mathlib.Core.Logic.{inl, inr}
 use mathlib.Core.Path.{sym}
 use native.Mathlib.Omega.{arith}
 use Rattle.numerals.specs.Working.{NoDigit}
 use Rattle.numerals.proofs.NumberAt.{digit_on, sixth, unclosed}
 use Rattle.numerals.proofs.+more_digits.Goals as goal
-use Rattle.numerals.proofs.+more_digits.Goals.{in_default-via-then-b-lt48, in_default-via-else-b-lt48+else-b-lt58}
 
 pub returns-then-value-ge10000 : goal.returns-then-value-ge10000
 returns-then-value-ge10000 t c =
@@ -25,8 +23,6 @@ returns-else-value-ge10000 t c =
 pub returns-else-b-close : goal.returns-else-b-close
 returns-else-b-close t c =
     let b = c.byte_at-b in
-    let other : NoDigit b.result =
-    elim c.in_default.branch
-    [ in_default-via-then-b-lt48 w ↦ inl (omega arith) | in_default-via-else-b-lt48+else-b-lt58 w ↦ inr (omega arith) ] in
+    let other : NoDigit b.result = grind arith in
     unclosed c.args.text.now c.args.at c.args.value b.result c.args.close c.no_number-in_default.result
     c.requires.1 c.requires.2 c.requires.3 (sym b.ensures) other c.if-b-close.false c.no_number-in_default.ensures

@@ -1,12 +1,10 @@
 -- `number` meets its contract: each first byte is a case of NumberAt.
 -- Assumes nothing.
-use mathlib.Core.Logic.{inl, inr}
 use mathlib.Core.Path.{sym, ◌∙◌}
 use native.Mathlib.Omega.{arith}
 use Rattle.numerals.specs.Working.{NoDigit}
 use Rattle.numerals.proofs.NumberAt.{zero_closed, zero_open, digit_first, no_first}
 use Rattle.numerals.proofs.number.Goals as goal
-use Rattle.numerals.proofs.number.Goals.{in_default-via-then-b-lt48, in_default-via-else-b-lt48+else-b-lt58}
 
 pub returns-then-byte_at-close : goal.returns-then-byte_at-close
 returns-then-byte_at-close c =
@@ -30,8 +28,6 @@ returns-in-49-to-57 c =
 pub returns-in_default : goal.returns-in_default
 returns-in_default c =
     let b = c.byte_at-b in
-    let other : NoDigit b.result =
-    elim c.in_default.branch
-    [ in_default-via-then-b-lt48 w ↦ inl (omega arith) | in_default-via-else-b-lt48+else-b-lt58 w ↦ inr (omega arith) ] in
+    let other : NoDigit b.result = grind arith in
     no_first c.args.text.now c.args.at b.result c.args.close c.no_number-in_default.result (sym b.ensures) other
     c.no_number-in_default.ensures

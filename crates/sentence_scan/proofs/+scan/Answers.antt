@@ -2,7 +2,7 @@
 -- Results. The measure is what is left of the text.
 -- Assumes nothing.
 use mathlib.Core.List.{[], ◌∷◌}
-use mathlib.Core.Logic.{◌⊎◌, ⊎_elim, inl, inr}
+use mathlib.Core.Logic.{◌⊎◌, ⊎_elim}
 use mathlib.Core.Path.{◌≡◌, refl}
 use Rattle.std.proofs.Common.{◌≢◌}
 use native.Mathlib.Omega.{arith}
@@ -14,11 +14,6 @@ use Rattle.sentence_scan.proofs.NodeAt.{operator_passed, comparison_passed, arit
 use Rattle.sentence_scan.proofs.NodeAt.{no_expression}
 use Prim.Native.Nat.{◌≤◌, ◌<◌}
 use Rattle.sentence_scan.proofs.+scan.Goals as goal
-use Rattle.sentence_scan.proofs.+scan.Goals.{expression-in_default-via-then-b-lt42}
-use Rattle.sentence_scan.proofs.+scan.Goals.{expression-in_default-via-else-b-lt42+else-b-lt44}
-use Rattle.sentence_scan.proofs.+scan.Goals.{state_formula-in_default-via-then-b-lt60}
-use Rattle.sentence_scan.proofs.+scan.Goals.{state_formula-in_default-via-else-b-lt60+else-b-lt63+then-b-lt97}
-use Rattle.sentence_scan.proofs.+scan.Goals.{state_formula-in_default-via-else-b-lt60+else-b-lt63+else-b-lt97+else-b-lt113}
 
 pub expression-returns-in-80 : goal.expression-returns-in-80
 expression-returns-in-80 t c =
@@ -33,11 +28,7 @@ expression-returns-in-35 t c = reads_leaf c.if-not-ok.false c.constant.ensures
 pub expression-returns-in_default : goal.expression-returns-in_default
 expression-returns-in_default t c =
     let b = c.byte_at-b.result in
-    let out : (b < 42) ⊎ (44 ≤ b) =
-    elim c.in_default.branch [
-      | expression-in_default-via-then-b-lt42 w ↦ inl (omega arith)
-      | expression-in_default-via-else-b-lt42+else-b-lt44 w ↦ inr (omega arith)
-    ] in
+    let out : (b < 42) ⊎ (44 ≤ b) = grind arith in
     let probability : b ≢ 80 = omega arith in
     let constant : b ≢ 35 = omega arith in
     let difference : b ≢ 45 = omega arith in
@@ -100,12 +91,7 @@ state_formula-returns-in-97-to-112 t c = reads_leaf c.if-not-ok.false c.label.en
 pub state_formula-returns-in_default : goal.state_formula-returns-in_default
 state_formula-returns-in_default t c =
     let b = c.byte_at-b.result in
-    let out : (b < 60) ⊎ (((63 ≤ b) × (b < 97)) ⊎ (113 ≤ b)) =
-    elim c.in_default.branch [
-      | state_formula-in_default-via-then-b-lt60 w ↦ inl (omega arith)
-      | state_formula-in_default-via-else-b-lt60+else-b-lt63+then-b-lt97 w ↦ inr (inl (omega arith, omega arith))
-      | state_formula-in_default-via-else-b-lt60+else-b-lt63+else-b-lt97+else-b-lt113 w ↦ inr (inr (omega arith))
-    ] in
+    let out : (b < 60) ⊎ (((63 ≤ b) × (b < 97)) ⊎ (113 ≤ b)) = grind arith in
     let true : b ≢ 84 = omega arith in
     let not : b ≢ 33 = omega arith in
     let and : b ≢ 38 = omega arith in

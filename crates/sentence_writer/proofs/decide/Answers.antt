@@ -58,7 +58,8 @@ returns-then-size-gt-TEXT_BYTES c =
 pub returns-then-fault : goal.returns-then-fault
 returns-then-fault c =
     refuse_range c.args.room
-    (surveyed (goal.at.returns-then-fault c).After-survey_from-all) c.if-size-gt-TEXT_BYTES.false (sym c.survey_from-all.ensures.fault ∙ c.if-fault.true)
+    (surveyed (goal.at.returns-then-fault c).After-survey_from-all) c.if-size-gt-TEXT_BYTES.false
+    (sym c.survey_from-all.ensures.fault ∙ c.if-fault.true)
 
 pub returns-then-room-size : goal.returns-then-room-size
 returns-then-room-size c =

@@ -13,8 +13,6 @@ use Rattle.sentence_writer.proofs.WriteAll.{cleared, text_length, answer_refused
 use borrow.Author.Rules.{rules}
 use Rattle.sentence_writer.proofs.write_sentence.Goals as goal
 
--- Each need names the places before it, the last first: where the letters and the dot are written, where the answer is matched,
--- where it is decided, and where the function begins.
 pub put_letters-dot-requires : goal.put_letters-dot-requires
 put_letters-dot-requires c =
     let s = c.args.s in
