@@ -1,4 +1,6 @@
 // Verdict: the rows of a question, row 1 after them, then the body's truth at every tuple and the descent through the prefix.
+#![tactic(auto)]
+
 ghost use Rattle.std.specs.Prelude.{◌≡◌, length};
 ghost use Rattle.refusal.specs.Answers.{gives};
 ghost use Rattle.chain.specs.Of.{chain_of};
