@@ -22,7 +22,7 @@ fn put(folder: &Folder, name: &str, bytes: Option<&[u8]>) {
 
 /// A run of the program in a folder: by itself on x86-64, under the kit's emulator on Arm.
 fn run(folder: &Path) -> Output {
-    assert!(at("target/bin/twolsken").exists(), "the program, built by rt check twolsken");
+    assert!(at("crates/twolsken/out/twolsken").exists(), "the program, built by rt ci or ./twolsken");
     Command::new(at("tools/program")).current_dir(folder).output().expect("a run")
 }
 

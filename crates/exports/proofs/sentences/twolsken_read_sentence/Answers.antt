@@ -21,9 +21,9 @@ returns-in-Refused c =
 
 pub returns-in-Done : goal.returns-in-Done
 returns-in-Done c =
+    let e = ap reply_of c.in-Done.is in
     let read = c.read_sentence-read in
     let s = read.result.sentence in
-    let e = ap reply_of c.in-Done.is in
     record {
       read = read.result;
       answer = read.ensures;

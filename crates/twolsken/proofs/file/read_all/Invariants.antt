@@ -1,4 +1,4 @@
--- What `file::read_all` has read so far lies within the buffer, which keeps its length; a turn that goes on has read at least one byte more.
+-- What `file::read_all` has read so far lies within the buffer, which keeps its length; a turn that goes on has read at least one more.
 use Rattle.std.proofs.Common.{length, ◌-◌, ◌≡◌, ◌≤◌}
 use Rattle.twolsken.proofs.file.read_all.Given as goal
 
