@@ -3,7 +3,7 @@
 #![tactic(auto)]
 
 ghost use Rattle.std.specs.Prelude.{ℕ, ◌+◌, ◌*◌, ◌^◌, ◌≤◌, ◌<◌, false, ◌≡◌};
-ghost use Rattle.meaning.specs.Size.{exceeds as exceedsRule};
+ghost use Rattle.meaning.specs.Size.{exceeds as exceeds_rule};
 ghost use Rattle.meaning.specs.Tree.{Formula};
 ghost use Rattle.trees.specs.Standing.{FormulaAt};
 ghost use Rattle.sizes.specs.Sizing.{unmeasured, measured, of_path, of_sum, of_product, of_comparison, of_probability};
@@ -224,7 +224,7 @@ fn size_at(nodes: [Slot; 64], at: usize, base: u64, n: usize) -> Measure
 // on. Unspecified for a record that holds none.
 pub fn exceeds(s: Sentence, d: u64, n: usize) -> bool
     requires { n ≤ 4 }
-    ensures { (f : Formula) (q : ℕ) → FormulaAt s.nodes 0 f q → result ≡ exceedsRule f d n }
+    ensures { (f : Formula) (q : ℕ) → FormulaAt s.nodes 0 f q → result ≡ exceeds_rule f d n }
 {
     let nodes = s.nodes;
     let found = size_at(nodes, 0, d, n);

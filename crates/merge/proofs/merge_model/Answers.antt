@@ -22,7 +22,7 @@ use Rattle.merge.proofs.Built.{totals_of, row_small, alike_built, model_built}
 use Rattle.merge.proofs.Numbers.{group_rows_ascend, groups_12, groups_13, groups_14}
 use Rattle.refusal.proofs.Listed.{writes_refused, rows_changed}
 use Rattle.merge.proofs.merge_model.Goals.{After-group_count-count, After-model_of_groups-merged, After-states_alike}
-use Rattle.merge.proofs.merge_model.Goals.{After-totals_of-totals, Else-not-grouping_right, Start}
+use Rattle.merge.proofs.merge_model.Goals.{After-totals_of-totals, Else-not-grouping_right}
 use Rattle.merge.proofs.merge_model.Goals as goal
 
 -- what the tests say
