@@ -19,9 +19,7 @@ surveyed c =
     let r = c.nest-end in
     let room : s.count ≤ length s.nodes =
     omega (arith, c.requires.1, c.if-count-gt-NODES.false) in
-    fine s c.survey_from-all.result c.requires.0 (omega (arith, c.if-letters-eq0.false))
-    c.if-letters-gt-LETTERS.false
-    c.if-count-gt-NODES.false
+    fine s c.survey_from-all.result c.requires.0 (omega (arith, c.if-letters-eq0.false)) (omega arith) c.if-count-gt-NODES.false
     (nested s r.result room r.ensures c.if-not-end_ok.false c.if-end-count.false)
     c.survey_from-all.ensures
 
