@@ -66,7 +66,7 @@ write_blocks-requires c =
       c.well_formed.0.1.1.1.1.1.1.0.1.0.1,
       c.rows_of-rows.type_inv.1.0.1,
       omega arith,
-      c.if-out-size.false,
+      omega arith,
     )
 
 pub shape_of-out : goal.shape_of-out
@@ -79,7 +79,7 @@ returns c =
     let a = c.args in
     let size = length_blocks a.m (blocks a.m.n) in
     writes_done (record_rows_ascend a.m (length a.out.now)) (file_of a.m)
-    (record_0 a.m (length a.out.now) (right at.Else-not-fields_right) (adding at.Else-not-rows_right) c.if-out-size.false)
+    (record_0 a.m (length a.out.now) (right at.Else-not-fields_right) (adding at.Else-not-rows_right) (omega arith))
     (ap Wrote (sym size))
     (c.write_blocks.ensures ∙
     ap (λ (rows : List (List ℕ)). at_front

@@ -69,4 +69,4 @@ pub returns : goal.returns
 returns c =
     decide_wrote c.args.room
     (surveyed (goal.at.returns c).After-survey_from-all) c.if-size-gt-TEXT_BYTES.false
-    (sym c.survey_from-all.ensures.fault ∙ c.if-fault.false) c.if-room-size.false
+    (sym c.survey_from-all.ensures.fault ∙ c.if-fault.false) (omega arith)

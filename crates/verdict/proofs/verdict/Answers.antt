@@ -1,12 +1,12 @@
 -- `verdict::verdict` meets its contract: the rows' number, or the verdict with the work area cleared.
 use mathlib.Core.Path.{◌≡◌, sym, ◌∙◌}
 use native.Mathlib.Omega.{arith}
-use lib.ListN.{length, take}
+use lib.ListN.{length}
 use lib.Seq.{length-take-le}
 use Rattle.question.specs.Working.{Answerable}
 use Rattle.question.proofs.Cleared.{back_long, cleared_so}
 use Rattle.verdict.proofs.Answering.{refused_so, refused_1, answered_so}
-use Rattle.verdict.proofs.verdict.Goals.{After-judged-holds, Else-number-gt0, Else-work-area}
+use Rattle.verdict.proofs.verdict.Goals.{After-judged-holds, Else-number-gt0}
 use Rattle.verdict.proofs.verdict.Goals as goal
 
 pub returns-then-number-gt0 : goal.returns-then-number-gt0
@@ -21,30 +21,27 @@ answerable c = c.question_of-asked.ensures.answerable c.if-number-gt0.false
 pub returns-then-work-area : goal.returns-then-work-area
 returns-then-work-area c = refused_1 (answerable (goal.at.returns-then-work-area c).Else-number-gt0) c.if-work-area.true
 
--- the front of it that is lent has those
-lent : (c : Else-work-area) → length (take c.question_of-asked.result.area c.args.work.now) ≡ c.question_of-asked.result.area
-lent c = length-take-le c.question_of-asked.result.area c.args.work.now c.if-work-area.false
-
 pub slice_bounds-judged-end-2 : goal.slice_bounds-judged-end-2
-slice_bounds-judged-end-2 c = sym (lent (goal.at.slice_bounds-judged-end-2 c).Else-work-area)
+slice_bounds-judged-end-2 c = sym (length-take-le c.question_of-asked.result.area c.args.work.now (omega arith))
 
 pub judged-holds-requires : goal.judged-holds-requires
 judged-holds-requires c =
     let at = goal.at.judged-holds-requires c in
-    let y = answerable at.Else-number-gt0 in (y.ready, lent at.Else-work-area ∙ y.area)
+    let y = answerable at.Else-number-gt0 in
+    (y.ready, length-take-le c.question_of-asked.result.area c.args.work.now (omega arith) ∙ y.area)
 
 -- its length is unchanged on return
 back : (c : After-judged-holds) → length c.judged-holds.new.area ≡ c.question_of-asked.result.area
-back c = c.judged-holds.auto.area ∙ length-take-le c.question_of-asked.result.area c.args.work.now c.if-work-area.false
+back c = c.judged-holds.auto.area ∙ length-take-le c.question_of-asked.result.area c.args.work.now (omega arith)
 
 pub zero-requires : goal.zero-requires
 zero-requires c =
     let at = goal.at.zero-requires c in
-    let long = back_long c.args.work.now c.judged-holds.new.area c.if-work-area.false (back at.After-judged-holds) in
-    omega (arith, long, c.if-work-area.false)
+    let long = back_long c.args.work.now c.judged-holds.new.area (omega arith) (back at.After-judged-holds) in
+    omega (arith, long)
 
 pub returns : goal.returns
 returns c =
     let at = goal.at.returns c in
-    answered_so (answerable at.Else-number-gt0) c.if-work-area.false c.judged-holds.ensures c.answer_of.ensures
-    (cleared_so c.args.work.now c.judged-holds.new.area c.if-work-area.false (back at.After-judged-holds) c.zero.ensures)
+    answered_so (answerable at.Else-number-gt0) (omega arith) c.judged-holds.ensures c.answer_of.ensures
+    (cleared_so c.args.work.now c.judged-holds.new.area (omega arith) (back at.After-judged-holds) c.zero.ensures)
