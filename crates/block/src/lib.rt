@@ -18,18 +18,11 @@ pub const CHECK_HIGH: usize = 511;
 // The check is a sum modulo this number.
 const MODULUS: u32 = 65521;
 
-// A byte as a wider number.
-pub fn wide(b: u8) -> u32
-    ensures { (result ≡ b) × (result < 256) }
-{
-    b as u32
-}
-
 // The byte at a place of a slice, and 0 past its end.
 pub fn byte_at(file: &[u8], at: usize) -> u8
     ensures { result ≡ get_or file.now at 0 }
 {
-    if at < file.len() { file[at] } else { 0 }
+    file.get(at).copied().unwrap_or(0)
 }
 
 // The file from the start of a block on, and nothing where the file ends before it.
@@ -44,13 +37,6 @@ fn from_block<'a>(file: &'a [u8], block: usize) -> &'a [u8]
     &file[at..]
 }
 
-// Byte j of a block of the file, and 0 past the file's end. The function on a slice and numbers that the block reader is thin over.
-fn byte_in(file: &[u8], block: usize, j: usize) -> u8
-    ensures { result ≡ byte_of file.now block j }
-{
-    byte_at(from_block(file, block), j)
-}
-
 // A block reader shows one block of the lent file at a time: it holds the file and the number of that block.
 #[derive(Clone, Copy)]
 struct Reader<'a> {
@@ -58,32 +44,35 @@ struct Reader<'a> {
     pub block: usize,
 }
 
-// A block reader of the lent file that shows this block.
-fn reader_at<'a>(file: &'a [u8], block: usize) -> Reader<'a>
-    ensures { (result.file ≡ file.entry) × (result.block ≡ block) }
-{
-    Reader { file, block }
+impl<'a> Reader<'a> {
+    // A block reader of the lent file that shows this block.
+    fn at(file: &'a [u8], block: usize) -> Reader<'a>
+        ensures { (result.file ≡ file.entry) × (result.block ≡ block) }
+    {
+        Reader { file, block }
+    }
+
+    // Byte j of the one block that the reader shows, and 0 past the file's end.
+    fn byte(self, j: usize) -> u8
+        ensures { result ≡ byte_of self.entry.file.now self.entry.block j }
+    {
+        byte_at(from_block(self.file, self.block), j)
+    }
 }
 
-// Byte j of the one block that a block reader shows.
-fn shown<'a>(r: Reader<'a>, j: usize) -> u8
-    ensures { result ≡ byte_of r.entry.file.now r.entry.block j }
-{
-    byte_in(r.file, r.block, j)
-}
-
-// Byte j of a block of the file, as a block reader shows it. Whoever reads blocks calls it.
+// Byte j of a block of the file, as a block reader shows it. Whoever reads blocks calls it, by plain numbers, of which `exchanged_numbers`
+// is an edit.
 pub fn block_byte(file: &[u8], block: usize, j: usize) -> u8
     ensures { result ≡ byte_of file.now block j }
 {
-    shown(reader_at(file, block), j)
+    Reader::at(file, block).byte(j)
 }
 
 // The number of two bytes, low byte first.
 pub fn two_of(low: u8, high: u8) -> u16
     ensures { result ≡ two low high }
 {
-    (wide(low) + 256 * wide(high)) as u16
+    u16::from_le_bytes([low, high])
 }
 
 // The running totals of the check, taken from the back: that of the bytes seen so far, and that of those totals.
@@ -98,7 +87,7 @@ fn grown(t: Totals, b: u8) -> Totals
     requires { (t.plain + 255 < 2 ^ 32) × (t.weighed + (t.plain + 255) < 2 ^ 32) }
     ensures { Grown t b result }
 {
-    let plain = t.plain + wide(b);
+    let plain = t.plain + u32::from(b);
     let weighed = t.weighed + plain;
     Totals { plain, weighed }
 }
@@ -112,9 +101,7 @@ fn weighed(bytes: &[u8]) -> u32
         plain: 0,
         weighed: 0,
     };
-    let mut i: usize = CHECKED;
-    while 0 < i {
-        i -= 1;
+    for i in (0..CHECKED).rev() {
         totals = grown(totals, byte_at(bytes, i));
     }
     totals.weighed
@@ -132,8 +119,8 @@ fn check_right(file: &[u8], block: usize) -> bool
     ensures { result ≡ check_right (byte_of file.now block) }
 {
     let check = check_of(file, block);
-    let low = wide(block_byte(file, block, CHECKED)) == check % 256;
-    let high = wide(block_byte(file, block, CHECK_HIGH)) == check / 256 % 256;
+    let low = u32::from(block_byte(file, block, CHECKED)) == check % 256;
+    let high = u32::from(block_byte(file, block, CHECK_HIGH)) == check / 256 % 256;
     low & high
 }
 
@@ -141,13 +128,10 @@ fn check_right(file: &[u8], block: usize) -> bool
 pub fn checks_right(file: &[u8]) -> bool
     ensures { result ≡ checks_right file.now }
 {
-    let blocks = file.len() / BLOCK;
-    let mut i: usize = 0;
-    while i < blocks {
+    for i in 0..file.len() / BLOCK {
         if !check_right(file, i) {
             return false;
         }
-        i += 1;
     }
     true
 }

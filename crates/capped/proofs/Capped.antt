@@ -1,8 +1,8 @@
 -- Capping commutes with products, sums and the test for too large.
-use Prim.Native.Nat.{ℕ, zero, suc, ◌+◌, ◌*◌, ◌/◌, ◌^◌, ◌≤◌, ◌<◌}
+use Prim.Native.Nat.{ℕ, zero, suc, ◌+◌, ◌*◌, ◌^◌, ◌≤◌}
 use mathlib.Core.Path.{◌≡◌, sym, ap, ◌∙◌}
 use native.Mathlib.Decide.{dec_le}
-use native.Mathlib.Nat.{div-add-mod, mod-lt, mul-le-mul_right, pow-suc, mul_comm}
+use native.Mathlib.Nat.{pow-suc, mul_comm}
 use native.Mathlib.Numerals.{add-one}
 use native.Mathlib.Omega.{arith}
 use borrow.Author.Tests.{lt-ltb}
@@ -58,20 +58,6 @@ capped_too x = by (dec_le x size_limit)
     by (no h) =
         let l : (size_limit + 1) ≤ x = omega arith in
         lt-ltb size_limit (capped x) (omega (arith, capped_large x l)) ∙ sym (lt-ltb size_limit x (omega arith))
-
--- the quotient says whether a product is too large
-pub product_large : (a b : ℕ) → 1 ≤ b → size_limit / b < a → (size_limit + 1) ≤ a * b
-product_large a b h l =
-    let d = div-add-mod size_limit b in
-    let m = mod-lt size_limit {m = b} h in
-    let p = mul-le-mul_right b l in
-    omega (arith, d, m, p)
-
-pub product_small : (a b : ℕ) → a ≤ size_limit / b → a * b ≤ size_limit
-product_small a b l =
-    let d = div-add-mod size_limit b in
-    let p = mul-le-mul_right b l in
-    omega (arith, d, p)
 
 -- one factor more
 pub capped_power : (b i r : ℕ) → r ≡ capped (b ^ i) → capped (r * b) ≡ capped (b ^ (i + 1))

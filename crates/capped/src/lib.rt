@@ -11,17 +11,20 @@ const LIMIT: u64 = 4611686018427387904;
 // What a larger number is kept as.
 const CAP: u64 = LIMIT + 1;
 
+// The number, capped.
+#[tactic(auto, unfolding(crate::specs::Capping::capped, meaning::specs::Size::too_large))]
+fn cap(x: u64) -> u64
+    ensures { result ≡ capped x }
+{
+    if too_large(x) { CAP } else { x }
+}
+
 // The product, capped.
+#[tactic(auto, unfolding(crate::specs::Capping::capped))]
 pub fn times(a: u64, b: u64) -> u64
     ensures { result ≡ capped (a * b) }
 {
-    if b == 0 {
-        return 0;
-    }
-    if LIMIT / b < a {
-        return CAP;
-    }
-    a * b
+    cap(a.saturating_mul(b))
 }
 
 // The sum of two capped numbers, capped.
@@ -29,11 +32,7 @@ pub fn plus(a: u64, b: u64) -> u64
     requires { (a ≤ size_limit + 1) × (b ≤ size_limit + 1) }
     ensures { result ≡ capped (a + b) }
 {
-    let s = a + b;
-    if LIMIT < s {
-        return CAP;
-    }
-    s
+    cap(a + b)
 }
 
 // The power, capped.
@@ -41,15 +40,14 @@ pub fn power(base: u64, exponent: u64) -> u64
     ensures { result ≡ capped (base ^ exponent) }
 {
     let mut r: u64 = 1;
-    let mut i: u64 = 0;
-    while i < exponent {
+    for _ in 0..exponent {
         r = times(r, base);
-        i = i + 1;
     }
     r
 }
 
 // Whether the number is above 2^62.
+#[tactic(auto, unfolding(meaning::specs::Size::too_large))]
 pub fn too_large(x: u64) -> bool
     ensures { result ≡ too_large x }
 {

@@ -9,7 +9,7 @@ use borrow.Author.Tests.{eqb-true, eq-eqb, ne_eqb, ltb-true}
 use lib.Dec.{ltb, eqb}
 use lib.ListN.{length, get_or, set, length-set}
 use lib.Seq.{get_or-set_same, get_or-set_other}
-use Rattle.counting.specs.Below.{sum_below, every_below, table}
+use Rattle.counting.specs.Below.{sum_below, table}
 use Rattle.counting.specs.Entries.{cell}
 use Rattle.counting.proofs.Laws.{left_of, right_of, every_at, sum_zero, sum_same, table_at, table_is, is_not_true}
 use Rattle.model.specs.declared.Model.{Model}
@@ -18,7 +18,6 @@ use Rattle.model.specs.Rules.{empty_row, halted}
 use Rattle.meaning.proofs.Merging.{pick}
 use Rattle.meaning.proofs.Sums.{total_sum}
 use Rattle.chain.specs.Of.{filled_weight, filled_rows}
-use Rattle.chain.specs.Working.{filled_row}
 
 -- a number put into a list of zeros
 pub one_weight : (zeros : List ℕ) (s d : ℕ) → length zeros ≡ 32 → ((t : ℕ) → t < 32 → get_or zeros t 0 ≡ 0) → s < 32 →
@@ -93,15 +92,13 @@ module _ (m : Model) where
 
 -- ---- a row after filling, as the code makes it
 
-module _ (n d version s : ℕ) (row : List ℕ) where
-  -- whether the state of the row is halted
-  abbrev stops : Bool
-  stops = ltb s n && eqb version 1 && every_below 32 (λ t. eqb (get_or row t 0) 0)
+module _ (m : Model) (s : ℕ) where
+  pub row_halted : halted m s ≡ true → table 32 (λ t. cond (eqb s t) m.d 0) ≡ table 32 (filled_weight m s)
+  unfolding filled_weight
+  row_halted e = sym (ap (λ (b : Bool). table 32 (λ t. cond b (cond (eqb s t) m.d 0) (weight_of m s t))) e)
 
-  pub row_halted : stops ≡ true → table 32 (λ t. cond (eqb s t) d 0) ≡ filled_row n d version s row
-  row_halted e = sym (ap (λ (b : Bool). table 32 (λ t. cond b (cond (eqb s t) d 0) (get_or row t 0))) e)
-
-  pub row_goes : stops ≡ false → length row ≡ 32 → row ≡ filled_row n d version s row
+  pub row_goes : halted m s ≡ false → length (get_or m.weights s []) ≡ 32 → get_or m.weights s [] ≡ table 32 (filled_weight m s)
+  unfolding filled_weight
   row_goes e long =
-      table_is 32 (λ t. get_or row t 0) 0 row long (λ t k. refl) ∙
-      sym (ap (λ (b : Bool). table 32 (λ t. cond b (cond (eqb s t) d 0) (get_or row t 0))) e)
+      table_is 32 (weight_of m s) 0 (get_or m.weights s []) long (λ t k. refl) ∙
+      sym (ap (λ (b : Bool). table 32 (λ t. cond b (cond (eqb s t) m.d 0) (weight_of m s t))) e)

@@ -1,3 +1,2 @@
 -- The chain of a model.
 pub mod Of
-pub mod Working

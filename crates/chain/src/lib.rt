@@ -2,54 +2,42 @@
 // and in proofs/ stand the laws about the chain of an accepted file that the layers above cite.
 #![tactic(auto)]
 
-ghost use Rattle.std.specs.Prelude.{◌≡◌, cond, [], ◌<◌, eqb, get_or};
+ghost use Rattle.std.specs.Prelude.{◌≡◌, ◌<◌, [], get_or};
 ghost use Rattle.counting.specs.Below.{table};
-ghost use Rattle.chain.specs.Of.{filled_rows};
-ghost use Rattle.chain.specs.Working.{filled_row};
+ghost use Rattle.chain.specs.Of.{filled_weight, filled_rows};
 
-use model::rules::is_halted;
-use model::{Model, matrix};
+use model::Model;
 
-// The row of a halted state: weight D to the state itself.
-fn halted_row(s: usize, d: u16) -> [u16; 32]
+// The row of state s as it stands.
+fn row_of(m: &Model, s: usize) -> [u16; 32]
     requires { s < 32 }
-    ensures { result ≡ table 32 (λ t. cond (eqb s t) d 0) }
+    ensures { result ≡ get_or m.now.weights s [] }
 {
-    let mut row = [0u16; 32];
-    row[s] = d;
-    row
+    m.weights[s]
 }
 
-// The row of state s after filling.
-fn filled_row(row: [u16; 32], s: usize, n: usize, d: u16, version: u32) -> [u16; 32]
-    requires { s < 32 }
-    ensures { result ≡ filled_row n d version s row }
+// The row of state s after filling: that of a halted state is weight D to the state itself.
+fn filled_row(m: &Model, s: usize) -> [u16; 32]
+    requires { (s < 32) × (m.now.d < 65536) }
+    ensures { result ≡ table 32 (filled_weight m.now s) }
 {
-    if is_halted(&row, s, n, version) {
-        return halted_row(s, d);
+    let row = row_of(m, s);
+    if m.is_halted(s) {
+        let mut halted = [0u16; 32];
+        halted[s] = m.d as u16;
+        return halted;
     }
     row
-}
-
-// Every row after filling.
-fn fill_all(rows: [[u16; 32]; 32], n: usize, d: u16, version: u32) -> [[u16; 32]; 32]
-    ensures { result ≡ table 32 (λ s. filled_row n d version s (get_or rows s [])) }
-{
-    let mut filled = [[0u16; 32]; 32];
-    let mut s: usize = 0;
-    while s < 32 {
-        let row = rows[s];
-        filled[s] = filled_row(row, s, n, d, version);
-        s += 1;
-    }
-    filled
 }
 
 // The rows of a model after filling: an all-zero row of a version 1 model is weight D to the state itself.
-pub fn filled_rows(m: Model) -> [[u16; 32]; 32]
-    requires { m.d < 65536 }
-    ensures { result ≡ filled_rows m }
+pub fn filled_rows(m: &Model) -> [[u16; 32]; 32]
+    requires { m.now.d < 65536 }
+    ensures { result ≡ filled_rows m.now }
 {
-    let rows = matrix::rows_of(m.weights);
-    fill_all(rows, m.n as usize, m.d as u16, m.version)
+    let mut filled = [[0u16; 32]; 32];
+    for s in 0..32 {
+        filled[s] = filled_row(m, s);
+    }
+    filled
 }

@@ -2,18 +2,17 @@
 -- (`record_back`).
 use Prim.Native.Nat.{ℕ, zero, suc, ◌-◌, ◌≤◌, ◌<◌}
 use mathlib.Core.Bool.{Bool, true, false, not, cond}
-use mathlib.Core.List.{List, [], ◌∷◌, ◌++◌, map}
+use mathlib.Core.List.{List, [], ◌∷◌, ◌++◌}
 use mathlib.Core.Path.{◌≡◌, refl, sym, ap, subst, ◌∙◌}
 use native.Mathlib.Omega.{arith}
 use lib.Dec.{eqb}
-use lib.ListN.{length, get_or, replicate, length-append, length-map, length-replicate}
+use lib.ListN.{length, get_or, replicate, length-append, length-replicate}
 use borrow.Author.Tests.{le-leb}
 use Rattle.counting.proofs.Laws.{and_true, table_at, table_is}
 use Rattle.sentence.proofs.Suiting.{label_written}
 use Rattle.sentence.specs.Grammar.{Writable, Spells}
 use Rattle.sentence.specs.Working.{AllWritable}
-use Rattle.sentence.specs.Record.{slot, record_of}
-use Rattle.sentence.specs.declared.Slot.{Slot}
+use Rattle.sentence.specs.Record.{record_of}
 use Rattle.sentence.specs.declared.Relation.TheVariants.{Less, AtMost, Equal, AtLeast, Greater}
 use Rattle.sentence.specs.declared.Node.{Node}
 use Rattle.sentence.specs.declared.Node.TheVariants.{True, Label, Not, And, Compare, Probability}
@@ -59,12 +58,12 @@ node_back Next b = refl
 node_back (Until from to) b = refl
 
 -- the codes of 64 places stand for those places
-pub places_back : (nodes : List Slot) → length nodes ≡ 64 → ((k : ℕ) → k < 64 → ByteSized (get_or nodes k (slot True)).node) →
+pub places_back : (nodes : List Node) → length nodes ≡ 64 → ((k : ℕ) → k < 64 → ByteSized (get_or nodes k True)) →
     places_of_codes (codes_of nodes) ≡ nodes
 places_back nodes long bytes =
-    sym (table_is 64 (λ i. slot (node_of_code (get_or (codes_of nodes) i []))) (slot True) nodes long (λ k less.
-    sym (ap slot (node_back (get_or nodes k (slot True)).node (bytes k less))) ∙
-    ap (λ (c : List ℕ). slot (node_of_code c)) (sym (table_at 64 (λ i. code_of_node (get_or nodes i (slot True)).node) [] k less))))
+    sym (table_is 64 (λ i. node_of_code (get_or (codes_of nodes) i [])) True nodes long (λ k less.
+    sym (node_back (get_or nodes k True) (bytes k less)) ∙
+    ap node_of_code (sym (table_at 64 (λ i. code_of_node (get_or nodes i True)) [] k less))))
 
 letter_back : (b : Bool) → not (eqb (letter_code b) 0) ≡ b
 letter_back true = refl
@@ -97,15 +96,14 @@ writable_bytes Next w = tt
 writable_bytes (Until from to) w = tt
 
 -- an empty place is empty wherever it stands
-empty_at : (m k : ℕ) → get_or (replicate m (slot True)) k (slot True) ≡ slot True
+empty_at : (m k : ℕ) → get_or (replicate m True) k True ≡ True
 empty_at zero k = refl
 empty_at (suc m) zero = refl
 empty_at (suc m) (suc k) = empty_at m k
 
 -- every place of the record of such nodes
-place_bytes : (ns : List Node) (m : ℕ) → AllWritable ns → (k : ℕ) →
-    ByteSized (get_or (map slot ns ++ replicate m (slot True)) k (slot True)).node
-place_bytes [] m all k = subst (λ (x : Slot). ByteSized x.node) (sym (empty_at m k)) tt
+place_bytes : (ns : List Node) (m : ℕ) → AllWritable ns → (k : ℕ) → ByteSized (get_or (ns ++ replicate m True) k True)
+place_bytes [] m all k = subst ByteSized (sym (empty_at m k)) tt
 place_bytes (n ∷ ns) m all zero = writable_bytes n all.0
 place_bytes (n ∷ ns) m all (suc k) = place_bytes ns m all.1 k
 
@@ -116,10 +114,8 @@ unfolding record_of
 record_back {ps} {ns} spells few =
     let letters : length (ps ++ replicate (4 - length ps) false) ≡ 4 =
     simp (length-append, length-replicate) (omega (arith, spells.few)) in
-    let places : length (map slot ns ++ replicate (64 - length ns) (slot True)) ≡ 64 =
-    simp (length-append, length-map, length-replicate) (omega arith) in
+    let places : length (ns ++ replicate (64 - length ns) True) ≡ 64 = simp (length-append, length-replicate) (omega arith) in
     let exists = letters_back (ps ++ replicate (4 - length ps) false) letters in
     let nodes =
-    places_back (map slot ns ++ replicate (64 - length ns) (slot True)) places
-    (λ k less. place_bytes ns (64 - length ns) (all_writable spells.nests) k) in
+    places_back (ns ++ replicate (64 - length ns) True) places (λ k less. place_bytes ns (64 - length ns) (all_writable spells.nests) k) in
     λ i. record { letters = length ps; exists = exists i; count = length ns; nodes = nodes i }

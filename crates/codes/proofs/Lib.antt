@@ -1,4 +1,3 @@
 -- The laws of the codes.
-pub mod Arms
 pub mod Back
 pub mod Told

@@ -1,16 +1,14 @@
 -- The codes that the exported calls speak in: the number of a writer's answer, the three numbers of a node, the number of a letter, and
 -- the record that lent numbers stand for. include/twolsken.h lists them.
-use Rattle.std.specs.Prelude.{ℕ, ◌+◌, Bool, true, false, ◌&&◌, not, cond, List, [], ◌∷◌, ◌≡◌, leb, eqb, get_or}
+use Rattle.std.specs.Prelude.{ℕ, ◌+◌, Bool, true, false, ◌&&◌, not, cond, List, [], ◌∷◌, ◌≡◌, leb, eqb, get_or, Result, Ok, Err}
 use Rattle.counting.specs.Below.{table}
-use Rattle.refusal.specs.declared.Written.{Written}
-use Rattle.refusal.specs.declared.Written.TheVariants.{Wrote, Refused as Unwritten}
-use Rattle.sentence.specs.Record.{slot}
+use Rattle.refusal.specs.declared.Refusal.{Refusal}
+use Rattle.refusal.specs.Answers.{number_of}
 use Rattle.sentence.specs.declared.Relation.{Relation}
 use Rattle.sentence.specs.declared.Relation.TheVariants.{Less, AtMost, Equal, AtLeast, Greater}
 use Rattle.sentence.specs.declared.Node.{Node}
 use Rattle.sentence.specs.declared.Node.TheVariants.{True, Label, Not, And, Compare, Probability}
 use Rattle.sentence.specs.declared.Node.TheVariants.{Constant, Sum, Difference, Product, Next, Until}
-use Rattle.sentence.specs.declared.Slot.{Slot}
 use Rattle.sentence.specs.declared.Sentence.{Sentence}
 
 -- ---- a call that returns the code of an answer
@@ -23,9 +21,9 @@ pub record Coded {A : Type 0} (code : A → ℕ) (Ensures : A → List ℕ → T
   pub coded : r ≡ code answer
 
 -- the code of a writer's answer: how many bytes it wrote, or 2^32 plus the refusal's number
-unfoldable pub code_of : Written → ℕ
-code_of (Wrote size) = size
-code_of (Unwritten number) = 4294967296 + number
+unfoldable pub code_of : Result ℕ Refusal → ℕ
+code_of (Ok size) = size
+code_of (Err refusal) = 4294967296 + number_of refusal
 
 -- ---- the codes that read sentence leaves
 
@@ -57,8 +55,8 @@ code_of_node Next = code 10 0 0
 code_of_node (Until from to) = code 11 from to
 
 -- the codes of a record's 64 places
-abbrev pub codes_of : List Slot → List (List ℕ)
-codes_of nodes = table 64 (λ i. code_of_node (get_or nodes i (slot True)).node)
+abbrev pub codes_of : List Node → List (List ℕ)
+codes_of nodes = table 64 (λ i. code_of_node (get_or nodes i True))
 
 -- the number of letters and the count, in this order
 abbrev pub sentence_head : Sentence → List ℕ
@@ -105,8 +103,8 @@ abbrev pub node_of_code : List ℕ → Node
 node_of_code c = node_of (get_or c 0 0) (get_or c 1 0) (get_or c 2 0)
 
 -- the places that 64 codes stand for
-abbrev pub places_of_codes : List (List ℕ) → List Slot
-places_of_codes codes = table 64 (λ i. slot (node_of_code (get_or codes i [])))
+abbrev pub places_of_codes : List (List ℕ) → List Node
+places_of_codes codes = table 64 (λ i. node_of_code (get_or codes i []))
 
 -- the letters that four numbers stand for: every number but 0 is an `E`
 abbrev pub letters_of : List ℕ → List Bool

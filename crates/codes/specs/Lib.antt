@@ -1,2 +1,3 @@
 -- The codes of the exported calls.
 pub mod Codes
+pub mod Working

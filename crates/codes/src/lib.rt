@@ -3,23 +3,38 @@
 #![tactic(auto)]
 
 ghost use Rattle.std.specs.Prelude.{◌≡◌};
-ghost use Rattle.codes.specs.Codes.{code_of, relation_code, code_of_node, codes_of, letter_code, letter_codes};
-ghost use Rattle.codes.specs.Codes.{no_node, label_of, comparison_of, node_of, node_of_code, places_of_codes, letters_of};
+ghost use Rattle.codes.specs.Codes.{code_of, relation_code, code_of_node, codes_of, letter_codes};
+ghost use Rattle.codes.specs.Working.{code_by_number};
+ghost use Rattle.codes.specs.Codes.{label_of, comparison_of, node_of, node_of_code, places_of_codes, letters_of};
 
-use refusal::Written;
-use sentence::{Node, Relation, Slot};
+use refusal::Refusal;
+use sentence::{Node, Relation};
 
-// The code of a writer's answer: the number of bytes written, or 2^32 plus the refusal's number.
-pub fn written_code(written: Written) -> u64
-    ensures { result ≡ code_of written }
+// The node that no text spells.
+const NO_NODE: Node = Node::Label {
+    label: 255,
+    variable: 255,
+};
+
+// The code of a writer's answer, whose refusal is given by its number: the number of bytes written, or 2^32 plus that number. It takes any
+// number, also one that no `Refusal` has.
+pub fn written_code(written: Result<usize, u8>) -> u64
+    ensures { result ≡ code_by_number written }
 {
     match written {
-        Written::Wrote(size) => size as u64,
-        Written::Refused(number) => 4294967296 + number as u64,
+        Ok(size) => size as u64,
+        Err(number) => 4294967296 + u64::from(number),
     }
 }
 
-// The number of a comparison.
+// The code of a writer's answer.
+pub fn answer_code(written: Result<usize, Refusal>) -> u64
+    ensures { result ≡ code_of written }
+{
+    written_code(written.map_err(u8::from))
+}
+
+// The number of a comparison. (These numbers and the tags below are those of include/twolsken.h, so they stand written out here.)
 fn relation_code(relation: Relation) -> u32
     ensures { result ≡ relation_code relation }
 {
@@ -38,7 +53,7 @@ fn code_of(node: Node) -> [u32; 3]
 {
     match node {
         Node::True => [0, 0, 0],
-        Node::Label { label, variable } => [1, label as u32, variable as u32],
+        Node::Label { label, variable } => [1, u32::from(label), u32::from(variable)],
         Node::Not => [2, 0, 0],
         Node::And => [3, 0, 0],
         Node::Compare(relation) => [4, relation_code(relation), 0],
@@ -53,58 +68,26 @@ fn code_of(node: Node) -> [u32; 3]
 }
 
 // The codes of a record's places.
-pub fn codes_of(nodes: [Slot; 64]) -> [[u32; 3]; 64]
+pub fn codes_of(nodes: [Node; 64]) -> [[u32; 3]; 64]
     ensures { result ≡ codes_of nodes }
 {
-    let mut codes = [[0; 3]; 64];
-    for i in 0..64 {
-        let slot = nodes[i];
-        let node = slot.node;
-        codes[i] = code_of(node);
-    }
-    codes
+    nodes.map(code_of)
 }
 
-// 1 for a letter that is `E`, else 0.
-fn letter_code(exists: bool) -> u8
-    ensures { result ≡ letter_code exists }
-{
-    if exists { 1 } else { 0 }
-}
-
-// The codes of a record's letters.
+// The codes of a record's letters: 1 for a letter that is `E`, else 0.
 pub fn letter_codes(exists: [bool; 4]) -> [u8; 4]
     ensures { result ≡ letter_codes exists }
 {
-    [
-        letter_code(exists[0]),
-        letter_code(exists[1]),
-        letter_code(exists[2]),
-        letter_code(exists[3]),
-    ]
-}
-
-// The node that no text spells.
-fn no_node() -> Node
-    ensures { result ≡ no_node }
-{
-    Node::Label {
-        label: 255,
-        variable: 255,
-    }
+    exists.map(u8::from)
 }
 
 // The node of a label and a variable.
 fn label_of(label: u32, variable: u32) -> Node
     ensures { result ≡ label_of label variable }
 {
-    if (label <= 255) & (variable <= 255) {
-        Node::Label {
-            label: label as u8,
-            variable: variable as u8,
-        }
-    } else {
-        no_node()
+    match (u8::try_from(label), u8::try_from(variable)) {
+        (Ok(label), Ok(variable)) => Node::Label { label, variable },
+        _ => NO_NODE,
     }
 }
 
@@ -118,7 +101,7 @@ fn comparison_of(x: u32) -> Node
         2 => Node::Compare(Relation::Equal),
         3 => Node::Compare(Relation::AtLeast),
         4 => Node::Compare(Relation::Greater),
-        _ => no_node(),
+        _ => NO_NODE,
     }
 }
 
@@ -139,7 +122,7 @@ fn node_of(tag: u32, x: u32, y: u32) -> Node
         9 => Node::Product,
         10 => Node::Next,
         11 => Node::Until { from: x, to: y },
-        _ => no_node(),
+        _ => NO_NODE,
     }
 }
 
@@ -147,33 +130,20 @@ fn node_of(tag: u32, x: u32, y: u32) -> Node
 fn node_of_code(code: [u32; 3]) -> Node
     ensures { result ≡ node_of_code code }
 {
-    node_of(code[0], code[1], code[2])
+    let [tag, x, y] = code;
+    node_of(tag, x, y)
 }
 
 // The places that the codes stand for.
-pub fn places_of(codes: [[u32; 3]; 64]) -> [Slot; 64]
+pub fn places_of(codes: [[u32; 3]; 64]) -> [Node; 64]
     ensures { result ≡ places_of_codes codes }
 {
-    let empty = Slot { node: Node::True };
-    let mut nodes = [empty; 64];
-    for place in 0..64 {
-        let code = codes[place];
-        let slot = Slot {
-            node: node_of_code(code),
-        };
-        nodes[place] = slot;
-    }
-    nodes
+    codes.map(node_of_code)
 }
 
 // The letters that the numbers stand for.
 pub fn letters_of(exists: [u8; 4]) -> [bool; 4]
     ensures { result ≡ letters_of exists }
 {
-    [
-        exists[0] != 0,
-        exists[1] != 0,
-        exists[2] != 0,
-        exists[3] != 0,
-    ]
+    exists.map(|number| number != 0)
 }

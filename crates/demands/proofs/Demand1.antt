@@ -48,9 +48,9 @@ module _ {A L : Type 0} {R : ℕ → Type 0} {Right : A → L → Type 0} {befor
 
 pub demand_1 : Demand1
 demand_1 = record {
-  read_model = λ w. ends w.ensured;
+  read_model = λ file w. ends w.ensured;
   write_model = λ m w. ends w.ensured;
-  read_sentence = λ w. ends w.ensured;
+  read_sentence = λ text w. ends w.ensured;
   write_sentence = λ w. ends w.ensured;
   verdict_call = λ w. ends w.ensured;
   numerator_call = λ w. ends w.ensured;

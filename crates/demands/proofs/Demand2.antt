@@ -3,9 +3,11 @@
 use Prim.Native.Nat.{ℕ}
 use mathlib.Core.List.Memᴰ
 use mathlib.Core.List.{List, map}
-use mathlib.Core.Path.{◌≡◌, refl, sym, ap, ap₂, ◌∙◌}
+use mathlib.Core.Path.{◌≡◌, refl, sym, ap, ◌∙◌}
 use lib.ListN.{length}
-use Rattle.refusal.specs.Answers.{gives}
+use Rattle.std.specs.Prelude.{Bool, Result}
+use Rattle.refusal.specs.declared.Refusal.{Refusal}
+use Rattle.refusal.specs.Answers.{reply_of, gives}
 use Rattle.refusal.proofs.Ensuring.{right_of, others_free}
 use Rattle.model.specs.Layout.{fields_of}
 use Rattle.meaning.specs.Chain.{Chain, Tuple, Inside, Sound, runs}
@@ -16,11 +18,10 @@ use Rattle.meaning.proofs.Runs.{runs_member, runs_has, runs_distinct}
 use Rattle.meaning.proofs.Watches.{taken_runs, all_runs}
 use Rattle.chain.proofs.Accepted.{sound}
 use Rattle.question.specs.Contract.{SentenceOf}
-use Rattle.question.proofs.Settled.{file_free}
-use Rattle.verdict.specs.declared.Answer as Judged
-use Rattle.verdict.specs.Contract.{VerdictRow, VerdictEnsures, verdict_reply}
-use Rattle.numerator.specs.declared.Answer as Counted
-use Rattle.numerator.specs.Contract.{NumeratorRow, question, NumeratorEnsures, numbered, numerator_reply}
+use Rattle.question.proofs.Early.{file_free}
+use Rattle.verdict.specs.Contract.{VerdictRow, VerdictEnsures}
+use Rattle.numerator.specs.declared.Ratio.{Ratio}
+use Rattle.numerator.specs.Contract.{NumeratorRow, question, NumeratorEnsures, numbered}
 use Rattle.demands.specs.Demands.{chain_in, PathProbability, Valued, Demand2}
 use Rattle.demands.proofs.Free.{one_sentence, tuple_inside}
 
@@ -51,17 +52,17 @@ valued_so p c adds n {s} inside = record {
   counted = counted_once p c adds n inside;
 }
 
-judged : (file : List ℕ) {text before after : List ℕ} {a : Judged.Answer} → VerdictEnsures file text before a after →
+judged : (file : List ℕ) {text before after : List ℕ} {a : Result Bool Refusal} → VerdictEnsures file text before a after →
     ((n : ℕ) → VerdictRow file text (length before) n → ⊥) →
-    (s : SentenceOf text) × (verdict_reply a ≡ gives (verdict (chain_in file) (map letter_of s.prefix) s.body))
+    (s : SentenceOf text) × (reply_of a ≡ gives (verdict (chain_in file) (map letter_of s.prefix) s.body))
 judged file x none =
     let right = right_of none x.ensured in
     (right.2.sentence, right.1 ∙ ap gives right.2.meant)
 
-counted : (file : List ℕ) {text tuple before after : List ℕ} {path : ℕ} {a : Counted.Answer} →
+counted : (file : List ℕ) {text tuple before after : List ℕ} {path : ℕ} {a : Result Ratio Refusal} →
     NumeratorEnsures file text tuple path before a after → ((n : ℕ) → NumeratorRow file text tuple path (length before) n → ⊥) →
-    (s : SentenceOf text) × (x : ℕ × ℕ) × (numerator_reply a ≡ gives x) ×
-    PathProbability (chain_in file) (numbered s.body path) (length s.prefix) tuple x.0 x.1
+    (s : SentenceOf text) × (x : Ratio) × (reply_of a ≡ gives x) ×
+    PathProbability (chain_in file) (numbered s.body path) (length s.prefix) tuple x.numerator x.denominator
 counted file {tuple = tuple} {path = path} x none =
     let right = right_of none x.ensured in
     let free = others_free none in
@@ -69,8 +70,8 @@ counted file {tuple = tuple} {path = path} x none =
     let p = numbered s.body path in
     let n = length s.prefix in (
       s,
-      (numerator p (chain_in file) n tuple, denominator p (fields_of file).d n),
-      right.1 ∙ ap gives (ap₂ (λ (a b : ℕ). (a, b)) right.2.top right.2.bottom),
+      record { numerator = numerator p (chain_in file) n tuple; denominator = denominator p (fields_of file).d n },
+      right.1 ∙ ap gives (λ i. record { numerator = right.2.top i; denominator = right.2.bottom i }),
       counted_once p (chain_in file) (sound file (file_free (λ n r. free n (question r)))) n (tuple_inside free s),
     )
 

@@ -9,11 +9,11 @@ use native.Mathlib.Omega.{arith}
 use borrow.Author.Tests.{le-ltb}
 use lib.ListN.{length, take, length-map}
 use lib.Seq.{take_at}
-use Rattle.refusal.specs.declared.Written.{Written}
-use Rattle.refusal.specs.declared.Written.TheVariants.{Wrote}
+use Rattle.std.specs.Prelude.{Result, Ok}
+use Rattle.refusal.specs.declared.Refusal.{Refusal}
 use Rattle.refusal.specs.Rows.{Applies, by_row as smallest-of, Given}
-use Rattle.refusal.specs.Answers.{gives, refuses, number_in, reply_of_written}
-use Rattle.refusal.proofs.Ensuring.{right_of, others_free, none_at_all, written_told}
+use Rattle.refusal.specs.Answers.{gives, refuses, number_in, reply_of}
+use Rattle.refusal.proofs.Ensuring.{right_of, others_free, none_at_all, answer_told}
 use Rattle.refusal.proofs.Laws.{first_later, first_none}
 use Rattle.refusal.proofs.Listed.{none_applies}
 use Rattle.model.specs.Layout.{fields_of}
@@ -28,12 +28,9 @@ use Rattle.trees.specs.Listed.{formula_nodes}
 use Rattle.chain.proofs.Accepted.{fields_are_right}
 use Rattle.question.specs.Contract.{label_right, QuestionRow, model, sentence, labels, size, tuples, area_needed, AreaShort}
 use Rattle.question.proofs.Stages.{none_of_file}
-use Rattle.verdict.specs.declared.Answer as Judged
 use Rattle.verdict.specs.Contract.{VerdictRow, VerdictEnsures}
-use Rattle.verdict.proofs.Single.{reply_told as judged-told}
-use Rattle.numerator.specs.declared.Answer as Counted
+use Rattle.numerator.specs.declared.Ratio.{Ratio}
 use Rattle.numerator.specs.Contract.{AskedRow, NumeratorRow, question, long, member, missing, NumeratorEnsures, numbered}
-use Rattle.numerator.proofs.Single.{reply_told as counted-told}
 use Rattle.paths.proofs.Members.{members_inside}
 use Rattle.groups.specs.Groups.{group_of}
 use Rattle.merge.specs.Contract.{merge_rows, merge_number, merged_file, MergeEnsures}
@@ -76,7 +73,7 @@ module _ (file grouping merged : List ℕ) (accepted : file_number merged ≡ 0)
       let short = a.short in
       enough (record { sentence = a.sentence; short = omega (arith, fewer, short) })
 
-  verdicts : {text before before' after after' : List ℕ} {a b : Judged.Answer} → (AreaShort merged text (length before') → ⊥) →
+  verdicts : {text before before' after after' : List ℕ} {a b : Result Bool Refusal} → (AreaShort merged text (length before') → ⊥) →
       VerdictEnsures file text before a after →
       ((n : ℕ) → VerdictRow file text (length before) n → ⊥) → VerdictEnsures merged text before' b after' → a ≡ b
   verdicts {a = a} {b} enough x none y =
@@ -88,7 +85,7 @@ module _ (file grouping merged : List ℕ) (accepted : file_number merged ≡ 0)
       kept.verdicts (map letter_of full.2.sentence.prefix) full.2.sentence.body ∙
       ap₂ (λ (ps : List Bool) (f : Formula). verdict (chain_in merged) (map letter_of ps) f) one.0 one.1 ∙
       sym less.2.meant in
-      judged-told a b (full.1 ∙ ap gives same ∙ sym less.1)
+      answer_told a b (full.1 ∙ ap gives same ∙ sym less.1)
 
   -- so is a question about a path formula at a tuple, at the tuple of the groups
   asked_free : {text tuple : List ℕ} {path : ℕ} → ((n : ℕ) → AskedRow file text tuple path n → ⊥) →
@@ -100,7 +97,7 @@ module _ (file grouping merged : List ℕ) (accepted : file_number merged ≡ 0)
       true≢false (sym (inside_members (kept.inside (length tuple) tuple inside)) ∙ e)
   asked_free none n (missing s e) = none 15 (missing s e)
 
-  numerators : {text tuple before before' after after' : List ℕ} {path : ℕ} {a b : Counted.Answer} →
+  numerators : {text tuple before before' after after' : List ℕ} {path : ℕ} {a b : Result Ratio Refusal} →
       (AreaShort merged text (length before') → ⊥) →
       NumeratorEnsures file text tuple path before a after → ((n : ℕ) → NumeratorRow file text tuple path (length before) n → ⊥) →
       NumeratorEnsures merged text (map (group_of grouping) tuple) path before' b after' → a ≡ b
@@ -122,7 +119,7 @@ module _ (file grouping merged : List ℕ) (accepted : file_number merged ≡ 0)
       kept.denominators p n ∙
       ap₂ (λ (ps : List Bool) (f : Formula). denominator (numbered f path) (fields_of merged).d (length ps)) one.0 one.1 ∙
       sym less.2.bottom in
-      counted-told a b (full.1 ∙ ap gives (ap₂ (λ (a b : ℕ). (a, b)) top bottom) ∙ sym less.1)
+      answer_told a b (full.1 ∙ ap gives (λ i. record { numerator = top i; denominator = bottom i }) ∙ sym less.1)
 
   keeps : Keeps file grouping merged
   keeps = record {
@@ -146,17 +143,17 @@ module _ {file grouping : List ℕ} {M room : ℕ} (asked : MergeAsked file grou
       first_later 14 _ (le-ltb room (length (merged_file file grouping)) asked.fits) ∙
       first_none
 
-module _ (file grouping : List ℕ) (M : ℕ) {before after : List ℕ} {w : Written} (asked : MergeAsked file grouping M (length before))
-    (writes : MergeEnsures file grouping before after w) where
+module _ (file grouping : List ℕ) (M : ℕ) {before after : List ℕ} {w : Result ℕ Refusal}
+    (asked : MergeAsked file grouping M (length before)) (writes : MergeEnsures file grouping before after w) where
   -- a stable grouping is not refused
-  stable_unrefused : Stable (chain_in file) (group_of grouping) M → (n : ℕ) → reply_of_written w ≡ refuses n → ⊥
+  stable_unrefused : Stable (chain_in file) (group_of grouping) M → (n : ℕ) → reply_of w ≡ refuses n → ⊥
   unfolding merge_number
   stable_unrefused st n e =
       none_applies (merge_rows_ascend file grouping (length before)) (stable_free asked st) n
       (((demand_1.merge_call file grouping writes).refusal n).0 e).0
 
   -- one in which two states of a group differ is refused, with the number 13
-  differ_refused : Differ (chain_in file) (group_of grouping) M → reply_of_written w ≡ refuses 13
+  differ_refused : Differ (chain_in file) (group_of grouping) M → reply_of w ≡ refuses 13
   unfolding merge_number
   differ_refused differ =
       let here = (refused_13 file grouping (length before) asked.accepted M asked.long asked.grouped).1
@@ -178,10 +175,10 @@ module _ (file grouping : List ℕ) (M : ℕ) {before after : List ℕ} {w : Wri
       settled (fields_of file) grouping (fields_are_right file asked.accepted) M
       (count_is (chain_in file) grouping M asked.long asked.grouped)
 
-  refused_so : (reply_of_written w ≡ refuses 13) ↔ Differ (chain_in file) (group_of grouping) M
+  refused_so : (reply_of w ≡ refuses 13) ↔ Differ (chain_in file) (group_of grouping) M
   refused_so = (λ e. ⊎_elim (λ st. absurd (stable_unrefused st 13 e)) (λ differ. differ) either, differ_refused)
 
-  number_so : (n : ℕ) → reply_of_written w ≡ refuses n → n ≡ 13
+  number_so : (n : ℕ) → reply_of w ≡ refuses n → n ≡ 13
   number_so n e = ⊎_elim (λ st. absurd (stable_unrefused st n e)) (λ differ. ap number_in (sym e ∙ differ_refused differ)) either
 
   -- otherwise the merged model is written
@@ -191,9 +188,9 @@ module _ (file grouping : List ℕ) (M : ℕ) {before after : List ℕ} {w : Wri
       let free = none_applies (merge_rows_ascend file grouping (length before)) (stable_free asked st) in
       let right = right_of free writes.ensured in
       let size = right.0 in
-      let wrote : MergeEnsures file grouping before after (Wrote size) =
-      subst (λ (x : Written). MergeEnsures file grouping before after x)
-      (written_told w (Wrote size) right.1) writes in
+      let wrote : MergeEnsures file grouping before after (Ok size) =
+      subst (λ (x : Result ℕ Refusal). MergeEnsures file grouping before after x)
+      (answer_told w (Ok size) right.1) writes in
       let kept = kept_written file grouping before after size wrote in
       let m = mergeable file grouping (length before) (stable_free asked st) in
       let front : take size after ≡ merged_file file grouping =

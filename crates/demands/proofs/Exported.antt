@@ -9,21 +9,18 @@ use native.Mathlib.Omega.{arith}
 use lib.Dec.{eqb}
 use lib.ListN.{length, take, get_or}
 use Rattle.counting.proofs.Laws.{length_table}
-use Rattle.refusal.specs.declared.Outcome.TheVariants.{Done}
-use Rattle.refusal.specs.declared.Written.{Written}
-use Rattle.refusal.specs.declared.Written.TheVariants.{Wrote, Refused}
+use Rattle.std.specs.Prelude.{Result, Ok, Err}
+use Rattle.refusal.specs.declared.Refusal.{Refusal}
 use Rattle.refusal.specs.Rows.{Decided, by_row, by_none}
 use Rattle.refusal.specs.Answers.{gives, refuses, number_in, reply_of, Ensured, answered, at_front}
-use Rattle.refusal.proofs.Ensuring.{right_of, number_decided, filled_given, outcome_told}
+use Rattle.refusal.proofs.Ensuring.{right_of, number_decided, filled_given, answer_told}
 use Rattle.refusal.proofs.Listed.{none_applies}
 use Rattle.model.specs.declared.Model.{Model}
-use Rattle.model.specs.declared.ModelRead.{ModelRead}
 use Rattle.model.specs.Layout.{Shaped}
-use Rattle.model.specs.Contract.{file_number, WriteModelEnsures}
-use Rattle.model.proofs.Answer.{file_rows_ascend, reads_number}
+use Rattle.model.specs.Contract.{file_number, ReadModelEnsures, WriteModelEnsures}
+use Rattle.model.proofs.Answer.{file_rows_ascend, read_number}
 use Rattle.sentence.specs.declared.Sentence.{Sentence}
-use Rattle.sentence_reader.specs.declared.SentenceRead.{SentenceRead}
-use Rattle.sentence_reader.specs.Contract.{ReadRow, many, Spelled}
+use Rattle.sentence_reader.specs.Contract.{ReadRow, many, Spelled, ReadSentenceEnsures}
 use Rattle.sentence.specs.Record.{record_of, prefix_of, nodes_of}
 use Rattle.sentence_writer.specs.Contract.{WriteSentenceEnsures}
 use Rattle.codes.specs.Codes.{code_of, sentence_of, sentence_head, letter_codes, codes_of}
@@ -38,62 +35,62 @@ use Rattle.demands.proofs.RoundTrips.{round_trips}
 
 -- a code of 0 says that read model has read
 model_done : {file head masks head' masks' : List ℕ} {rows rows' : List (List ℕ)} →
-    (x : ExportedReadModel file head masks rows head' masks' rows' 0) → x.read.outcome ≡ Done
+    (x : ExportedReadModel file head masks rows head' masks' rows' 0) → (m : Model) × (x.read ≡ Ok m)
 unfolding file_number
 model_done {file} x =
-    let free = sym (reads_number x.answer) ∙ sym x.answered in
+    let free = sym (read_number file x.answer) ∙ sym x.answered in
     let right = right_of (none_applies (file_rows_ascend file) free) x.answer.ensured in
-    outcome_told x.read.outcome Done right.1
+    (right.0, answer_told x.read (Ok right.0) right.1)
 
 -- the three parts that it leaves stand for the model that was read
-model_parts : {file head masks head' masks' : List ℕ} {rows rows' : List (List ℕ)} {r : ℕ}
-    (x : ExportedReadModel file head masks rows head' masks' rows' r) → x.read.outcome ≡ Done →
-    (head' ≡ head_of x.read.model) × (masks' ≡ x.read.model.masks) × (rows' ≡ x.read.model.weights.rows)
+model_parts : {file head masks head' masks' : List ℕ} {rows rows' : List (List ℕ)} {r : ℕ} {m : Model}
+    (x : ExportedReadModel file head masks rows head' masks' rows' r) → x.read ≡ Ok m →
+    (head' ≡ head_of m) × (masks' ≡ m.masks) × (rows' ≡ m.weights)
 model_parts {head = head} {masks} {rows = rows} x done =
-    let m = x.read.model in
     let told = ap reply_of done in (
-      x.head_left ∙ filled_given told (head_of m) head,
-      x.masks_left ∙ filled_given told m.masks masks,
-      x.weights_left ∙ filled_given told m.weights.rows rows,
+      x.head_left ∙ filled_given head_of told head,
+      x.masks_left ∙ filled_given (λ (m : Model). m.masks) told masks,
+      x.weights_left ∙ filled_given (λ (m : Model). m.weights) told rows,
     )
 
 -- a code of 0 says that read sentence has read
 sentence_done : {text head exists head' exists' : List ℕ} {codes codes' : List (List ℕ)} →
-    (x : ExportedReadSentence text head exists codes head' exists' codes' 0) → x.read.outcome ≡ Done
+    (x : ExportedReadSentence text head exists codes head' exists' codes' 0) → (s : Sentence) × (x.read ≡ Ok s)
 sentence_done {text} x =
     let right = right_of (by (subst (Decided (ReadRow text)) (sym x.answered) (number_decided x.answer.ensured)))
     x.answer.ensured in
-    outcome_told x.read.outcome Done right.1
+    (right.0, answer_told x.read (Ok right.0) right.1)
   where
     by : Decided (ReadRow text) 0 → (n : ℕ) → ReadRow text n → ⊥
     by (by_row row least) n r = let some = text_number row in omega arith
     by (by_none none) n r = none n r
 
 -- the three parts that it leaves stand for the sentence that was read
-sentence_parts : {text head exists head' exists' : List ℕ} {codes codes' : List (List ℕ)} {r : ℕ}
-    (x : ExportedReadSentence text head exists codes head' exists' codes' r) → x.read.outcome ≡ Done →
-    sentence_of (get_or head' 0 0) (get_or head' 1 0) exists' codes' ≡ x.read.sentence
+sentence_parts : {text head exists head' exists' : List ℕ} {codes codes' : List (List ℕ)} {r : ℕ} {s : Sentence}
+    (x : ExportedReadSentence text head exists codes head' exists' codes' r) → x.read ≡ Ok s →
+    sentence_of (get_or head' 0 0) (get_or head' 1 0) exists' codes' ≡ s
 unfolding record_of
-sentence_parts {text} {head} {exists} {head'} {exists'} {codes} {codes'} x done = by x.answer.ensured
+sentence_parts {text} {head} {exists} {head'} {exists'} {codes} {codes'} {s = s} x done = by x.answer.ensured
   where
-    by : Ensured (ReadRow text) (λ done. Spelled text) (record_of [] []) (reply_of x.read.outcome) x.read.sentence →
-        sentence_of (get_or head' 0 0) (get_or head' 1 0) exists' codes' ≡ x.read.sentence
+    by : Ensured (ReadRow text) (λ read nothing. Spelled text read) (tt {0}) (reply_of x.read) (tt {0}) →
+        sentence_of (get_or head' 0 0) (get_or head' 1 0) exists' codes' ≡ s
     by (Ensured.refused {n = n} e left row least) =
-        let other : gives tt ≡ refuses n = ap reply_of (sym done) ∙ e in
+        let other : gives s ≡ refuses n = sym (ap reply_of done) ∙ e in
         let z : ◌≡◌ {A = ℕ} 0 1 = cc in
         absurd (omega arith)
-    by (answered e right none) =
-        let s = x.read.sentence in
+    by (answered {v} e right none) =
         let told = ap reply_of done in
         let ps = right.prefix in
         let ns = right.nodes in
         let own = record_of ps ns in
-        let same : s ≡ own = right.fields in
-        let h : head' ≡ sentence_head own = x.head_left ∙ filled_given told (sentence_head s) head ∙ ap sentence_head same in
+        let read : s ≡ v = cc (sym told ∙ e) in
+        let same : s ≡ own = read ∙ right.fields in
+        let h : head' ≡ sentence_head own = x.head_left ∙ filled_given sentence_head told head ∙ ap sentence_head same in
         let l : exists' ≡ letter_codes own.exists =
-        x.exists_left ∙ filled_given told (letter_codes s.exists) exists ∙ ap (λ (y : Sentence). letter_codes y.exists) same in
+        x.exists_left ∙ filled_given (λ (y : Sentence). letter_codes y.exists) told exists ∙
+        ap (λ (y : Sentence). letter_codes y.exists) same in
         let c : codes' ≡ codes_of own.nodes =
-        x.codes_left ∙ filled_given told (codes_of s.nodes) codes ∙ ap (λ (y : Sentence). codes_of y.nodes) same in
+        x.codes_left ∙ filled_given (λ (y : Sentence). codes_of y.nodes) told codes ∙ ap (λ (y : Sentence). codes_of y.nodes) same in
         let parts : sentence_of (get_or head' 0 0) (get_or head' 1 0) exists' codes' ≡
         sentence_of (length ps) (length ns) (letter_codes own.exists) (codes_of own.nodes) =
         λ i. sentence_of (get_or (h i) 0 0) (get_or (h i) 1 0) (l i) (c i) in
@@ -106,10 +103,10 @@ sentence_parts {text} {head} {exists} {head'} {exists'} {codes} {codes'} x done 
 -- ---- what the exported writers tell
 
 -- a code below 2^32 is a size
-wrote_so : (w : Written) {size : ℕ} → size ≡ code_of w → size < 4294967296 → w ≡ Wrote size
+wrote_so : (w : Result ℕ Refusal) {size : ℕ} → size ≡ code_of w → size < 4294967296 → w ≡ Ok size
 unfolding code_of
-wrote_so (Wrote k) e less = ap Wrote (sym e)
-wrote_so (Refused n) e less = absurd (omega arith)
+wrote_so (Ok k) e less = ap Ok (sym e)
+wrote_so (Err r) e less = absurd (omega arith)
 
 -- a head of four numbers
 four : (l : List ℕ) → length l ≡ 4 → get_or l 0 0 ∷ get_or l 1 0 ∷ get_or l 2 0 ∷ get_or l 3 0 ∷ [] ≡ l
@@ -126,12 +123,12 @@ file_back : {file head masks head' masks' before after : List ℕ} {rows rows' :
     ExportedReadModel file head masks rows head' masks' rows' 0 → length file ≤ length before →
     ExportedWriteModel (model_of_parts head' masks' rows') before after r → (r ≡ length file) × (after ≡ at_front file before)
 unfolding code_of
-file_back {head' = head'} {masks'} {before} {after} {rows' = rows'} {r} x room writes =
+file_back {file} {head' = head'} {masks'} {before} {after} {rows' = rows'} {r} x room writes =
     let done = model_done x in
-    let parts = model_parts x done in
-    let same : model_of_parts head' masks' rows' ≡ x.read.model = λ i. model_of_parts (parts.0 i) (parts.1 i) (parts.2 i) in
+    let parts = model_parts x done.1 in
+    let same : model_of_parts head' masks' rows' ≡ done.0 = λ i. model_of_parts (parts.0 i) (parts.1 i) (parts.2 i) in
     let w = subst (λ (m : Model). ExportedWriteModel m before after r) same writes in
-    let told = round_trips.files x.answer done room w.ensures in
+    let told = round_trips.files file (subst (ReadModelEnsures file) done.1 x.answer) room w.ensures in
     (w.coded ∙ ap code_of told.0, told.1)
 
 text_back : {text head exists head' exists' before after : List ℕ} {codes codes' : List (List ℕ)} {r : ℕ} →
@@ -139,10 +136,10 @@ text_back : {text head exists head' exists' before after : List ℕ} {codes code
     ExportedWriteSentence (sentence_of (get_or head' 0 0) (get_or head' 1 0) exists' codes') before after r →
     (r ≡ length text) × (after ≡ at_front text before)
 unfolding code_of
-text_back {before = before} {after} {r = r} x room writes =
+text_back {text} {before = before} {after} {r = r} x room writes =
     let done = sentence_done x in
-    let w = subst (λ (s : Sentence). ExportedWriteSentence s before after r) (sentence_parts x done) writes in
-    let told = round_trips.texts x.answer done room w.ensures in
+    let w = subst (λ (s : Sentence). ExportedWriteSentence s before after r) (sentence_parts x done.1) writes in
+    let told = round_trips.texts text (subst (ReadSentenceEnsures text) done.1 x.answer) room w.ensures in
     (w.coded ∙ ap code_of told.0, told.1)
 
 model_back : {head masks before after h m h' m' : List ℕ} {rows w w' : List (List ℕ)} {size r : ℕ} → length head ≡ 4 →
@@ -150,14 +147,14 @@ model_back : {head masks before after h m h' m' : List ℕ} {rows w w' : List (L
     ExportedReadModel (take size after) h m w h' m' w' r → (r ≡ 0) × (h' ≡ head) × (m' ≡ masks) × (w' ≡ rows)
 model_back {head} {masks} {before} {after} {rows = rows} {size = size} long shaped x less y =
     let own = model_of_parts head masks rows in
-    let writes = subst (λ (a : Written). WriteModelEnsures own before after a)
+    let writes = subst (λ (a : Result ℕ Refusal). WriteModelEnsures own before after a)
     (wrote_so x.answer x.coded less) x.ensures in
     let read = round_trips.models shaped writes y.answer in
-    let parts = model_parts y (ap (λ (z : ModelRead). z.outcome) read) in (
-      y.answered ∙ ap (λ (z : ModelRead). number_in (reply_of z.outcome)) read,
-      parts.0 ∙ ap (λ (z : ModelRead). head_of z.model) read ∙ four head long,
-      parts.1 ∙ ap (λ (z : ModelRead). z.model.masks) read,
-      parts.2 ∙ ap (λ (z : ModelRead). z.model.weights.rows) read,
+    let parts = model_parts y read in (
+      y.answered ∙ ap (λ (z : Result Model Refusal). number_in (reply_of z)) read,
+      parts.0 ∙ four head long,
+      parts.1,
+      parts.2,
     )
 
 sentence_back : (letters count : ℕ) (exists : List ℕ) (codes : List (List ℕ)) {before after h e h' e' : List ℕ}
@@ -168,10 +165,10 @@ sentence_back : (letters count : ℕ) (exists : List ℕ) (codes : List (List �
     record_of (prefix_of (sentence_of letters count exists codes)) (nodes_of (sentence_of letters count exists codes)))
 sentence_back letters count exists codes {before} {after} {size = size} x less y =
     let own = sentence_of letters count exists codes in
-    let writes = subst (λ (a : Written). WriteSentenceEnsures own before a after) (wrote_so x.answer x.coded less) x.ensures in
+    let writes = subst (λ (a : Result ℕ Refusal). WriteSentenceEnsures own before a after) (wrote_so x.answer x.coded less) x.ensures in
     let read = round_trips.sentences (length_table 4 (λ i. not (eqb (get_or exists i 0) 0))) writes y.answer in (
-      y.answered ∙ ap (λ (z : SentenceRead). number_in (reply_of z.outcome)) read,
-      sentence_parts y (ap (λ (z : SentenceRead). z.outcome) read) ∙ ap (λ (z : SentenceRead). z.sentence) read,
+      y.answered ∙ ap (λ (z : Result Sentence Refusal). number_in (reply_of z)) read,
+      sentence_parts y read,
     )
 
 pub exported_round_trips : ExportedRoundTrips

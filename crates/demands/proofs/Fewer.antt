@@ -7,7 +7,9 @@ use native.Mathlib.Decide.{ℕ_discrete}
 use native.Mathlib.Nat.{pow-zero, zero-mul}
 use native.Mathlib.Omega.{arith}
 use lib.ListN.{length}
-use Rattle.refusal.specs.Answers.{gives}
+use Rattle.std.specs.Prelude.{Result}
+use Rattle.refusal.specs.declared.Refusal.{Refusal}
+use Rattle.refusal.specs.Answers.{reply_of, gives}
 use Rattle.refusal.specs.Rows.{Given, by_row, by_none}
 use Rattle.refusal.proofs.Ensuring.{right_of, others_free, none_at_all}
 use Rattle.model.specs.Layout.{fields_of}
@@ -25,11 +27,10 @@ use Rattle.unchanged.proofs.Unchanged.{values_unchanged}
 use Rattle.chain.proofs.Accepted.{sound, total_some}
 use Rattle.question.specs.Contract.{QuestionRow, model, sentence, labels, size, tuples, SentenceOf, AreaShort}
 use Rattle.question.proofs.Numbers.{file_number_bounds, text_number}
-use Rattle.question.proofs.Settled.{file_free}
-use Rattle.verdict.specs.declared.Answer as Judged
-use Rattle.verdict.specs.Contract.{VerdictEnsures, verdict_reply}
-use Rattle.numerator.specs.declared.Answer as Counted
-use Rattle.numerator.specs.Contract.{NumeratorRow, question, NumeratorEnsures, numbered, numerator_reply}
+use Rattle.question.proofs.Early.{file_free}
+use Rattle.verdict.specs.Contract.{VerdictEnsures}
+use Rattle.numerator.specs.declared.Ratio.{Ratio}
+use Rattle.numerator.specs.Contract.{NumeratorRow, question, NumeratorEnsures, numbered}
 use Rattle.demands.specs.Demands.{chain_in}
 use Rattle.demands.specs.Fewer.{SameFraction, BaseRow, same, FewerVariables}
 use Rattle.demands.specs.Fewer as Said
@@ -73,9 +74,9 @@ no_row file text none n row = by (ℕ_discrete n 10)
     by (yes e) = ten row e
     by (no d) = none n (same row d)
 
-still : {file text before after : List ℕ} {a : Judged.Answer} → VerdictEnsures file text before a after →
+still : {file text before after : List ℕ} {a : Result Bool Refusal} → VerdictEnsures file text before a after →
     ((n : ℕ) → BaseRow file text n → ⊥) → (AreaShort file text (length before) → ⊥) →
-    (s : SentenceOf text) × (verdict_reply a ≡ gives (Base.verdict (chain_in file) (map letter_of s.prefix) s.body))
+    (s : SentenceOf text) × (reply_of a ≡ gives (Base.verdict (chain_in file) (map letter_of s.prefix) s.body))
 still {file} {text} x none enough =
     let right = right_of (none_at_all (no_row file text none) enough) x.ensured in
     let s = right.2.sentence in
@@ -84,10 +85,10 @@ still {file} {text} x none enough =
     (map letter_of s.prefix) s.body in
     (s, right.1 ∙ ap gives (right.2.meant ∙ sym as-was))
 
-same_fraction : {file text tuple before after : List ℕ} {path : ℕ} {a : Counted.Answer} →
+same_fraction : {file text tuple before after : List ℕ} {path : ℕ} {a : Result Ratio Refusal} →
     NumeratorEnsures file text tuple path before a after → ((n : ℕ) → NumeratorRow file text tuple path (length before) n → ⊥) →
-    (s : SentenceOf text) × (x : ℕ × ℕ) × (numerator_reply a ≡ gives x) × SameFraction (chain_in file) (numbered s.body path)
-    (length s.prefix) tuple x.0 x.1
+    (s : SentenceOf text) × (x : Ratio) × (reply_of a ≡ gives x) × SameFraction (chain_in file) (numbered s.body path)
+    (length s.prefix) tuple x.numerator x.denominator
 same_fraction {file} {path = path} x none =
     let right = right_of none x.ensured in
     let s = right.2.sentence in

@@ -5,8 +5,8 @@ use mathlib.Core.List.{List}
 use mathlib.Core.Path.{◌≡◌, sym, ap, ◌∙◌}
 use lib.ListN.{length, take}
 use lib.Seq.{take_at}
-use Rattle.refusal.specs.declared.Written.{Written}
-use Rattle.refusal.specs.declared.Written.TheVariants.{Wrote}
+use Rattle.std.specs.Prelude.{Result, Ok}
+use Rattle.refusal.specs.declared.Refusal.{Refusal}
 use Rattle.refusal.specs.Answers.{at_front}
 use Rattle.refusal.proofs.Ensuring.{right_of}
 use Rattle.refusal.proofs.Listed.{none_applies, list_number, one_writing, writes_done}
@@ -25,7 +25,7 @@ use Rattle.merge.proofs.Theorems.{Mergeable, mergeable, merged_read}
 use Rattle.merge.proofs.Unmerged.{unfilled, own_file, own_long, own_fits}
 use Rattle.demands.specs.Filling.{EmptyRows}
 
-module _ (file grouping : List ℕ) {before after : List ℕ} {size : ℕ} (writes : MergeEnsures file grouping before after (Wrote size)) where
+module _ (file grouping : List ℕ) {before after : List ℕ} {size : ℕ} (writes : MergeEnsures file grouping before after (Ok size)) where
   free : merge_number file grouping (length before) ≡ 0
   unfolding merge_number
   free = sym (list_number (merge_rows_ascend file grouping (length before)) writes.ensured)
@@ -55,15 +55,15 @@ module _ (file grouping : List ℕ) {before after : List ℕ} {size : ℕ} (writ
       goes (fields_of file) grouping (fields_are_right file m.accepted) m.grouped m.alike (rows_are_right file m.accepted) s
 
 -- grouping 0, 1, 2 and on
-filled_back : (file : List ℕ) {before after : List ℕ} {w : Written} → file_number file ≡ 0 → length file ≤ length before →
+filled_back : (file : List ℕ) {before after : List ℕ} {w : Result ℕ Refusal} → file_number file ≡ 0 → length file ≤ length before →
     MergeEnsures file (each_alone (fields_of file).n) before after w →
-    (w ≡ Wrote (length file)) × (after ≡ at_front (filled_file file) before)
+    (w ≡ Ok (length file)) × (after ≡ at_front (filled_file file) before)
 unfolding merge_number
 filled_back file {before} accepted room writes =
     let own = each_alone (fields_of file).n in
-    let wrote : MergeEnsures file own before (at_front (filled_file file) before) (Wrote (length file)) =
+    let wrote : MergeEnsures file own before (at_front (filled_file file) before) (Ok (length file)) =
     writes_done (merge_rows_ascend file own (length before)) (merged_file file own) (own_fits file accepted (length before) room)
-    (ap Wrote (sym (own_long file accepted))) (ap (λ (t : List ℕ). at_front t before) (sym (own_file file accepted))) in
+    (ap Ok (sym (own_long file accepted))) (ap (λ (t : List ℕ). at_front t before) (sym (own_file file accepted))) in
     one_writing writes wrote
 
 pub empty_rows : EmptyRows

@@ -6,18 +6,19 @@ use mathlib.Core.Path.{◌≡◌, refl, sym, ap, subst, ◌∙◌}
 use native.Mathlib.Decide.{dec_lt}
 use native.Mathlib.Omega.{arith}
 use lib.ListN.{length, get_or}
-use Rattle.refusal.specs.Answers.{Reply, gives, refuses}
+use Rattle.std.specs.Prelude.{Bool, Result}
+use Rattle.refusal.specs.declared.Refusal.{Refusal}
+use Rattle.refusal.specs.Answers.{reply_of, Reply, gives, refuses}
 use Rattle.refusal.specs.Rows.{OneLast, other, no_other}
-use Rattle.refusal.proofs.Ensuring.{right_of, others_least, one_least, room_enough, with_room, same_reply}
+use Rattle.refusal.proofs.Ensuring.{right_of, others_least, one_least, room_enough, with_room, same_reply, answer_told}
 use Rattle.question.specs.Contract.{QuestionRow, SentenceOf, needed, AreaShort, cleared}
 use Rattle.question.proofs.Numbers.{row_two}
 use Rattle.question.proofs.Cleared.{cleared_once, cleared_zero, cleared_rest, cleared_long}
-use Rattle.verdict.specs.declared.Answer as Judged
-use Rattle.verdict.specs.Contract.{VerdictEnsures, verdict_reply}
-use Rattle.verdict.proofs.Single.{reply_told as judged-told, one_value as judged-once}
-use Rattle.numerator.specs.declared.Answer as Counted
-use Rattle.numerator.specs.Contract.{AskedRow, question, long, member, missing, NumeratorEnsures, numerator_reply}
-use Rattle.numerator.proofs.Single.{reply_told as counted-told, one_value as counted_once}
+use Rattle.verdict.specs.Contract.{VerdictEnsures}
+use Rattle.verdict.proofs.Single.{one_value as judged-once}
+use Rattle.numerator.specs.declared.Ratio.{Ratio}
+use Rattle.numerator.specs.Contract.{AskedRow, question, long, member, missing, NumeratorEnsures}
+use Rattle.numerator.proofs.Single.{one_value as counted_once}
 use Rattle.demands.specs.Demands.{Ends}
 use Rattle.demands.specs.Room.{RoomBy, RoomByModel}
 use Rattle.demands.proofs.Demand1.{demand_1}
@@ -81,33 +82,33 @@ asked_not_one (long s x) e = omega arith
 asked_not_one (member x) e = omega arith
 asked_not_one (missing s x) e = omega arith
 
-verdict_room : {file text before after : List ℕ} {a : Judged.Answer} → VerdictEnsures file text before a after →
-    RoomBy (QuestionRow file text) file text before (verdict_reply a) after
+verdict_room : {file text before after : List ℕ} {a : Result Bool Refusal} → VerdictEnsures file text before a after →
+    RoomBy (QuestionRow file text) file text before (reply_of a) after
 verdict_room {file} {before = before} x =
     let ends = demand_1.verdict_call x in
     ends_so ends question_not_one
     (λ v e s. let right = (right_of (ends.answer.0 (v, e)) x.ensured).2 in
     cleared_once file before right.sentence s right.left)
 
-numerator_room : {file text tuple before after : List ℕ} {path : ℕ} {a : Counted.Answer} →
-    NumeratorEnsures file text tuple path before a after → RoomBy (AskedRow file text tuple path) file text before (numerator_reply a) after
+numerator_room : {file text tuple before after : List ℕ} {path : ℕ} {a : Result Ratio Refusal} →
+    NumeratorEnsures file text tuple path before a after → RoomBy (AskedRow file text tuple path) file text before (reply_of a) after
 numerator_room {file} {before = before} x =
     let ends = demand_1.numerator_call x in
     ends_so ends (λ r. asked_not_one r refl)
     (λ v e s. let right = (right_of (ends.answer.0 (v, e)) x.ensured).2 in
     cleared_once file before right.sentence s right.left)
 
-same_verdict : {file text before before' after after' : List ℕ} {a b : Judged.Answer} → VerdictEnsures file text before a after →
+same_verdict : {file text before before' after after' : List ℕ} {a b : Result Bool Refusal} → VerdictEnsures file text before a after →
     VerdictEnsures file text before' b after' → (AreaShort file text (length before) → ⊥) → (AreaShort file text (length before') → ⊥) →
     a ≡ b
 same_verdict {a = a} {b} x y enough enough' =
-    judged-told a b (same_reply judged-once (with_room enough x.ensured) (with_room enough' y.ensured))
+    answer_told a b (same_reply judged-once (with_room enough x.ensured) (with_room enough' y.ensured))
 
-same_numerator : {file text tuple before before' after after' : List ℕ} {path : ℕ} {a b : Counted.Answer} →
+same_numerator : {file text tuple before before' after after' : List ℕ} {path : ℕ} {a b : Result Ratio Refusal} →
     NumeratorEnsures file text tuple path before a after → NumeratorEnsures file text tuple path before' b after' →
     (AreaShort file text (length before) → ⊥) → (AreaShort file text (length before') → ⊥) → a ≡ b
 same_numerator {a = a} {b} x y enough enough' =
-    counted-told a b (same_reply counted_once (with_room enough x.ensured) (with_room enough' y.ensured))
+    answer_told a b (same_reply counted_once (with_room enough x.ensured) (with_room enough' y.ensured))
 
 pub room_by_model : RoomByModel
 room_by_model = record {

@@ -9,6 +9,7 @@ use native.Mathlib.Nat.{mul-one, mul-le-mul_right}
 use native.Mathlib.Numerals.{add-one}
 use native.Mathlib.Omega.{arith}
 use lib.ListN.{length}
+use Rattle.std.specs.Prelude.{Ok}
 use Rattle.refusal.proofs.Ensuring.{right_of, others_free}
 use Rattle.sentence.specs.declared.Node.{Node}
 use Rattle.sentence.specs.declared.Node.TheVariants.{Until}
@@ -25,8 +26,8 @@ use Rattle.trees.specs.Listed.{path_count}
 use Rattle.trees.proofs.Windows.{OneUntil, one_until}
 use Rattle.chain.proofs.Accepted.{sound}
 use Rattle.question.specs.Contract.{sentence, SentenceOf}
-use Rattle.question.proofs.Settled.{file_free}
-use Rattle.numerator.specs.declared.Answer.TheVariants.{Counted}
+use Rattle.question.proofs.Early.{file_free}
+use Rattle.numerator.specs.declared.Ratio.{Ratio}
 use Rattle.numerator.specs.Contract.{AskedRow, question, NumeratorEnsures, numbered}
 use Rattle.demands.specs.Demands.{chain_in}
 use Rattle.demands.specs.Watches.{Lengthened, Grown, TakenAndNot, Watched, WatchesAnswered, LongerWatches}
@@ -65,20 +66,22 @@ record Told (file text tuple : List ℕ) (path : ℕ) (area : List ℕ) (top bot
   tops : (s : SentenceOf text) → top ≡ numerator (numbered s.body path) (chain_in file) (length s.prefix) tuple
   bottoms : (s : SentenceOf text) → bottom ≡ denominator (numbered s.body path) (chain_in file).D (length s.prefix)
 
-told : {file text tuple area left : List ℕ} {path top bottom : ℕ} →
-    NumeratorEnsures file text tuple path area (Counted top bottom) left → Told file text tuple path area top bottom
-told {file} {text} {tuple} {path = path} {top} {bottom} x =
-    let none = (demand_1.numerator_call x).answer.0 ((top, bottom), refl) in
+told : {file text tuple area left : List ℕ} {path : ℕ} {r : Ratio} →
+    NumeratorEnsures file text tuple path area (Ok r) left → Told file text tuple path area r.numerator r.denominator
+told {file} {text} {tuple} {path = path} {r} x =
+    let none = (demand_1.numerator_call x).answer.0 (r, refl) in
     let right = right_of none x.ensured in
-    let same : ◌≡◌ {A = ℕ × ℕ} (top, bottom) right.0 = cc right.1 in
+    let same : r ≡ right.0 = cc right.1 in
     let one : (s : SentenceOf text) → _ = λ s. one_sentence right.2.sentence s in
     record {
       free = others_free none;
       spelled = right.2.sentence;
       tops = λ s.
-          (λ i. (same i).0) ∙ right.2.top ∙ (λ i. numerator (numbered ((one s).1 i) path) (chain_in file) (length ((one s).0 i)) tuple);
+          (λ i. (same i).numerator) ∙ right.2.top ∙
+          (λ i. numerator (numbered ((one s).1 i) path) (chain_in file) (length ((one s).0 i)) tuple);
       bottoms = λ s.
-          (λ i. (same i).1) ∙ right.2.bottom ∙ (λ i. denominator (numbered ((one s).1 i) path) (chain_in file).D (length ((one s).0 i)));
+          (λ i. (same i).denominator) ∙ right.2.bottom ∙
+          (λ i. denominator (numbered ((one s).1 i) path) (chain_in file).D (length ((one s).0 i)));
     }
 
 module _ {file text tuple area : List ℕ} {path top bottom : ℕ} (x : Told file text tuple path area top bottom) where
@@ -167,8 +170,8 @@ one_step D vars k2 = ap (λ (k : ℕ). D ^ k) (ap (λ (k : ℕ). vars * k) (omeg
 answered : (file : List ℕ) → WatchesAnswered file
 answered file = record {
   that_until = λ l x y s s'. that_until l (told x) (told y) s s';
-  one_more = λ {path = path} {k2 = k2} {top} {bottom} {top'} {bottom'} l x y s.
-      subst (λ (power : ℕ). Grown power top bottom top' bottom')
+  one_more = λ {path = path} {k2 = k2} {x = a} {x' = b} l x y s.
+      subst (λ (power : ℕ). Grown power a.numerator a.denominator b.numerator b.denominator)
       (one_step (chain_in file).D (v (numbered s.body path) (length s.prefix)) k2)
       (answers_grown l (told x) (told y) s (told y).spelled (omega arith));
   any_more = λ l h x y s. answers_grown l (told x) (told y) s (told y).spelled h;

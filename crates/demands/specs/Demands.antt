@@ -1,17 +1,14 @@
 -- The three demands of document 00, said of whatever the calls' contracts allow: of every reply, and of all that is left.
 use Rattle.std.specs.Prelude.{ℕ, ◌≤◌, ◌<◌, cond, ◌↔◌, ◌≡◌, pos, length, take, get_or}
-use mathlib.Core.List.{List, [], ◌∷◌, map, Memᴰ}
-use Rattle.refusal.specs.declared.Outcome.TheVariants.{Done}
-use Rattle.refusal.specs.declared.Written.{Written}
-use Rattle.refusal.specs.declared.Written.TheVariants.{Wrote}
+use mathlib.Core.List.{List, ◌∷◌, map, Memᴰ}
+use Rattle.std.specs.Prelude.{Bool, Result, Ok}
+use Rattle.refusal.specs.declared.Refusal.{Refusal}
 use Rattle.refusal.specs.Rows.{Applies}
-use Rattle.refusal.specs.Answers.{Reply, gives, refuses, reply_of, reply_of_written, at_front}
+use Rattle.refusal.specs.Answers.{Reply, gives, refuses, reply_of, at_front}
 use Rattle.model.specs.declared.Model.{Model}
-use Rattle.model.specs.declared.ModelRead.{ModelRead}
-use Rattle.model.specs.Layout.{Shaped, fields_of, empty_model}
+use Rattle.model.specs.Layout.{Shaped, fields_of}
 use Rattle.model.specs.Contract.{file_rows, file_number, ReadModelEnsures, record_rows, WriteModelEnsures}
 use Rattle.sentence.specs.declared.Sentence.{Sentence}
-use Rattle.sentence_reader.specs.declared.SentenceRead.{SentenceRead}
 use Rattle.sentence_reader.specs.Contract.{ReadRow, ReadSentenceEnsures}
 use Rattle.sentence.specs.Record.{record_of, prefix_of, nodes_of}
 use Rattle.sentence_writer.specs.Contract.{WriteRow, WriteSentenceEnsures}
@@ -24,10 +21,9 @@ use Rattle.meaning.specs.Watches.{takes}
 use Rattle.meaning.specs.Merging.{weight_into, Grouping}
 use Rattle.chain.specs.Of.{chain_of}
 use Rattle.question.specs.Contract.{SentenceOf, AreaShort}
-use Rattle.verdict.specs.declared.Answer as Judged
-use Rattle.verdict.specs.Contract.{VerdictRow, VerdictEnsures, verdict_reply}
-use Rattle.numerator.specs.declared.Answer as Counted
-use Rattle.numerator.specs.Contract.{NumeratorRow, NumeratorEnsures, numbered, numerator_reply}
+use Rattle.verdict.specs.Contract.{VerdictRow, VerdictEnsures}
+use Rattle.numerator.specs.declared.Ratio.{Ratio}
+use Rattle.numerator.specs.Contract.{NumeratorRow, NumeratorEnsures, numbered}
 use Rattle.groups.specs.Groups.{group_of, merged_model}
 use Rattle.merge.specs.Contract.{merge_rows, merged_file, MergeEnsures}
 use Rattle.codes.specs.Codes.{sentence_of}
@@ -47,24 +43,24 @@ pub record Ends {A L : Type 0} (R : ℕ → Type 0) (before : L) (reply : Reply 
   pub unchanged : (n : ℕ) → reply ≡ refuses n → after ≡ before
 
 -- Every model file, sentence and grouping of any length ends so, in each of the seven calls. A reader of the library is lent
--- nothing: what it returns beside a refusal is an empty record; the exported readers' contracts say the same of what they are lent.
+-- nothing, and a refusal carries no record; the exported readers' contracts say that what they are lent is unchanged.
 pub record Demand1 : Type 0 where
-  pub read_model : {file : List ℕ} {r : ModelRead} → ReadModelEnsures file r →
-      Ends (λ n. Applies n (file_rows file)) empty_model (reply_of r.outcome) r.model
-  pub write_model : (m : Model) {before after : List ℕ} {w : Written} → WriteModelEnsures m before after w →
-      Ends (λ n. Applies n (record_rows m (length before))) before (reply_of_written w) after
-  pub read_sentence : {text : List ℕ} {r : SentenceRead} → ReadSentenceEnsures text r →
-      Ends (ReadRow text) (record_of [] []) (reply_of r.outcome) r.sentence
-  pub write_sentence : {s : Sentence} {before after : List ℕ} {w : Written} → WriteSentenceEnsures s before w after →
-      Ends (WriteRow s (length before)) before (reply_of_written w) after
-  pub verdict_call : {file text before after : List ℕ} {a : Judged.Answer} → VerdictEnsures file text before a after →
-      Ends (VerdictRow file text (length before)) before (verdict_reply a) after
-  pub numerator_call : {file text tuple before after : List ℕ} {path : ℕ} {a : Counted.Answer} →
+  pub read_model : (file : List ℕ) {r : Result Model Refusal} → ReadModelEnsures file r →
+      Ends (λ n. Applies n (file_rows file)) (tt {0}) (reply_of r) (tt {0})
+  pub write_model : (m : Model) {before after : List ℕ} {w : Result ℕ Refusal} → WriteModelEnsures m before after w →
+      Ends (λ n. Applies n (record_rows m (length before))) before (reply_of w) after
+  pub read_sentence : (text : List ℕ) {r : Result Sentence Refusal} → ReadSentenceEnsures text r →
+      Ends (ReadRow text) (tt {0}) (reply_of r) (tt {0})
+  pub write_sentence : {s : Sentence} {before after : List ℕ} {w : Result ℕ Refusal} → WriteSentenceEnsures s before w after →
+      Ends (WriteRow s (length before)) before (reply_of w) after
+  pub verdict_call : {file text before after : List ℕ} {a : Result Bool Refusal} → VerdictEnsures file text before a after →
+      Ends (VerdictRow file text (length before)) before (reply_of a) after
+  pub numerator_call : {file text tuple before after : List ℕ} {path : ℕ} {a : Result Ratio Refusal} →
       NumeratorEnsures file text tuple path before a after →
-      Ends (NumeratorRow file text tuple path (length before)) before (numerator_reply a) after
-  pub merge_call : (file grouping : List ℕ) {before after : List ℕ} {w : Written} →
+      Ends (NumeratorRow file text tuple path (length before)) before (reply_of a) after
+  pub merge_call : (file grouping : List ℕ) {before after : List ℕ} {w : Result ℕ Refusal} →
       MergeEnsures file grouping before after w →
-      Ends (λ n. Applies n (merge_rows file grouping (length before))) before (reply_of_written w) after
+      Ends (λ n. Applies n (merge_rows file grouping (length before))) before (reply_of w) after
 
 -- ---- Demand 2
 
@@ -101,38 +97,34 @@ pub record Valued (c : Chain) (p : PathFormula) (n : ℕ) (tuple : Tuple) : Type
 pub record Demand2 (file : List ℕ) : Type 0 where
   pub one_sentence : {text : List ℕ} (s t : SentenceOf text) → (s.prefix ≡ t.prefix) × (s.body ≡ t.body)
   -- the verdict is 'holds' exactly if it holds;
-  pub verdicts : {text before after : List ℕ} {a : Judged.Answer} → VerdictEnsures file text before a after →
+  pub verdicts : {text before after : List ℕ} {a : Result Bool Refusal} → VerdictEnsures file text before a after →
       ((n : ℕ) → VerdictRow file text (length before) n → ⊥) →
-      (s : SentenceOf text) × (verdict_reply a ≡ gives (verdict (chain_in file) (map letter_of s.prefix) s.body))
+      (s : SentenceOf text) × (reply_of a ≡ gives (verdict (chain_in file) (map letter_of s.prefix) s.body))
   -- each probability in it is, at every tuple of states, the total weight of the satisfying runs over the total weight of all;
   pub in_verdicts : {text : List ℕ} {room : ℕ} → ((n : ℕ) → VerdictRow file text room n → ⊥) → (s : SentenceOf text) (p : PathFormula)
       {tuple : Tuple} → Inside (chain_in file).N (length s.prefix) tuple → Valued (chain_in file) p (length s.prefix) tuple
   -- and so are the two numbers that numerator gives.
-  pub probabilities : {text tuple before after : List ℕ} {path : ℕ} {a : Counted.Answer} →
+  pub probabilities : {text tuple before after : List ℕ} {path : ℕ} {a : Result Ratio Refusal} →
       NumeratorEnsures file text tuple path before a after → ((n : ℕ) → NumeratorRow file text tuple path (length before) n → ⊥) →
-      (s : SentenceOf text) × (v : ℕ × ℕ) × (numerator_reply a ≡ gives v) ×
-      PathProbability (chain_in file) (numbered s.body path) (length s.prefix) tuple v.0 v.1
+      (s : SentenceOf text) × (v : Ratio) × (reply_of a ≡ gives v) ×
+      PathProbability (chain_in file) (numbered s.body path) (length s.prefix) tuple v.numerator v.denominator
 
 -- Demand 2, of the readers and writers.
 pub record RoundTrips : Type 0 where
   -- Writing what was read gives the same file
-  pub files : {file before after : List ℕ} {r : ModelRead} {w : Written} → ReadModelEnsures file r → r.outcome ≡ Done
-      → length file ≤ length before →
-      WriteModelEnsures r.model before after w →
-      (w ≡ Wrote (length file)) × (after ≡ at_front file before)
+  pub files : (file : List ℕ) {before after : List ℕ} {m : Model} {w : Result ℕ Refusal} → ReadModelEnsures file (Ok m) →
+      length file ≤ length before → WriteModelEnsures m before after w → (w ≡ Ok (length file)) × (after ≡ at_front file before)
   -- or text,
-  pub texts : {text before after : List ℕ} {r : SentenceRead} {w : Written} → ReadSentenceEnsures text r → r.outcome ≡ Done →
-      length text ≤ length before → WriteSentenceEnsures r.sentence before w after
-      → (w ≡ Wrote (length text)) × (after ≡ at_front text before)
+  pub texts : (text : List ℕ) {before after : List ℕ} {s : Sentence} {w : Result ℕ Refusal} → ReadSentenceEnsures text (Ok s) →
+      length text ≤ length before → WriteSentenceEnsures s before w after → (w ≡ Ok (length text)) × (after ≡ at_front text before)
   -- and reading what was written gives the same model, of a record as its type has it,
-  pub models : {m : Model} {before after : List ℕ} {size : ℕ} {r : ModelRead} → Shaped m →
-      WriteModelEnsures m before after (Wrote size) → ReadModelEnsures (take size after) r →
-      r ≡ record { outcome = Done; model = m }
+  pub models : {m : Model} {before after : List ℕ} {size : ℕ} {r : Result Model Refusal} → Shaped m →
+      WriteModelEnsures m before after (Ok size) → ReadModelEnsures (take size after) r → r ≡ Ok m
   -- or sentence, of a record with four places for letters, as its type has them: its prefix and its nodes, since places past the
   -- count are no part of it.
-  pub sentences : {s : Sentence} {before after : List ℕ} {size : ℕ} {r : SentenceRead} → length s.exists ≡ 4 →
-      WriteSentenceEnsures s before (Wrote size) after → ReadSentenceEnsures (take size after) r →
-      r ≡ record { outcome = Done; sentence = record_of (prefix_of s) (nodes_of s) }
+  pub sentences : {s : Sentence} {before after : List ℕ} {size : ℕ} {r : Result Sentence Refusal} → length s.exists ≡ 4 →
+      WriteSentenceEnsures s before (Ok size) after → ReadSentenceEnsures (take size after) r →
+      r ≡ Ok (record_of (prefix_of s) (nodes_of s))
 
 -- The same of the exported calls, on the numbers that they leave and take. A code of 0 says that a reader has read, and one below 2^32
 -- that a writer has written so many bytes.
@@ -181,21 +173,21 @@ pub record Keeps (file grouping merged : List ℕ) : Type 0 where
   -- a work area that is long enough for the full model is so for the merged one;
   pub room : {text : List ℕ} {room : ℕ} → (AreaShort file text room → ⊥) → AreaShort merged text room → ⊥
   -- for every sentence not refused on the full model the verdicts are equal, where the second area is long enough for the merged one,
-  pub verdicts : {text area area' left left' : List ℕ} {a b : Judged.Answer} → (AreaShort merged text (length area') → ⊥) →
+  pub verdicts : {text area area' left left' : List ℕ} {a b : Result Bool Refusal} → (AreaShort merged text (length area') → ⊥) →
       VerdictEnsures file text area a left →
       ((n : ℕ) → VerdictRow file text (length area) n → ⊥) → VerdictEnsures merged text area' b left' → a ≡ b
   -- and each path formula's numerator and denominator, at every tuple of states, equal those on the merged model at the tuple of
   -- their groups.
-  pub numerators : {text tuple area area' left left' : List ℕ} {path : ℕ} {a b : Counted.Answer} →
+  pub numerators : {text tuple area area' left left' : List ℕ} {path : ℕ} {a b : Result Ratio Refusal} →
       (AreaShort merged text (length area') → ⊥) →
       NumeratorEnsures file text tuple path area a left → ((n : ℕ) → NumeratorRow file text tuple path (length area) n → ⊥) →
       NumeratorEnsures merged text (map (group_of grouping) tuple) path area' b left' → a ≡ b
 
 -- The merged model is written: the bytes at the front are its file, which is accepted and read as that model, and what merging
 -- keeps is kept.
-pub record MergedWritten (file grouping : List ℕ) (answer : Written) (after : List ℕ) : Type 0 where
+pub record MergedWritten (file grouping : List ℕ) (answer : Result ℕ Refusal) (after : List ℕ) : Type 0 where
   pub size : ℕ
-  pub answered : reply_of_written answer ≡ gives size
+  pub answered : reply_of answer ≡ gives size
   pub front : take size after ≡ merged_file file grouping
   pub accepted : file_number (take size after) ≡ 0
   pub model : fields_of (take size after) ≡ merged_model (fields_of file) grouping
@@ -204,14 +196,17 @@ pub record MergedWritten (file grouping : List ℕ) (answer : Written) (after : 
 -- Demand 3, of whatever merge answers and leaves.
 pub record Demand3 : Type 0 where
   -- It is refused, with the number 13, exactly if two states of one group differ in labels or in their weight into some group;
-  pub refused : (file grouping : List ℕ) (M : ℕ) {before after : List ℕ} {w : Written} → MergeAsked file grouping M (length before) →
+  pub refused : (file grouping : List ℕ) (M : ℕ) {before after : List ℕ} {w : Result ℕ Refusal} →
+      MergeAsked file grouping M (length before) →
       MergeEnsures file grouping before after w →
-      (reply_of_written w ≡ refuses 13) ↔ Differ (chain_in file) (group_of grouping) M
+      (reply_of w ≡ refuses 13) ↔ Differ (chain_in file) (group_of grouping) M
   -- it is refused with no other number.
-  pub number : (file grouping : List ℕ) (M : ℕ) {before after : List ℕ} {w : Written} → MergeAsked file grouping M (length before) →
+  pub number : (file grouping : List ℕ) (M : ℕ) {before after : List ℕ} {w : Result ℕ Refusal} →
+      MergeAsked file grouping M (length before) →
       MergeEnsures file grouping before after w →
-      (n : ℕ) → reply_of_written w ≡ refuses n → n ≡ 13
+      (n : ℕ) → reply_of w ≡ refuses n → n ≡ 13
   -- Otherwise the merged model is written, and what merging keeps is kept.
-  pub written : (file grouping : List ℕ) (M : ℕ) {before after : List ℕ} {w : Written} → MergeAsked file grouping M (length before) →
+  pub written : (file grouping : List ℕ) (M : ℕ) {before after : List ℕ} {w : Result ℕ Refusal} →
+      MergeAsked file grouping M (length before) →
       MergeEnsures file grouping before after w →
       (Differ (chain_in file) (group_of grouping) M → ⊥) → MergedWritten file grouping w after

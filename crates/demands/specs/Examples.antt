@@ -64,7 +64,7 @@ pub record Met (line : Line) : Type 0 where
 unfoldable pub M1halted : ℕ → Model
 M1halted version =
     let m = model_of_sketch (record { D = 4; masks = 0 ∷ 1 ∷ []; rows = (3 ∷ 1 ∷ []) ∷ (0 ∷ 0 ∷ []) ∷ [] }) in
-    model_of m.n m.a m.d version m.masks m.weights.rows
+    model_of m.n m.a m.d version m.masks m.weights
 
 -- in version 1 neither row 4 nor row 5 applies, and the chain is that of M1; in version 0 row 5 applies and row 4 does not, in version 2
 -- row 4 does

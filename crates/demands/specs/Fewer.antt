@@ -1,6 +1,8 @@
 -- T-02 of document 02, variables that a path never looks at: of the calls, beside the meaning in which all n variables step.
 use Rattle.std.specs.Prelude.{ℕ, ◌*◌, ◌≤◌, true, List, map, ◌≡◌, length}
-use Rattle.refusal.specs.Answers.{gives}
+use Rattle.std.specs.Prelude.{Bool, Result}
+use Rattle.refusal.specs.declared.Refusal.{Refusal}
+use Rattle.refusal.specs.Answers.{reply_of, gives}
 use Rattle.model.specs.Layout.{fields_of}
 use Rattle.model.specs.Contract.{file_number}
 use Rattle.meaning.specs.Chain.{Chain, Tuple, Inside}
@@ -10,10 +12,9 @@ use Rattle.meaning.specs.Meaning.{numerator, denominator}
 use Rattle.unchanged.specs.Base as Base
 use Rattle.unchanged.specs.Unchanged.{shrunk, Unchanged}
 use Rattle.question.specs.Contract.{QuestionRow, SentenceOf, AreaShort}
-use Rattle.verdict.specs.declared.Answer as Judged
-use Rattle.verdict.specs.Contract.{VerdictEnsures, verdict_reply}
-use Rattle.numerator.specs.declared.Answer as Counted
-use Rattle.numerator.specs.Contract.{NumeratorRow, NumeratorEnsures, numbered, numerator_reply}
+use Rattle.verdict.specs.Contract.{VerdictEnsures}
+use Rattle.numerator.specs.declared.Ratio.{Ratio}
+use Rattle.numerator.specs.Contract.{NumeratorRow, NumeratorEnsures, numbered}
 use Rattle.demands.specs.Demands.{chain_in}
 
 -- the base's numerator and denominator are these two times the power of D of the variables that the path formula does not name
@@ -31,14 +32,14 @@ pub record FewerVariables : Type 0 where
   -- on the chain of every accepted file no value and no verdict has changed, and row 10 refuses no body that it did not;
   pub values : (file : List ℕ) → file_number file ≡ 0 → (n : ℕ) → Unchanged (chain_in file) n
   -- every verdict that was given is still given, where the work area is long enough;
-  pub still_given : {file text before after : List ℕ} {a : Judged.Answer} → VerdictEnsures file text before a after →
+  pub still_given : {file text before after : List ℕ} {a : Result Bool Refusal} → VerdictEnsures file text before a after →
       ((n : ℕ) → BaseRow file text n → ⊥) → (AreaShort file text (length before) → ⊥) →
-      (s : SentenceOf text) × (verdict_reply a ≡ gives (Base.verdict (chain_in file) (map letter_of s.prefix) s.body))
+      (s : SentenceOf text) × (reply_of a ≡ gives (Base.verdict (chain_in file) (map letter_of s.prefix) s.body))
   -- the two numbers of numerator, times one power of D, are the base's;
-  pub fractions : {file text tuple before after : List ℕ} {path : ℕ} {a : Counted.Answer} →
+  pub fractions : {file text tuple before after : List ℕ} {path : ℕ} {a : Result Ratio Refusal} →
       NumeratorEnsures file text tuple path before a after → ((n : ℕ) → NumeratorRow file text tuple path (length before) n → ⊥) →
-      (s : SentenceOf text) × (x : ℕ × ℕ) × (numerator_reply a ≡ gives x) × SameFraction (chain_in file) (numbered s.body path)
-      (length s.prefix) tuple x.0 x.1
+      (s : SentenceOf text) × (x : Ratio) × (reply_of a ≡ gives x) × SameFraction (chain_in file) (numbered s.body path)
+      (length s.prefix) tuple x.numerator x.denominator
   -- and where no variable occurs in a path formula, they are 0 or 1, and 1.
   pub none_named : (file : List ℕ) → file_number file ≡ 0 → (p : PathFormula) (n : ℕ) → v p n ≡ 0 → {tuple : Tuple} →
       Inside (chain_in file).N n tuple → (numerator p (chain_in file) n tuple ≤ 1) × (denominator p (chain_in file).D n ≡ 1)

@@ -1,4 +1,5 @@
 -- T-09 of document 02: longer watches never lose a run.
+use Rattle.std.specs.Prelude.{Ok}
 use Rattle.std.specs.Prelude.{ℕ, ◌+◌, ◌*◌, ◌-◌, ◌^◌, ◌≤◌, Bool, true, cond, List, [], ◌∷◌, ◌++◌, ◌≡◌, length}
 use Rattle.sentence.specs.declared.Node.{Node}
 use Rattle.sentence.specs.declared.Node.TheVariants.{Until}
@@ -11,7 +12,7 @@ use Rattle.meaning.specs.Meaning.{numerator, denominator}
 use Rattle.meaning.specs.Watches.{takes, not_taken}
 use Rattle.trees.specs.Listed.{path_count}
 use Rattle.question.specs.Contract.{SentenceOf}
-use Rattle.numerator.specs.declared.Answer.TheVariants.{Counted}
+use Rattle.numerator.specs.declared.Ratio.{Ratio}
 use Rattle.numerator.specs.Contract.{NumeratorEnsures, numbered}
 use Rattle.demands.specs.Demands.{chain_in, PathProbability}
 
@@ -59,24 +60,25 @@ pub record Watched (c : Chain) (n : ℕ) : Type 0 where
 pub record WatchesAnswered (file : List ℕ) : Type 0 where
   -- of any two for texts that differ in one k2 alone, at one tuple and one path number, the path formula with that number is the until
   -- in both sentences, with k1 and both formulas unchanged;
-  pub that_until : {text text' tuple area area' left left' : List ℕ} {path k1 k2 k2' top bottom top' bottom' : ℕ} →
-      Lengthened text text' path k1 k2 k2' → NumeratorEnsures file text tuple path area (Counted top bottom) left →
-      NumeratorEnsures file text' tuple path area' (Counted top' bottom') left' → (s : SentenceOf text) (s' : SentenceOf text') →
+  pub that_until : {text text' tuple area area' left left' : List ℕ} {path k1 k2 k2' : ℕ} {x x' : Ratio} →
+      Lengthened text text' path k1 k2 k2' → NumeratorEnsures file text tuple path area (Ok x) left →
+      NumeratorEnsures file text' tuple path area' (Ok x') left' → (s : SentenceOf text) (s' : SentenceOf text') →
       (f : Formula) × (g : Formula) × (numbered s.body path ≡ until k1 k2 f g) × (numbered s'.body path ≡ until k1 k2' f g)
   -- where k2 is one more in the second, the numbers grow by D^v,
-  pub one_more : {text text' tuple area area' left left' : List ℕ} {path k1 k2 top bottom top' bottom' : ℕ} →
-      Lengthened text text' path k1 k2 (k2 + 1) → NumeratorEnsures file text tuple path area (Counted top bottom) left →
-      NumeratorEnsures file text' tuple path area' (Counted top' bottom') left' → (s : SentenceOf text) →
-      Grown ((chain_in file).D ^ v (numbered s.body path) (length s.prefix)) top bottom top' bottom'
+  pub one_more : {text text' tuple area area' left left' : List ℕ} {path k1 k2 : ℕ} {x x' : Ratio} →
+      Lengthened text text' path k1 k2 (k2 + 1) → NumeratorEnsures file text tuple path area (Ok x) left →
+      NumeratorEnsures file text' tuple path area' (Ok x') left' → (s : SentenceOf text) →
+      Grown ((chain_in file).D ^ v (numbered s.body path) (length s.prefix)) x.numerator x.denominator x'.numerator x'.denominator
   -- and for any k2' from k2 on by D^(v × (k2' − k2));
-  pub any_more : {text text' tuple area area' left left' : List ℕ} {path k1 k2 k2' top bottom top' bottom' : ℕ} →
-      Lengthened text text' path k1 k2 k2' → k2 ≤ k2' → NumeratorEnsures file text tuple path area (Counted top bottom) left →
-      NumeratorEnsures file text' tuple path area' (Counted top' bottom') left' → (s : SentenceOf text) →
-      Grown ((chain_in file).D ^ (v (numbered s.body path) (length s.prefix) * (k2' - k2))) top bottom top' bottom'
+  pub any_more : {text text' tuple area area' left left' : List ℕ} {path k1 k2 k2' : ℕ} {x x' : Ratio} →
+      Lengthened text text' path k1 k2 k2' → k2 ≤ k2' → NumeratorEnsures file text tuple path area (Ok x) left →
+      NumeratorEnsures file text' tuple path area' (Ok x') left' → (s : SentenceOf text) →
+      Grown ((chain_in file).D ^ (v (numbered s.body path) (length s.prefix) * (k2' - k2)))
+      x.numerator x.denominator x'.numerator x'.denominator
   -- and runs taken and runs not taken add up to the denominator.
-  pub add_up : {text tuple area left : List ℕ} {path top bottom : ℕ} →
-      NumeratorEnsures file text tuple path area (Counted top bottom) left → (s : SentenceOf text) →
-      TakenAndNot (chain_in file) (numbered s.body path) (length s.prefix) tuple top bottom
+  pub add_up : {text tuple area left : List ℕ} {path : ℕ} {x : Ratio} →
+      NumeratorEnsures file text tuple path area (Ok x) left → (s : SentenceOf text) →
+      TakenAndNot (chain_in file) (numbered s.body path) (length s.prefix) tuple x.numerator x.denominator
 
 -- T-09.
 pub record LongerWatches : Type 0 where

@@ -1,14 +1,13 @@
 -- A letter ranges over all states: one state decides it, or all of them do; and the letters that are left.
 use Prim.Native.Nat.{ℕ, suc, ◌+◌, ◌-◌, ◌*◌, ◌^◌, ◌≤◌, ◌<◌}
-use mathlib.Core.Bool.{Bool, true, false, cond, not, true≢false, false≢true}
+use mathlib.Core.Bool.{Bool, true, false, beq, cond, not, true≢false, false≢true}
 use mathlib.Core.List.{List, [], ◌∷◌, ◌++◌, map, append-nil, append_assoc}
 use mathlib.Core.Path.{◌≡◌, refl, sym, ap, subst, ◌∙◌, fun_ext}
 use native.Mathlib.Nat.{mul-le-mul_left, mul-le-mul_right, pow-succ', pow-zero, zero-add, add-zero, add-suc, suc-add}
-use native.Mathlib.Numerals.{add-one}
 use native.Mathlib.Omega.{arith}
 use lib.Dec.{eqb}
-use lib.ListN.{length, get_or, take, drop, drop_of_length-le, length-append}
-use lib.Seq.{drop-cons, get_or-take, length-take-le}
+use lib.ListN.{length, get_or, take, drop, length-append}
+use Rattle.std.proofs.lemmas.Slice.{first_rest}
 use Rattle.counting.proofs.Laws.{same_truth}
 use Rattle.layers.specs.Layers.{Layer, truth}
 use Rattle.layers.proofs.Places.{pow_some}
@@ -18,7 +17,7 @@ use Rattle.meaning.specs.Tree.{Letter, for_all, exists, letter_of}
 use Rattle.meaning.specs.Meaning.{ranges, ranged}
 use Rattle.meaning.proofs.Tests.{every_means, every_same, there_is_same, there_is_found, there_is_from, below_member, below_has}
 use Rattle.meaning.proofs.Numbers.{number_of, number_below, tuple_number}
-use Rattle.descent.specs.Descent.{met_at, descended, letters_from}
+use Rattle.descent.specs.Descent.{met_at, descended}
 
 -- a state that decides: met for `E`, not met for `A`
 pub decided : (e : Bool) (test : ℕ → Bool) (N s : ℕ) → s < N → test s ≡ e → ranges (letter_of e) test (below N) ≡ e
@@ -38,59 +37,80 @@ undecided true test N h = same_truth (there_is test (below N)) false
     (λ e. absurd (false≢true e))
 undecided false test N h = (every_means test (below N)).1 (λ s m. h s (below_member N m))
 
--- the letters from i on begin with letter i
-pub letters_more : (flags : List Bool) (count i : ℕ) → i < count → count ≤ length flags →
-    letters_from flags count i ≡ letter_of (get_or flags i false) ∷ letters_from flags count (i + 1)
-letters_more flags count i l room =
-    let long = length-take-le count flags room in
-    ap (map letter_of) (drop-cons (take count flags) i false (omega arith)) ∙
-    ap (λ (b : Bool). letter_of b ∷ map letter_of (drop (suc i) (take count flags))) (get_or-take count flags i false l) ∙
-    ap (λ (k : ℕ). letter_of (get_or flags i false) ∷ letters_from flags count k) (sym (add-one i))
+-- the first letter, and the rest as they are lent
+abbrev pub first_of : List Bool → Bool
+first_of letters = get_or letters 0 false
 
--- past the last letter there is none
-pub letters_none : (flags : List Bool) (count i : ℕ) → count ≤ i → count ≤ length flags → letters_from flags count i ≡ []
-letters_none flags count i h room =
-    let long = length-take-le count flags room in
-    let past : length (take count flags) ≤ i = omega arith in
-    ap (map letter_of) (drop_of_length-le (take count flags) past)
+abbrev pub rest_of : List Bool → List Bool
+rest_of letters = take (length letters - 1) (drop 1 letters)
+
+-- one of two truths is the other, or it is not
+alike : (a b : Bool) → beq a b ≡ true → a ≡ b
+alike true true e = refl
+alike true false e = sym e
+alike false true e = e
+alike false false e = refl
+
+unlike : (a b : Bool) → beq a b ≡ false → a ≡ not b
+unlike true true e = e
+unlike true false e = refl
+unlike false true e = refl
+unlike false false e = sym e
 
 -- where no letter is left the descent returns the truth at the place
-pub descended_none : (N base : ℕ) (letters : List Letter) (w : List ℕ) → letters ≡ [] → descended N letters base w ≡ met_at w base
+pub descended_none : (N base : ℕ) (letters : List Bool) (w : List ℕ) → length letters < 1 →
+    met_at w base ≡ descended N (map letter_of letters) base w
 unfolding descended
-descended_none N base letters w e = ap (λ (l : List Letter). descended N l base w) e
+descended_none N base [] w h = refl
+descended_none N base (x ∷ letters) w h = absurd (omega arith)
 
--- and where one is: it ranges over all states
-pub descended_more : (N base : ℕ) (letter : Letter) (letters rest : List Letter) (w : List ℕ) → letters ≡ letter ∷ rest →
-    descended N letters base w ≡ ranges letter (λ s. descended N rest (base * N + s) w) (below N)
-unfolding descended
-descended_more N base letter letters rest w e = ap (λ (l : List Letter). descended N l base w) e
+module _ (N base : ℕ) (letters : List Bool) (w : List ℕ) (some : 1 ≤ length letters) where
+  both : letters ≡ first_of letters ∷ rest_of letters
+  both = first_rest letters false some
+
+  -- there is one letter more than are left
+  pub one_more : length letters ≡ suc (length (rest_of letters))
+  one_more = ap length both
+
+  -- where one is left it ranges over all states
+  ranged_first : ranges (letter_of (first_of letters)) (λ s. descended N (map letter_of (rest_of letters)) (base * N + s) w) (below N) ≡
+      descended N (map letter_of letters) base w
+  unfolding descended
+  ranged_first = sym (ap (λ (l : List Bool). descended N (map letter_of l) base w) both)
+
+  -- a state that decides it
+  pub one_decides : {s : ℕ} {met : Bool} → s < N → met ≡ descended N (map letter_of (rest_of letters)) (base * N + s) w →
+      beq met (first_of letters) ≡ true → first_of letters ≡ descended N (map letter_of letters) base w
+  one_decides {s} {met} l e t =
+      sym (decided (first_of letters) (λ s. descended N (map letter_of (rest_of letters)) (base * N + s) w) N s l
+      (sym e ∙ alike met (first_of letters) t)) ∙
+      ranged_first
+
+  -- one that does not
+  pub one_passed : (s : ℕ) {met : Bool} → met ≡ descended N (map letter_of (rest_of letters)) (base * N + s) w →
+      beq met (first_of letters) ≡ false → descended N (map letter_of (rest_of letters)) (base * N + s) w ≡ not (first_of letters)
+  one_passed s {met} e t = sym e ∙ unlike met (first_of letters) t
+
+  -- none that does
+  pub none_decides : ((s : ℕ) → s < N → descended N (map letter_of (rest_of letters)) (base * N + s) w ≡ not (first_of letters)) →
+      not (first_of letters) ≡ descended N (map letter_of letters) base w
+  none_decides h =
+      sym (undecided (first_of letters) (λ s. descended N (map letter_of (rest_of letters)) (base * N + s) w) N h) ∙ ranged_first
 
 -- one variable more is fixed: its places lie within those before
-pub room_more : (N i count base s size : ℕ) → i < count → s < N → (base + 1) * N ^ (count - i) ≤ size →
-    (base * N + s + 1) * N ^ (count - (i + 1)) ≤ size
-room_more N i count base s size l h room =
-    let k = count - (i + 1) in
-    let one : count - i ≡ suc k = omega arith in
-    let power : N ^ (count - i) ≡ N * N ^ k = ap (λ (x : ℕ). N ^ x) one ∙ pow-succ' N k in
-    let whole : (base + 1) * N ^ (count - i) ≡ (base + 1) * (N * N ^ k) = ap (λ (x : ℕ). (base + 1) * x) power in
+pub room_more : (N left base s size : ℕ) {n : ℕ} → n ≡ suc left → s < N → (base + 1) * N ^ n ≤ size →
+    (base * N + s + 1) * N ^ left ≤ size
+room_more N left base s size one h room =
+    let power = ap (λ (x : ℕ). (base + 1) * N ^ x) one ∙ ap (λ (x : ℕ). (base + 1) * x) (pow-succ' N left) in
     let less : base * N + s + 1 ≤ (base + 1) * N = omega arith in
-    let grown = mul-le-mul_right (N ^ k) less in
-    omega arith
-
--- where all variables are fixed, the place lies in the layer
-pub place_inside : (N i count base size : ℕ) → count ≤ i → (base + 1) * N ^ (count - i) ≤ size → base < size
-place_inside N i count base size h room =
-    let none : count - i ≡ 0 = omega arith in
-    let power : N ^ (count - i) ≡ 1 = ap (λ (x : ℕ). N ^ x) none ∙ pow-zero N in
-    let whole : (base + 1) * N ^ (count - i) ≡ (base + 1) * 1 = ap (λ (x : ℕ). (base + 1) * x) power in
+    let grown = mul-le-mul_right (N ^ left) less in
     omega arith
 
 -- the place of one state more lies in the layer too
-pub place_more : (N i count base s size : ℕ) → i < count → s < N → (base + 1) * N ^ (count - i) ≤ size → base * N + s < size
-place_more N i count base s size l h room =
-    let k = count - (i + 1) in
-    let more = room_more N i count base s size l h room in
-    let power : 1 ≤ N ^ k = pow_some N k (omega arith) in
+pub place_more : (N left base s size : ℕ) {n : ℕ} → n ≡ suc left → s < N → (base + 1) * N ^ n ≤ size → base * N + s < size
+place_more N left base s size one h room =
+    let more = room_more N left base s size one h room in
+    let power : 1 ≤ N ^ left = pow_some N left (omega arith) in
     let grown = mul-le-mul_left (base * N + s + 1) power in
     omega arith
 

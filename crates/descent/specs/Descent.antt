@@ -1,9 +1,9 @@
 -- Working: what the functions of this crate promise one another. Nothing here has to be believed.
 --
 -- The quantifier descent over a layer of truths: what it asks, and what it returns.
-use Rattle.std.specs.Prelude.{ℕ, ◌+◌, ◌-◌, ◌*◌, ◌^◌, ◌≤◌, Bool, not, List, [], ◌∷◌, map, eqb, length, get_or, take, drop}
+use Rattle.std.specs.Prelude.{ℕ, ◌+◌, ◌*◌, ◌^◌, ◌≤◌, Bool, not, List, [], ◌∷◌, eqb, length, get_or}
 use Rattle.meaning.specs.Lists.{below}
-use Rattle.meaning.specs.Tree.{Letter, letter_of}
+use Rattle.meaning.specs.Tree.{Letter}
 use Rattle.meaning.specs.Meaning.{ranges}
 use Rattle.layers.specs.Held.{most_states, most_variables}
 
@@ -16,14 +16,9 @@ unfoldable pub descended : ℕ → List Letter → ℕ → List ℕ → Bool
 descended N [] base w = met_at w base
 descended N (letter ∷ letters) base w = ranges letter (λ s. descended N letters (base * N + s) w) (below N)
 
--- the letters from i on
-abbrev pub letters_from : List Bool → ℕ → ℕ → List Letter
-letters_from flags count i = map letter_of (drop i (take count flags))
-
 -- there are at most four letters, and the places of all tuples that begin with the states fixed so far lie in the layer
-pub record DescentReady (flags : List Bool) (count N i base : ℕ) (w : List ℕ) : Type 0 where
-  pub few : count ≤ most_variables
+pub record DescentReady (letters : List Bool) (N base : ℕ) (w : List ℕ) : Type 0 where
+  pub few : length letters ≤ most_variables
   pub states : N ≤ most_states
-  pub up_to : i ≤ count
-  pub room : (base + 1) * N ^ (count - i) ≤ length w
+  pub room : (base + 1) * N ^ length letters ≤ length w
   pub small : length w ≤ 65536

@@ -1,46 +1,25 @@
 // The quantifier descent: fixes one variable and calls itself with one letter fewer.
 #![tactic(auto)]
 
-ghost use Rattle.std.specs.Prelude.{◌≡◌, ◌<◌, length};
-ghost use Rattle.descent.specs.Descent.{met_at, descended, letters_from, DescentReady};
+ghost use Rattle.std.specs.Prelude.{◌≡◌, map};
+ghost use Rattle.meaning.specs.Tree.{letter_of};
+ghost use Rattle.descent.specs.Descent.{descended, DescentReady};
 
-// The truth at a place of the layer.
-fn met_at(layer: &[u64], k: usize) -> bool
-    requires { k < length layer.now }
-    ensures { result ≡ met_at layer.now k }
+// Whether the sentence holds by the letters that are left, yes for `E`, where the variables before them have the states whose number is
+// base.
+pub fn holds_from(letters: &[bool], states: usize, base: usize, layer: &[u64]) -> bool
+    requires { DescentReady letters.now states base layer.now }
+    ensures { result ≡ descended states (map letter_of letters.now) base layer.now }
 {
-    !(layer[k] == 0)
-}
-
-// Whether the sentence holds from letter i on, where the variables before it have the states whose number is base.
-pub fn holds_from(
-    flags: [bool; 4],
-    count: usize,
-    states: usize,
-    i: usize,
-    base: usize,
-    layer: &[u64],
-) -> bool
-    requires { DescentReady flags count states i base layer.now }
-    ensures { result ≡ descended states (letters_from flags count i) base layer.now }
-{
-    if count <= i {
-        return met_at(layer, base);
-    }
-    let exists = flags[i];
-    let mut s: usize = 0;
-    while s < states {
-        let met = holds_from(flags, count, states, i + 1, base * states + s, layer);
-        if exists {
-            if met {
-                return true;
+    match letters {
+        [] => layer[base] != 0,
+        [exists, rest @ ..] => {
+            for s in 0..states {
+                if holds_from(rest, states, base * states + s, layer) == *exists {
+                    return *exists;
+                }
             }
-        } else {
-            if !met {
-                return false;
-            }
+            !*exists
         }
-        s += 1;
     }
-    !exists
 }

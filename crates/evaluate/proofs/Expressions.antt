@@ -8,7 +8,6 @@ use native.Mathlib.Nat.{le_trans, le_of_eq}
 use native.Mathlib.Omega.{arith}
 use lib.ListN.{length}
 use Rattle.sentence.specs.declared.Kind.TheVariants.{Expression as ExpressionKind, Path as PathKind}
-use Rattle.sentence.specs.declared.Slot.{Slot}
 use Rattle.sentence.specs.declared.Node.{Node}
 use Rattle.sentence.specs.declared.Node.TheVariants.{Probability, Constant, Sum as SumNode}
 use Rattle.sentence.specs.declared.Node.TheVariants.{Difference as DifferenceNode, Product as ProductNode}
@@ -26,10 +25,10 @@ use Rattle.trees.specs.Need.{paired, need_in}
 use Rattle.trees.specs.Ranged.{RangedIn}
 use Rattle.trees.specs.Standing.{node_at, ExpressionAt}
 use Rattle.trees.proofs.Cases.{ExpressionCase, expression_case}
-use Rattle.path_steps.specs.declared.Setting.{Setting}
-use Rattle.evaluate.specs.Evaluation.{TreeReady, PathReady, CombinedReady, TreeDone, TreesDone, CombinedDone}
+use Rattle.layers.specs.declared.Setting.{Setting}
+use Rattle.evaluate.specs.Evaluation.{TreeReady, CombinedReady, TreeDone, TreesDone, CombinedDone}
 use Rattle.evaluate.proofs.Fixing.{tuple_count_power}
-use Rattle.evaluate.proofs.Trees.{tree_ready, trees_ready, known, by_case}
+use Rattle.evaluate.proofs.Trees.{tree_ready, trees_ready, known, expressions_bounded, by_case}
 use Rattle.evaluate.proofs.Operands.{trees_room, trees_left}
 
 -- ---- the three operations
@@ -54,56 +53,55 @@ operation_bottom Sum a b D n = refl
 operation_bottom Difference a b D n = refl
 operation_bottom Product a b D n = refl
 
+-- the node of an operation
+abbrev pub operation_node : Operation → Node
+operation_node Sum = SumNode
+operation_node Difference = DifferenceNode
+operation_node Product = ProductNode
+
 -- an operation's expression at a place, with its two operands after it
-abbrev pub OperationCase : List Slot → ℕ → Operation → Expression → ℕ → Type 0
+abbrev OperationCase : List Node → ℕ → Operation → Expression → ℕ → Type 0
 OperationCase nodes at op f q =
     (a : Expression) × (b : Expression) × (m : ℕ) × (f ≡ expression_of op a b) × ExpressionAt nodes (at + 1) a m ×
     ExpressionAt nodes m b q
 
+operation_case : (op : Operation) (nodes : List Node) (at : ℕ) (f : Expression) (q : ℕ) →
+    ExpressionCase nodes at (operation_node op) f q → OperationCase nodes at op f q
+operation_case Sum nodes at f q it = it
+operation_case Difference nodes at f q it = it
+operation_case Product nodes at f q it = it
+
 -- ---- what the operands are evaluated with
-module _ {nodes : List Slot} {g : Setting} {masks : List ℕ} {rows : List (List ℕ)} {at : ℕ} {w : List ℕ}
+module _ {nodes : List Node} {g : Setting} {masks : List ℕ} {rows : List (List ℕ)} {at : ℕ} {w : List ℕ}
     (ready : TreeReady ExpressionKind nodes g masks rows at w) where
   -- what the path of a probability asks
-  pub probability_ready : node_at nodes at ≡ Probability → PathReady nodes g masks rows (at + 1) w
+  pub probability_ready : node_at nodes at ≡ Probability → TreeReady PathKind nodes g masks rows (at + 1) w
   unfolding exceeds_in need_in size tree_ready
   probability_ready e =
       let it = expression_case nodes at Probability e ready.stands in
       let D = ready.chain.D in
       let n = g.variables in
       let h = known ready it.1 in
-      record {
-        one = tree_ready ready.fixed ready.few PathKind it.0 ready.end it.2 h.0
-            (or_left (exceeds_from it.0 D n) (large_size (size (probability it.0) D n)) h.1) h.2;
-        small = (size_fits (probability it.0) D n h.1).0;
-      }
+      tree_ready ready.fixed ready.few PathKind it.0 ready.end it.2 h.0
+      (or_left (exceeds_from it.0 D n) (large_size (size (probability it.0) D n)) h.1) (size_fits (probability it.0) D n h.1).0 h.2
 
-  operation_ready : (op : Operation) → OperationCase nodes at op ready.tree ready.end →
-      CombinedReady op nodes g masks rows (at + 1) w
+  -- what the expressions of an operation ask
+  pub operation_ready : (op : Operation) → node_at nodes at ≡ operation_node op → CombinedReady op nodes g masks rows (at + 1) w
   unfolding trees_ready
-  operation_ready op it =
+  operation_ready op e =
+      let it = operation_case op nodes at ready.tree ready.end (expression_case nodes at (operation_node op) e ready.stands) in
       let h = known ready it.3 in
+      let small = operands_small op it.0 it.1 ready.chain.D g.variables h.1 in
       record {
         two = trees_ready ready.fixed ready.few ExpressionKind it.0 it.1 it.2 ready.end it.4 it.5
             (operation_ranged op g.variables it.0 it.1 h.0)
-            (operands_small op it.0 it.1 ready.chain.D g.variables h.1)
+            small (expressions_bounded _ _ _ _ small)
             (subst (λ (k : ℕ). k * g.tuples ≤ length w) (operation_need op it.0 it.1) h.2);
         fits = h.1;
       }
 
-  -- what the expressions of a sum ask
-  pub sum_ready : node_at nodes at ≡ SumNode → CombinedReady Sum nodes g masks rows (at + 1) w
-  sum_ready e = operation_ready Sum (expression_case nodes at SumNode e ready.stands)
-
-  -- those of a difference
-  pub difference_ready : node_at nodes at ≡ DifferenceNode → CombinedReady Difference nodes g masks rows (at + 1) w
-  difference_ready e = operation_ready Difference (expression_case nodes at DifferenceNode e ready.stands)
-
-  -- those of a product
-  pub product_ready : node_at nodes at ≡ ProductNode → CombinedReady Product nodes g masks rows (at + 1) w
-  product_ready e = operation_ready Product (expression_case nodes at ProductNode e ready.stands)
-
 -- ---- two expressions and an operation on them
-module _ {op : Operation} {nodes : List Slot} {g : Setting} {masks : List ℕ} {rows : List (List ℕ)} {at : ℕ} {mid : List ℕ}
+module _ {op : Operation} {nodes : List Node} {g : Setting} {masks : List ℕ} {rows : List (List ℕ)} {at : ℕ} {mid : List ℕ}
     {next first second : ℕ} (done : TreesDone ExpressionKind nodes g masks rows at mid next first second) where
   -- what combining asks
   pub combining_ready : {w : List ℕ} → CombinedReady op nodes g masks rows at w → length mid ≡ length w →
@@ -141,7 +139,7 @@ module _ {op : Operation} {nodes : List Slot} {g : Setting} {masks : List ℕ} {
   }
 
 -- ---- what is left, by the node at the place
-module _ {nodes : List Slot} {g : Setting} {masks : List ℕ} {rows : List (List ℕ)} {at : ℕ} where
+module _ {nodes : List Node} {g : Setting} {masks : List ℕ} {rows : List (List ℕ)} {at : ℕ} where
   -- a probability
   pub probability_done : node_at nodes at ≡ Probability → {after : List ℕ} {next bottom : ℕ} →
       TreeDone PathKind nodes g masks rows (at + 1) after next bottom → TreeDone ExpressionKind nodes g masks rows at after next bottom
@@ -161,27 +159,11 @@ module _ {nodes : List Slot} {g : Setting} {masks : List ℕ} {rows : List (List
   constant_done x y e written = by_case (Constant x y) e
       (λ c a q fixed stands it fits. (constant x y, it.0, (sym it.1, refl, constant_layer (tuple_count_power fixed) x y c written)))
 
-  module _ {after : List ℕ} {next bottom : ℕ} where
-    operation_done : (op : Operation) (n : Node) → node_at nodes at ≡ n →
-        ((a : Expression) (q : ℕ) → ExpressionCase nodes at n a q → OperationCase nodes at op a q) →
-        CombinedDone op nodes g masks rows (at + 1) after next bottom → TreeDone ExpressionKind nodes g masks rows at after next bottom
-    operation_done op node e case done = by_case node e
-        (λ c a q fixed stands found fits.
-        let it = case a q found in
-        let small = subst (λ (a : Expression). exceeds_in a c.D g.variables ≡ false) it.3 fits in
-        (expression_of op it.0 it.1, it.3, done.each c it.0 it.1 it.2 q fixed it.4 it.5 small))
-
-    -- a sum
-    pub sum_done : node_at nodes at ≡ SumNode → CombinedDone Sum nodes g masks rows (at + 1) after next bottom →
-        TreeDone ExpressionKind nodes g masks rows at after next bottom
-    sum_done e done = operation_done Sum SumNode e (λ a q it. it) done
-
-    -- a difference
-    pub difference_done : node_at nodes at ≡ DifferenceNode → CombinedDone Difference nodes g masks rows (at + 1) after next bottom →
-        TreeDone ExpressionKind nodes g masks rows at after next bottom
-    difference_done e done = operation_done Difference DifferenceNode e (λ a q it. it) done
-
-    -- a product
-    pub product_done : node_at nodes at ≡ ProductNode → CombinedDone Product nodes g masks rows (at + 1) after next bottom →
-        TreeDone ExpressionKind nodes g masks rows at after next bottom
-    product_done e done = operation_done Product ProductNode e (λ a q it. it) done
+  -- an operation
+  pub operation_done : (op : Operation) → node_at nodes at ≡ operation_node op → {after : List ℕ} {next bottom : ℕ} →
+      CombinedDone op nodes g masks rows (at + 1) after next bottom → TreeDone ExpressionKind nodes g masks rows at after next bottom
+  operation_done op e done = by_case (operation_node op) e
+      (λ c a q fixed stands found fits.
+      let it = operation_case op nodes at a q found in
+      let small = subst (λ (a : Expression). exceeds_in a c.D g.variables ≡ false) it.3 fits in
+      (expression_of op it.0 it.1, it.3, done.each c it.0 it.1 it.2 q fixed it.4 it.5 small))

@@ -4,7 +4,7 @@ use mathlib.Core.List.{List}
 use mathlib.Core.Path.{◌≡◌, sym, ap, subst, ◌∙◌}
 use Rattle.meaning.specs.Chain.{Chain, Tuple}
 use Rattle.layers.specs.Layers.{Layer}
-use Rattle.path_steps.specs.declared.Setting.{Setting}
+use Rattle.layers.specs.declared.Setting.{Setting}
 use Rattle.evaluate.specs.Evaluation.{Fixed}
 
 module _ {c : Chain} {masks : List ℕ} {rows : List (List ℕ)} {g : Setting} (fixed : Fixed c masks rows g) where

@@ -7,7 +7,7 @@ use mathlib.Core.Path.{◌≡◌, sym, ap, subst, ◌∙◌}
 use native.Mathlib.Omega.{arith}
 use lib.ListN.{length, take, drop, length-drop}
 use Rattle.sentence.specs.declared.Kind.{Kind}
-use Rattle.sentence.specs.declared.Slot.{Slot}
+use Rattle.sentence.specs.declared.Node.{Node}
 use Rattle.meaning.specs.Chain.{Chain, Tuple}
 use Rattle.layers.specs.Layers.{Layer, Swapped}
 use Rattle.layers.proofs.Tails.{Back, lent_tail, put_back}
@@ -17,7 +17,7 @@ use Rattle.trees.specs.Need.{paired}
 use Rattle.surveys.specs.declared.Extent.{Extent}
 use Rattle.surveys.specs.declared.Order.{Order}
 use Rattle.surveys.specs.Surveys.{TreeSurveyed, Chosen, standing, crossing, Ordered}
-use Rattle.path_steps.specs.declared.Setting.{Setting}
+use Rattle.layers.specs.declared.Setting.{Setting}
 use Rattle.evaluate.specs.Evaluation.{Fixed, TreeAt, tree_need, EvaluatedTwo, TreeReady, TreesReady, TreeDone, TreesDone}
 use Rattle.evaluate.proofs.Needing.{paired_first, paired_second, paired_smaller, paired_smaller_first, paired_two}
 use Rattle.evaluate.proofs.Needing.{room_of, room_past}
@@ -81,22 +81,22 @@ by_crossing A B (standing e f c h) turned go a b = absurd (true≢false (sym tur
 by_crossing A B (crossing e f c h) turned go a b = go (subst A e a) (subst B f b)
 
 -- both begin at the place or past it
-forward_first : {slots : List Slot} {at : ℕ} {r : Order} → Ordered slots at r → at ≤ r.first
+forward_first : {nodes : List Node} {at : ℕ} {r : Order} → Ordered nodes at r → at ≤ r.first
 forward_first {at = at} o = at_first (λ k. at ≤ k) o.chosen (omega arith) o.surveyed.forward
 
-forward_then : {slots : List Slot} {at : ℕ} {r : Order} → Ordered slots at r → at ≤ r.then
+forward_then : {nodes : List Node} {at : ℕ} {r : Order} → Ordered nodes at r → at ≤ r.then
 forward_then {at = at} o = at_then (λ k. at ≤ k) o.chosen (λ h. o.surveyed.forward) (λ h. omega arith)
 
 -- ---- two trees of a kind
 
 -- the second stands where the survey of the first ends
-follows_survey : (k : Kind) {nodes : List Slot} {at : ℕ} {one : Extent} → TreeSurveyed nodes at one → (t u : Tree k) (m q : ℕ) →
+follows_survey : (k : Kind) {nodes : List Node} {at : ℕ} {one : Extent} → TreeSurveyed nodes at one → (t u : Tree k) (m q : ℕ) →
     TreeAt k nodes at t m → TreeAt k nodes m u q → TreeAt k nodes one.next u q
 follows_survey k {nodes} s t u m q stands follows =
     subst (λ (p : ℕ). TreeAt k nodes p u q) (sym (tree_surveyed k s t m stands).0) follows
 
 -- what is left of both, by what is left of each and where their layers come to lie
-both_left : {k : Kind} {nodes : List Slot} {g : Setting} {masks : List ℕ} {rows : List (List ℕ)} {at : ℕ} {one : Extent} →
+both_left : {k : Kind} {nodes : List Node} {g : Setting} {masks : List ℕ} {rows : List (List ℕ)} {at : ℕ} {one : Extent} →
     TreeSurveyed nodes at one → {v v' after : List ℕ} {next bottom next' bottom' : ℕ} →
     ((c : Chain) → Fixed c masks rows g → (f h : Tuple → ℕ) → Layer c.N g.variables f v → Layer c.N g.variables h v' →
     Layer c.N g.variables f after × Layer c.N g.variables h (drop g.tuples after)) →
@@ -110,7 +110,7 @@ both_left {k} s lie first second = record {
       (y.0, x.1, y.1, both.0, both.1);
 }
 
-module _ {k : Kind} {nodes : List Slot} {g : Setting} {masks : List ℕ} {rows : List (List ℕ)} {at : ℕ} {w : List ℕ}
+module _ {k : Kind} {nodes : List Node} {g : Setting} {masks : List ℕ} {rows : List (List ℕ)} {at : ℕ} {w : List ℕ}
     (ready : TreesReady k nodes g masks rows at w) where
   -- there is a place for the first node
   pub trees_inside : at ≤ 64
@@ -141,13 +141,13 @@ module _ {k : Kind} {nodes : List Slot} {g : Setting} {masks : List ℕ} {rows :
     -- each may be evaluated where there is room for the layers that it needs
     first_ready : (v : List ℕ) → tree_need k ready.first * g.tuples ≤ length v → TreeReady k nodes g masks rows at v
     first_ready v =
-        tree_ready ready.fixed ready.few k ready.first ready.middle ready.stands ready.ranged.0 ready.fits
+        tree_ready ready.fixed ready.few k ready.first ready.middle ready.stands ready.ranged.0 ready.fits ready.small
 
     second_ready : (v : List ℕ) → tree_need k ready.second * g.tuples ≤ length v → TreeReady k nodes g masks rows o.one.next v
-    second_ready v = tree_ready ready.fixed ready.few k ready.second ready.end after_first ready.ranged.1 ready.fits'
+    second_ready v = tree_ready ready.fixed ready.few k ready.second ready.end after_first ready.ranged.1 ready.fits' ready.small'
 
     -- so the one that comes first in all of the work area,
-    pub comes_first : {t : ℕ} → 3 * (64 - at) + 1 ≡ t → (3 * (64 - r.first) < t) × TreeReady k nodes g masks rows r.first w
+    pub comes_first : {t : ℕ} → 4 * (64 - at) + 2 ≡ t → (4 * (64 - r.first) + 1 < t) × TreeReady k nodes g masks rows r.first w
     comes_first {t} measure =
         let a = tree_need k ready.first in
         let b = tree_need k ready.second in (
@@ -158,8 +158,8 @@ module _ {k : Kind} {nodes : List Slot} {g : Setting} {masks : List ℕ} {rows :
         )
 
     -- and then the other past the front layer, since it needs no more layers
-    pub comes_then : {t : ℕ} → 3 * (64 - at) + 1 ≡ t → (mid : List ℕ) → length mid ≡ length w →
-        (3 * (64 - r.then) < t) × TreeReady k nodes g masks rows r.then (take (length mid - g.tuples) (drop g.tuples mid))
+    pub comes_then : {t : ℕ} → 4 * (64 - at) + 2 ≡ t → (mid : List ℕ) → length mid ≡ length w →
+        (4 * (64 - r.then) + 1 < t) × TreeReady k nodes g masks rows r.then (take (length mid - g.tuples) (drop g.tuples mid))
     comes_then {t} measure mid same =
         let T = g.tuples in
         let a = tree_need k ready.first in
@@ -180,7 +180,7 @@ abbrev returned : (T : ℕ) (mid lent : List ℕ) → List ℕ
 returned T mid lent = take T mid ++ (lent ++ drop (length mid - T) (drop T mid))
 
 -- the one left `mid`, and the other `lent` in the tail: each as many numbers as it was lent
-pub record BothRun {k : Kind} {nodes : List Slot} {g : Setting} {masks : List ℕ} {rows : List (List ℕ)} {at : ℕ} {w : List ℕ}
+pub record BothRun {k : Kind} {nodes : List Node} {g : Setting} {masks : List ℕ} {rows : List (List ℕ)} {at : ℕ} {w : List ℕ}
     (ready : TreesReady k nodes g masks rows at w) {r : Order} (o : Ordered nodes at r) {mid lent : List ℕ} {next bottom next' bottom' : ℕ}
     (one : TreeDone k nodes g masks rows r.first mid next bottom) (other : TreeDone k nodes g masks rows r.then lent next' bottom') :
     Type 0 where
@@ -188,13 +188,13 @@ pub record BothRun {k : Kind} {nodes : List Slot} {g : Setting} {masks : List �
   pub long : length lent ≡ length (take (length mid - g.tuples) (drop g.tuples mid))
 
 -- so it is known by what the two calls left, and how long
-pub both_run : {k : Kind} {nodes : List Slot} {g : Setting} {masks : List ℕ} {rows : List (List ℕ)} {at : ℕ} {w : List ℕ}
+pub both_run : {k : Kind} {nodes : List Node} {g : Setting} {masks : List ℕ} {rows : List (List ℕ)} {at : ℕ} {w : List ℕ}
     (ready : TreesReady k nodes g masks rows at w) {r : Order} (o : Ordered nodes at r) {mid lent : List ℕ} {next bottom next' bottom' : ℕ}
     (one : TreeDone k nodes g masks rows r.first mid next bottom) (other : TreeDone k nodes g masks rows r.then lent next' bottom') →
     length mid ≡ length w → length lent ≡ length (take (length mid - g.tuples) (drop g.tuples mid)) → BothRun ready o one other
 both_run ready o one other same long = record { same = same; long = long }
 
-module _ {k : Kind} {nodes : List Slot} {g : Setting} {masks : List ℕ} {rows : List (List ℕ)} {at : ℕ} {w : List ℕ}
+module _ {k : Kind} {nodes : List Node} {g : Setting} {masks : List ℕ} {rows : List (List ℕ)} {at : ℕ} {w : List ℕ}
     {ready : TreesReady k nodes g masks rows at w} {r : Order} {o : Ordered nodes at r} {mid lent : List ℕ} {next bottom next' bottom' : ℕ}
     {one : TreeDone k nodes g masks rows r.first mid next bottom} {other : TreeDone k nodes g masks rows r.then lent next' bottom'}
     (run : BothRun ready o one other) where

@@ -4,15 +4,15 @@ use mathlib.Core.List.{List}
 use mathlib.Core.Path.{◌≡◌}
 use Rattle.sentence.specs.declared.Kind.TheVariants.{State, Expression as ExpressionKind, Path as PathKind}
 use Rattle.sentence.specs.declared.Relation.{Relation}
-use Rattle.sentence.specs.declared.Slot.{Slot}
+use Rattle.sentence.specs.declared.Node.{Node}
 use Rattle.sentence.specs.declared.Node.TheVariants.{True, Label, Not, And, Compare, Probability, Constant}
 use Rattle.sentence.specs.declared.Node.TheVariants.{Sum, Difference, Product, Next, Until}
 use Rattle.trees.specs.Standing.{Tree, node_at, always_at, labelled_at, negation_at, conjunction_at, compare_at}
 use Rattle.trees.specs.Standing.{probability_at, constant_at, sum_at, difference_at, product_at, next_at, until_at}
-use Rattle.path_steps.specs.declared.Setting.{Setting}
+use Rattle.layers.specs.declared.Setting.{Setting}
 use Rattle.evaluate.specs.Evaluation.{TreeAt, TreeDone}
 
-module _ {nodes : List Slot} {g : Setting} {masks : List ℕ} {rows : List (List ℕ)} {at : ℕ} {after : List ℕ} {next bottom : ℕ} where
+module _ {nodes : List Node} {g : Setting} {masks : List ℕ} {rows : List (List ℕ)} {at : ℕ} {after : List ℕ} {next bottom : ℕ} where
   -- no state formula stands where the node is none of its five
   pub no_formula : (node_at nodes at ≡ True → ⊥) → ((l i : ℕ) → node_at nodes at ≡ Label l i → ⊥) → (node_at nodes at ≡ Not → ⊥) →
       (node_at nodes at ≡ And → ⊥) → ((r : Relation) → node_at nodes at ≡ Compare r → ⊥) →

@@ -9,7 +9,7 @@ use native.Mathlib.Omega.{arith}
 use lib.ListN.{length}
 use lib.Seq.{get_or-drop}
 use Rattle.sentence.specs.declared.Kind.TheVariants.{State, Path as PathKind}
-use Rattle.sentence.specs.declared.Slot.{Slot}
+use Rattle.sentence.specs.declared.Node.{Node}
 use Rattle.sentence.specs.declared.Node.TheVariants.{Next, Until}
 use Rattle.meaning.specs.Chain.{Chain}
 use Rattle.meaning.specs.Tree.{Formula, PathFormula, next, until}
@@ -28,8 +28,8 @@ use Rattle.trees.specs.Standing.{node_at, PathAt}
 use Rattle.trees.proofs.Cases.{path_case}
 use Rattle.trees.proofs.Parts.{path_ends}
 use Rattle.names.proofs.Labels.{path_names, path_forward}
-use Rattle.path_steps.specs.declared.Setting.{Setting}
-use Rattle.evaluate.specs.Evaluation.{Fixed, Evaluated, EvaluatedTwo, TreeReady, TreesReady, PathReady, TreeDone, TreesDone}
+use Rattle.layers.specs.declared.Setting.{Setting}
+use Rattle.evaluate.specs.Evaluation.{Fixed, Evaluated, EvaluatedTwo, TreeReady, TreesReady, TreeDone, TreesDone}
 use Rattle.path_steps.specs.Within.{named_at, NextFits, NextTaken, WindowFits, WindowTaken}
 use Rattle.evaluate.proofs.Needing.{room_of}
 use Rattle.evaluate.proofs.Fixing.{to_chain, to_setting, tuple_count_power}
@@ -37,23 +37,20 @@ use Rattle.evaluate.proofs.Trees.{tree_ready, trees_ready, tree_room, known, for
 use Rattle.evaluate.proofs.Operands.{trees_left}
 
 -- the variables that step are those that occur in whatever path stands at the places
-those_of : (nodes : List Slot) (g : Setting) (at : ℕ) → g.variables ≤ most_variables → {r q : ℕ} (p p' : PathFormula) →
+those_of : (nodes : List Node) (g : Setting) (at : ℕ) → g.variables ≤ most_variables → {r q : ℕ} (p p' : PathFormula) →
     PathAt nodes at p q → r ≡ q → p ≡ p' → named_at nodes g at r ≡ named p' g.variables
 those_of nodes g at few {r} {q} p p' stands ends e =
     ap (λ (x : ℕ). named_at nodes g at x) ends ∙
     path_names nodes p at q g.variables stands few ∙
     ap (λ (p : PathFormula). named p g.variables) e
 
-module _ {nodes : List Slot} {g : Setting} {masks : List ℕ} {rows : List (List ℕ)} {at : ℕ} {w : List ℕ}
-    (asked : PathReady nodes g masks rows at w) where
-  abbrev ready : TreeReady PathKind nodes g masks rows at w
-  ready = asked.one
-
+module _ {nodes : List Node} {g : Setting} {masks : List ℕ} {rows : List (List ℕ)} {at : ℕ} {w : List ℕ}
+    (ready : TreeReady PathKind nodes g masks rows at w) where
   -- the chain's D is the setting's, so the path's denominator is at most 2^62 by it
   setting_small : (p : PathFormula) → ready.tree ≡ p → denominator p g.d g.variables ≤ size_limit
   setting_small p e =
       le_trans (le_of_eq (ap (λ (D : ℕ). denominator p D g.variables) (sym ready.fixed.sums)))
-      (subst (λ (p : PathFormula). denominator p ready.chain.D g.variables ≤ size_limit) e asked.small)
+      (subst (λ (p : PathFormula). denominator p ready.chain.D g.variables ≤ size_limit) e ready.small)
 
   -- its nodes stand at the places from `at` on, and the variables that they name are those that occur in it
   path_starts : {r : ℕ} → r ≡ ready.end → at ≤ r
@@ -72,7 +69,7 @@ module _ {nodes : List Slot} {g : Setting} {masks : List ℕ} {rows : List (List
     next_ready =
         let it = path_case nodes at Next e ready.stands in
         let h = known ready it.1 in
-        tree_ready ready.fixed ready.few State it.0 ready.end it.2 h.0 h.1 h.2
+        tree_ready ready.fixed ready.few State it.0 ready.end it.2 h.0 h.1 (omega arith) h.2
 
     -- what the step of a next asks of the formula's layer
     pub stepping_ready : {mid : List ℕ} {r : ℕ} → TreeDone State nodes g masks rows (at + 1) mid r 1 → length mid ≡ length w →
@@ -103,7 +100,7 @@ module _ {nodes : List Slot} {g : Setting} {masks : List ℕ} {rows : List (List
             bound = 1;
             small = λ k l. truth_small (λ t. holds it.0 c n t) h.2 k (omega arith);
             fits = le_trans (le_of_eq (mul-one (c.D ^ v p n)))
-                (subst (λ (p : PathFormula). denominator p c.D n ≤ size_limit) it.1 asked.small);
+                (subst (λ (p : PathFormula). denominator p c.D n ≤ size_limit) it.1 ready.small);
           });
           fits = le_trans (le_of_eq (ap (λ (bs : Some). g.d ^ count bs) those)) (setting_small p it.1);
         }
@@ -117,7 +114,7 @@ module _ {nodes : List Slot} {g : Setting} {masks : List ℕ} {rows : List (List
         let h = known ready it.3 in
         let layers = paired (need it.0) (need it.1) in
         trees_ready ready.fixed ready.few State it.0 it.1 it.2 ready.end it.4 it.5 h.0.2
-        (formulas_small it.0 it.1 ready.chain.D g.variables h.1)
+        (formulas_small it.0 it.1 ready.chain.D g.variables h.1) (omega arith, omega arith)
         (room_of {k = layers} {m = max 3 layers} g.tuples (omega arith) h.2)
 
     -- the window's ends
@@ -135,7 +132,7 @@ module _ {nodes : List Slot} {g : Setting} {masks : List ℕ} {rows : List (List
         omega arith
 
     -- what an until asks of the two layers
-    pub taking_ready : {mid : List ℕ} {r : ℕ} → TreesDone State nodes g masks rows (at + 1) mid r 1 1 → length mid ≡ length w →
+    pub taking_ready : {mid : List ℕ} {r x y : ℕ} → TreesDone State nodes g masks rows (at + 1) mid r x y → length mid ≡ length w →
         WindowFits nodes g rows k1 k2 at r mid
     unfolding denominator v until_ready trees_ready
     taking_ready {mid} {r} done long =
@@ -169,7 +166,7 @@ module _ {nodes : List Slot} {g : Setting} {masks : List ℕ} {rows : List (List
         }
 
 -- ---- what is left, by the node at the place
-module _ {nodes : List Slot} {g : Setting} {masks : List ℕ} {rows : List (List ℕ)} {at : ℕ} {mid after : List ℕ} {r b : ℕ} where
+module _ {nodes : List Node} {g : Setting} {masks : List ℕ} {rows : List (List ℕ)} {at : ℕ} {mid after : List ℕ} {r b : ℕ} where
   -- of a next, by what is left of its formula
   next_left : {c : Chain} → Fixed c masks rows g → (f : Formula) (q : ℕ) → named_at nodes g at r ≡ named (next f) g.variables →
       Evaluated State g c f q mid r 1 → NextTaken nodes g rows at r mid after b → Evaluated PathKind g c (next f) q after r b
@@ -181,8 +178,8 @@ module _ {nodes : List Slot} {g : Setting} {masks : List ℕ} {rows : List (List
   )
 
   -- of an until, by what is left of its two
-  until_left : {c : Chain} → Fixed c masks rows g → (k1 k2 : ℕ) (f h : Formula) (q : ℕ) →
-      named_at nodes g at r ≡ named (until k1 k2 f h) g.variables → EvaluatedTwo State g c f h q mid r 1 1 →
+  until_left : {c : Chain} {x y : ℕ} → Fixed c masks rows g → (k1 k2 : ℕ) (f h : Formula) (q : ℕ) →
+      named_at nodes g at r ≡ named (until k1 k2 f h) g.variables → EvaluatedTwo State g c f h q mid r x y →
       WindowTaken nodes g rows k1 k2 at r mid after b → Evaluated PathKind g c (until k1 k2 f h) q after r b
   unfolding denominator v
   until_left fixed k1 k2 f h q those two taken = (
@@ -205,7 +202,7 @@ module _ {nodes : List Slot} {g : Setting} {masks : List ℕ} {rows : List (List
         (next it.0, it.1, next_left fixed it.0 q those h taken))
 
     -- until
-    pub until_done : (k1 k2 : ℕ) → node_at nodes at ≡ Until k1 k2 → TreesDone State nodes g masks rows (at + 1) mid r 1 1 →
+    pub until_done : (k1 k2 : ℕ) {x y : ℕ} → node_at nodes at ≡ Until k1 k2 → TreesDone State nodes g masks rows (at + 1) mid r x y →
         WindowTaken nodes g rows k1 k2 at r mid after b → TreeDone PathKind nodes g masks rows at after r b
     unfolding exceeds_from
     until_done k1 k2 e done taken = by_case (Until k1 k2) e

@@ -8,7 +8,7 @@ use mir.Val.{Fits}
 use Rattle.meaning.specs.Size.{size_limit}
 
 -- from two operands to each
-pub to_each : (at next t : ℕ) → 3 * (64 - at) + 1 ≡ t → at ≤ next → 3 * (64 - next) < t
+pub to_each : (at next t : ℕ) → 4 * (64 - at) + 2 ≡ t → at ≤ next → 4 * (64 - next) + 1 < t
 to_each at next t measure forward = omega arith
 
 -- what is at most 2^62 is a number of 64 bits

@@ -10,11 +10,11 @@ use mir.Syntax.{w64}
 use mir.Val.{Fits}
 use Rattle.sentence.specs.declared.Kind.{Kind}
 use Rattle.sentence.specs.declared.Kind.TheVariants.{State, Expression as ExpressionKind, Path as PathKind}
-use Rattle.sentence.specs.declared.Slot.{Slot}
 use Rattle.sentence.specs.declared.Node.{Node}
 use Rattle.meaning.specs.Chain.{Chain}
-use Rattle.meaning.specs.Tree.{Formula}
-use Rattle.meaning.specs.Size.{exceeds}
+use Rattle.meaning.specs.Tree.{Formula, Expression}
+use Rattle.meaning.specs.Size.{size_limit, size, exceeds, exceeds_in}
+use Rattle.meaning.proofs.Bounds.{size_fits}
 use Rattle.meaning.proofs.Tests.{or_left, or_right}
 use Rattle.layers.specs.Held.{most_variables}
 use Rattle.trees.specs.Need.{paired}
@@ -23,8 +23,9 @@ use Rattle.trees.proofs.Cases.{FormulaCase, formula_case, formula_place, Express
 use Rattle.trees.proofs.Cases.{PathCase, path_case, path_place}
 use Rattle.surveys.specs.declared.Extent.{Extent}
 use Rattle.surveys.specs.Surveys.{TreeSurveyed}
-use Rattle.path_steps.specs.declared.Setting.{Setting}
-use Rattle.evaluate.specs.Evaluation.{Fixed, TreeAt, TreeRanged, tree_exceeds, tree_need, Evaluated, TreeReady, TreesReady, TreeDone}
+use Rattle.layers.specs.declared.Setting.{Setting}
+use Rattle.evaluate.specs.Evaluation.{Fixed, TreeAt, TreeRanged, tree_exceeds, tree_need, tree_denominator, Evaluated}
+use Rattle.evaluate.specs.Evaluation.{TreeReady, TreesReady, TreeDone}
 use Rattle.evaluate.proofs.Needing.{need_some, need_in_some, need_from_some, room_of}
 
 -- ---- by the kind
@@ -36,25 +37,25 @@ tree_need_some ExpressionKind a = need_in_some a
 tree_need_some PathKind w = need_from_some w
 
 -- there is a place for its first node
-pub tree_place : (k : Kind) (nodes : List Slot) (at : ℕ) (t : Tree k) (q : ℕ) → TreeAt k nodes at t q → at < 64
+pub tree_place : (k : Kind) (nodes : List Node) (at : ℕ) (t : Tree k) (q : ℕ) → TreeAt k nodes at t q → at < 64
 tree_place State nodes at f q = formula_place nodes at
 tree_place ExpressionKind nodes at a q = expression_place nodes at
 tree_place PathKind nodes at w q = path_place nodes at
 
 -- where it ends and what it needs, as its survey found
-pub tree_surveyed : (k : Kind) {nodes : List Slot} {at : ℕ} {r : Extent} → TreeSurveyed nodes at r → (t : Tree k) (q : ℕ) →
+pub tree_surveyed : (k : Kind) {nodes : List Node} {at : ℕ} {r : Extent} → TreeSurveyed nodes at r → (t : Tree k) (q : ℕ) →
     TreeAt k nodes at t q → (r.next ≡ q) × (r.layers ≡ tree_need k t)
 tree_surveyed State s = s.formula
 tree_surveyed ExpressionKind s = s.expression
 tree_surveyed PathKind s = s.path
 
 -- the case of the node at its place
-abbrev pub TreeCase : (k : Kind) → List Slot → ℕ → Node → Tree k → ℕ → Type 0
+abbrev pub TreeCase : (k : Kind) → List Node → ℕ → Node → Tree k → ℕ → Type 0
 TreeCase State nodes at n f q = FormulaCase nodes at n f q
 TreeCase ExpressionKind nodes at n a q = ExpressionCase nodes at n a q
 TreeCase PathKind nodes at n w q = PathCase nodes at n w q
 
-tree_case : (k : Kind) (nodes : List Slot) (at : ℕ) (t : Tree k) (q : ℕ) (n : Node) → node_at nodes at ≡ n → TreeAt k nodes at t q →
+tree_case : (k : Kind) (nodes : List Node) (at : ℕ) (t : Tree k) (q : ℕ) (n : Node) → node_at nodes at ≡ n → TreeAt k nodes at t q →
     TreeCase k nodes at n t q
 tree_case State nodes at f q = formula_case nodes at
 tree_case ExpressionKind nodes at a q = expression_case nodes at
@@ -62,12 +63,13 @@ tree_case PathKind nodes at w q = path_case nodes at
 
 -- ---- what a tree is evaluated with
 
-module _ {nodes : List Slot} {g : Setting} {masks : List ℕ} {rows : List (List ℕ)} {c : Chain} (fixed : Fixed c masks rows g)
+module _ {nodes : List Node} {g : Setting} {masks : List ℕ} {rows : List (List ℕ)} {c : Chain} (fixed : Fixed c masks rows g)
     (few : g.variables ≤ most_variables) (k : Kind) {at : ℕ} {w : List ℕ} where
   -- a tree
   unfoldable pub tree_ready : (t : Tree k) (q : ℕ) → TreeAt k nodes at t q → TreeRanged k g.variables t →
-      tree_exceeds k t c.D g.variables ≡ false → tree_need k t * g.tuples ≤ length w → TreeReady k nodes g masks rows at w
-  tree_ready t q stands ranged fits room = record {
+      tree_exceeds k t c.D g.variables ≡ false → tree_denominator k t c.D g.variables ≤ size_limit →
+      tree_need k t * g.tuples ≤ length w → TreeReady k nodes g masks rows at w
+  tree_ready t q stands ranged fits small room = record {
     chain = c;
     fixed = fixed;
     few = few;
@@ -76,6 +78,7 @@ module _ {nodes : List Slot} {g : Setting} {masks : List ℕ} {rows : List (List
     stands = stands;
     ranged = ranged;
     fits = fits;
+    small = small;
     room = room;
   }
 
@@ -83,8 +86,9 @@ module _ {nodes : List Slot} {g : Setting} {masks : List ℕ} {rows : List (List
   unfoldable pub trees_ready : (t u : Tree k) (m q : ℕ) → TreeAt k nodes at t m → TreeAt k nodes m u q →
       TreeRanged k g.variables t × TreeRanged k g.variables u →
       (tree_exceeds k t c.D g.variables ≡ false) × (tree_exceeds k u c.D g.variables ≡ false) →
+      (tree_denominator k t c.D g.variables ≤ size_limit) × (tree_denominator k u c.D g.variables ≤ size_limit) →
       paired (tree_need k t) (tree_need k u) * g.tuples ≤ length w → TreesReady k nodes g masks rows at w
-  trees_ready t u m q stands follows ranged fit room = record {
+  trees_ready t u m q stands follows ranged fit small room = record {
     chain = c;
     fixed = fixed;
     few = few;
@@ -97,10 +101,12 @@ module _ {nodes : List Slot} {g : Setting} {masks : List ℕ} {rows : List (List
     ranged = ranged;
     fits = fit.0;
     fits' = fit.1;
+    small = small.0;
+    small' = small.1;
     room = room;
   }
 
-module _ {k : Kind} {nodes : List Slot} {g : Setting} {masks : List ℕ} {rows : List (List ℕ)} {at : ℕ} {w : List ℕ}
+module _ {k : Kind} {nodes : List Node} {g : Setting} {masks : List ℕ} {rows : List (List ℕ)} {at : ℕ} {w : List ℕ}
     (ready : TreeReady k nodes g masks rows at w) where
   -- there is a place for the node
   pub tree_inside : at < 64
@@ -110,17 +116,17 @@ module _ {k : Kind} {nodes : List Slot} {g : Setting} {masks : List ℕ} {rows :
   pub next_fits : Fits w64 (at + 1)
   next_fits = let h = tree_inside in record { fits = omega arith }
 
-  -- a node is counted three times, so that the functions for two operands and for an operation on them stand between a node and the
-  -- next: the count falls from the node to its one operand,
-  pub to_operand : {t : ℕ} → 3 * (64 - at) ≡ t → 3 * (64 - (at + 1)) < t
+  -- a node is counted four times, so that the functions for a tree of a kind, for two operands and for an operation on them stand
+  -- between a node and the next: the count falls from the node to its one operand,
+  pub to_operand : {t : ℕ} → 4 * (64 - at) ≡ t → 4 * (64 - (at + 1)) < t
   to_operand measure = let h = tree_inside in omega arith
 
   -- to its two operands,
-  pub to_operands : {t : ℕ} → 3 * (64 - at) ≡ t → 3 * (64 - (at + 1)) + 1 < t
+  pub to_operands : {t : ℕ} → 4 * (64 - at) ≡ t → 4 * (64 - (at + 1)) + 2 < t
   to_operands measure = let h = tree_inside in omega arith
 
   -- and to an operation on them
-  pub to_operation : {t : ℕ} → 3 * (64 - at) ≡ t → 3 * (64 - (at + 1)) + 2 < t
+  pub to_operation : {t : ℕ} → 4 * (64 - at) ≡ t → 4 * (64 - (at + 1)) + 3 < t
   to_operation measure = let h = tree_inside in omega arith
 
   -- there is room for its own layer
@@ -140,10 +146,15 @@ module _ {k : Kind} {nodes : List Slot} {g : Setting} {masks : List ℕ} {rows :
 pub formulas_small : (f h : Formula) (D n : ℕ) → exceeds f D n || exceeds h D n ≡ false → (exceeds f D n ≡ false) × (exceeds h D n ≡ false)
 formulas_small f h D n fits = (or_left (exceeds f D n) (exceeds h D n) fits, or_right (exceeds f D n) (exceeds h D n) fits)
 
+-- the denominators of two expressions that it does not refuse are at most 2^62
+pub expressions_bounded : (a b : Expression) (D n : ℕ) → (exceeds_in a D n ≡ false) × (exceeds_in b D n ≡ false) →
+    ((size a D n).d ≤ size_limit) × ((size b D n).d ≤ size_limit)
+expressions_bounded a b D n small = ((size_fits a D n small.0).0, (size_fits b D n small.1).0)
+
 -- ---- what is left
 
 -- by the case of the node: what is left of the tree that the case has is left of whatever tree stands there
-pub by_case : {k : Kind} {nodes : List Slot} {g : Setting} {masks : List ℕ} {rows : List (List ℕ)} {at : ℕ} {after : List ℕ}
+pub by_case : {k : Kind} {nodes : List Node} {g : Setting} {masks : List ℕ} {rows : List (List ℕ)} {at : ℕ} {after : List ℕ}
     {next bottom : ℕ} (n : Node) → node_at nodes at ≡ n →
     ((c : Chain) (t : Tree k) (q : ℕ) → Fixed c masks rows g → TreeAt k nodes at t q → TreeCase k nodes at n t q →
     tree_exceeds k t c.D g.variables ≡ false → (u : Tree k) × (t ≡ u) × Evaluated k g c u q after next bottom) →

@@ -5,7 +5,7 @@
 use Rattle.std.specs.Prelude.{ℕ, ◌*◌, ◌≤◌, ◌<◌, Bool, false, List, ◌≡◌, eqb, length, drop}
 use Rattle.sentence.specs.declared.Kind.{Kind}
 use Rattle.sentence.specs.declared.Kind.TheVariants.{State, Expression as ExpressionKind, Path as PathKind}
-use Rattle.sentence.specs.declared.Slot.{Slot}
+use Rattle.sentence.specs.declared.Node.{Node}
 use Rattle.meaning.specs.Chain.{Chain, Tuple}
 use Rattle.meaning.specs.Tree.{Expression}
 use Rattle.meaning.specs.Meaning.{holds, numerator, denominator}
@@ -17,7 +17,8 @@ use Rattle.fractions.specs.declared.Operation.{Operation}
 use Rattle.trees.specs.Need.{paired, need, need_in, need_from}
 use Rattle.trees.specs.Ranged.{Ranged, RangedIn, RangedFrom}
 use Rattle.trees.specs.Standing.{Tree, FormulaAt, ExpressionAt, PathAt}
-use Rattle.path_steps.specs.declared.Setting.{Setting}
+use Rattle.layers.specs.declared.Setting.{Setting}
+use Rattle.path_steps.specs.declared.Evaluation.{Evaluation}
 
 -- the chain is the one that the masks and the rows hold, in this setting
 pub record Fixed (c : Chain) (masks : List ℕ) (rows : List (List ℕ)) (g : Setting) : Type 0 where
@@ -30,10 +31,10 @@ pub record Fixed (c : Chain) (masks : List ℕ) (rows : List (List ℕ)) (g : Se
 -- ---- what each kind of trees brings
 
 -- the tree stands from place p on, up to place q
-abbrev pub TreeAt : (k : Kind) → List Slot → ℕ → Tree k → ℕ → Type 0
-TreeAt State slots p f q = FormulaAt slots p f q
-TreeAt ExpressionKind slots p a q = ExpressionAt slots p a q
-TreeAt PathKind slots p w q = PathAt slots p w q
+abbrev pub TreeAt : (k : Kind) → List Node → ℕ → Tree k → ℕ → Type 0
+TreeAt State nodes p f q = FormulaAt nodes p f q
+TreeAt ExpressionKind nodes p a q = ExpressionAt nodes p a q
+TreeAt PathKind nodes p w q = PathAt nodes p w q
 
 -- its numbers are in their ranges, in a sentence of n letters
 abbrev pub TreeRanged : (k : Kind) → ℕ → Tree k → Type 0
@@ -81,9 +82,9 @@ module _ (k : Kind) (g : Setting) (c : Chain) where
       Layer c.N g.variables (tree_number k t c g.variables) after ×
       Layer c.N g.variables (tree_number k u c g.variables) (drop g.tuples after)
 
-module _ (k : Kind) (nodes : List Slot) (g : Setting) (masks : List ℕ) (rows : List (List ℕ)) where
-  -- a tree of the kind stands at the place; its numbers are in their ranges, the size rule does not refuse it, and there is
-  -- room for the layers that it needs
+module _ (k : Kind) (nodes : List Node) (g : Setting) (masks : List ℕ) (rows : List (List ℕ)) where
+  -- a tree of the kind stands at the place; its numbers are in their ranges, the size rule does not refuse it, its denominator is
+  -- at most 2^62, and there is room for the layers that it needs
   pub record TreeReady (at : ℕ) (w : List ℕ) : Type 0 where
     pub chain : Chain
     pub fixed : Fixed chain masks rows g
@@ -93,6 +94,7 @@ module _ (k : Kind) (nodes : List Slot) (g : Setting) (masks : List ℕ) (rows :
     pub stands : TreeAt k nodes at tree end
     pub ranged : TreeRanged k g.variables tree
     pub fits : tree_exceeds k tree chain.D g.variables ≡ false
+    pub small : tree_denominator k tree chain.D g.variables ≤ size_limit
     pub room : tree_need k tree * g.tuples ≤ length w
 
   -- two of them, one after another
@@ -109,6 +111,8 @@ module _ (k : Kind) (nodes : List Slot) (g : Setting) (masks : List ℕ) (rows :
     pub ranged : TreeRanged k g.variables first × TreeRanged k g.variables second
     pub fits : tree_exceeds k first chain.D g.variables ≡ false
     pub fits' : tree_exceeds k second chain.D g.variables ≡ false
+    pub small : tree_denominator k first chain.D g.variables ≤ size_limit
+    pub small' : tree_denominator k second chain.D g.variables ≤ size_limit
     pub room : paired (tree_need k first) (tree_need k second) * g.tuples ≤ length w
 
   -- what is left of whatever tree of the kind stands there and of whatever chain is held
@@ -122,14 +126,9 @@ module _ (k : Kind) (nodes : List Slot) (g : Setting) (masks : List ℕ) (rows :
         tree_exceeds k t c.D g.variables ≡ false → tree_exceeds k u c.D g.variables ≡ false →
         EvaluatedTwo k g c t u q after next first second
 
--- a path, whose denominator is at most 2^62 besides
-pub record PathReady (nodes : List Slot) (g : Setting) (masks : List ℕ) (rows : List (List ℕ)) (at : ℕ) (w : List ℕ) : Type 0 where
-  pub one : TreeReady PathKind nodes g masks rows at w
-  pub small : denominator one.tree one.chain.D g.variables ≤ size_limit
-
 -- ---- two expressions and what an operation makes of them
 
-module _ (op : Operation) (nodes : List Slot) (g : Setting) (masks : List ℕ) (rows : List (List ℕ)) where
+module _ (op : Operation) (nodes : List Node) (g : Setting) (masks : List ℕ) (rows : List (List ℕ)) where
   -- they stand one after another, and the size rule does not refuse what is made of them
   pub record CombinedReady (at : ℕ) (w : List ℕ) : Type 0 where
     pub two : TreesReady ExpressionKind nodes g masks rows at w
@@ -140,3 +139,30 @@ module _ (op : Operation) (nodes : List Slot) (g : Setting) (masks : List ℕ) (
     pub each : (c : Chain) (a b : Expression) (m q : ℕ) → Fixed c masks rows g → ExpressionAt nodes at a m →
         ExpressionAt nodes m b q → exceeds_in (expression_of op a b) c.D g.variables ≡ false →
         Evaluated ExpressionKind g c (expression_of op a b) q after next bottom
+
+-- ---- the same, over an evaluation
+module _ (k : Kind) (over : Evaluation) where
+  -- what evaluating a tree asks
+  abbrev pub Ready : (at : ℕ) (w : List ℕ) → Type 0
+  Ready at w = TreeReady k over.nodes.now over.setting over.masks.now over.rows.now at w
+
+  -- what is left of it
+  abbrev pub Done : (at : ℕ) (after : List ℕ) (next bottom : ℕ) → Type 0
+  Done at after next bottom = TreeDone k over.nodes.now over.setting over.masks.now over.rows.now at after next bottom
+
+  -- of two trees
+  abbrev pub BothReady : (at : ℕ) (w : List ℕ) → Type 0
+  BothReady at w = TreesReady k over.nodes.now over.setting over.masks.now over.rows.now at w
+
+  abbrev pub BothDone : (at : ℕ) (after : List ℕ) (next first second : ℕ) → Type 0
+  BothDone at after next first second =
+      TreesDone k over.nodes.now over.setting over.masks.now over.rows.now at after next first second
+
+module _ (op : Operation) (over : Evaluation) where
+  -- of two expressions and an operation on them
+  abbrev pub CombinationReady : (at : ℕ) (w : List ℕ) → Type 0
+  CombinationReady at w = CombinedReady op over.nodes.now over.setting over.masks.now over.rows.now at w
+
+  abbrev pub CombinationDone : (at : ℕ) (after : List ℕ) (next bottom : ℕ) → Type 0
+  CombinationDone at after next bottom =
+      CombinedDone op over.nodes.now over.setting over.masks.now over.rows.now at after next bottom

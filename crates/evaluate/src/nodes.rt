@@ -3,113 +3,94 @@
 // place after them.
 ghost use Rattle.std.specs.Prelude.{◌≡◌};
 ghost use Rattle.sentence.specs.declared.Kind.TheVariants.{State, Expression, Path};
-ghost use Rattle.evaluate.specs.Evaluation.{TreeReady, TreesReady, PathReady, CombinedReady, TreeDone, TreesDone, CombinedDone};
+ghost use Rattle.evaluate.specs.Evaluation.{Ready, BothReady, CombinationReady, Done, BothDone, CombinationDone};
 
-use crate::plain::relation_of;
-use crate::{Valued, ValuedTwo};
+use crate::Valued;
 use fractions::Operation;
 use fractions::codes::{combine, compare, constant};
-use layers::STATES;
 use layers::plain::{always, both, label, negated, swap};
-use path_steps::{Setting, next_within, until_within};
-use sentence::{Node, Slot};
+use path_steps::{Evaluation, next_within, until_within};
+use sentence::{Kind, Node};
 use surveys::order_of;
 
 // A state formula: its truth at all tuples. Unspecified for other nodes.
 #[cycle(nodes)]
-pub fn state_formula(
-    nodes: [Slot; 64],
-    g: Setting,
-    masks: &[u16; STATES],
-    rows: &[[u16; STATES]; STATES],
-    at: usize,
-    work: &mut [u64],
-) -> usize
-    requires { TreeReady State nodes g masks.now rows.now at work.old }
-    ensures { TreeDone State nodes g masks.now rows.now at work.new result 1 }
+pub fn state_formula(over: &Evaluation<'_>, at: usize, work: &mut [u64]) -> usize
+    requires { Ready State over.now at work.old }
+    ensures { Done State over.now at work.new result 1 }
 {
-    let slot = nodes[at];
-    let node = slot.node;
-    match node {
+    let g = over.setting;
+    match over.nodes[at] {
         Node::True => {
             always(g.tuples, work);
             at + 1
         }
-        Node::Label { label: l, variable } => {
-            label(masks, l, variable, g.states, g.variables, g.tuples, work);
+        Node::Label {
+            label: l,
+            variable: i,
+        } => {
+            label(over.masks, l, i, g, work);
             at + 1
         }
         Node::Not => {
-            let next = state_formula(nodes, g, masks, rows, at + 1, work);
+            let next = state_formula(over, at + 1, work);
             negated(g.tuples, work);
             next
         }
         Node::And => {
-            let next = two_formulas(nodes, g, masks, rows, at + 1, work);
+            let (_, second) = operands(over, Kind::State, at + 1, work);
             both(g.tuples, work);
-            next
+            second.next
         }
         Node::Compare(relation) => {
-            let two = two_expressions(nodes, g, masks, rows, at + 1, work);
-            compare(relation_of(relation), two.first, two.second, g.tuples, work);
-            two.next
+            let (first, second) = operands(over, Kind::Expression, at + 1, work);
+            compare(relation, first.bottom, second.bottom, g.tuples, work);
+            second.next
         }
         _ => at,
     }
 }
 
-// Two state formulas, the one that needs more layers first; the first one's truth in the front layer, the other's in the
-// next.
-#[cycle(nodes)]
-fn two_formulas(
-    nodes: [Slot; 64],
-    g: Setting,
-    masks: &[u16; STATES],
-    rows: &[[u16; STATES]; STATES],
-    at: usize,
-    work: &mut [u64],
-) -> usize
-    requires { TreesReady State nodes g masks.now rows.now at work.old }
-    ensures { TreesDone State nodes g masks.now rows.now at work.new result 1 1 }
-{
-    let tuples = g.tuples;
-    let order = order_of(nodes, at);
-    let next = state_formula(nodes, g, masks, rows, order.first, work);
-    let last = state_formula(nodes, g, masks, rows, order.then, &mut work[tuples..]);
-    if order.crossed {
-        swap(tuples, work);
-        return next;
-    }
-    last
-}
-
 // An expression: the code of its numerator at all tuples, and its denominator. Unspecified for other nodes.
 #[cycle(nodes)]
-fn expression(
-    nodes: [Slot; 64],
-    g: Setting,
-    masks: &[u16; STATES],
-    rows: &[[u16; STATES]; STATES],
-    at: usize,
-    work: &mut [u64],
-) -> Valued
-    requires { TreeReady Expression nodes g masks.now rows.now at work.old }
-    ensures { TreeDone Expression nodes g masks.now rows.now at work.new result.next result.bottom }
+fn expression(over: &Evaluation<'_>, at: usize, work: &mut [u64]) -> Valued
+    requires { Ready Expression over.now at work.old }
+    ensures { Done Expression over.now at work.new result.next result.bottom }
 {
-    let slot = nodes[at];
-    let node = slot.node;
-    match node {
-        Node::Probability => path(nodes, g, masks, rows, at + 1, work),
+    match over.nodes[at] {
+        Node::Probability => path(over, at + 1, work),
         Node::Constant { top, bottom } => {
-            constant(top as u64, g.tuples, work);
+            constant(top as u64, over.setting.tuples, work);
             Valued {
                 next: at + 1,
                 bottom: bottom as u64,
             }
         }
-        Node::Sum => combined(Operation::Sum, nodes, g, masks, rows, at + 1, work),
-        Node::Difference => combined(Operation::Difference, nodes, g, masks, rows, at + 1, work),
-        Node::Product => combined(Operation::Product, nodes, g, masks, rows, at + 1, work),
+        Node::Sum => combined(over, Operation::Sum, at + 1, work),
+        Node::Difference => combined(over, Operation::Difference, at + 1, work),
+        Node::Product => combined(over, Operation::Product, at + 1, work),
+        _ => nothing(at),
+    }
+}
+
+// A path: its numerator at all tuples, and its denominator. Unspecified for other nodes.
+#[cycle(nodes)]
+pub fn path(over: &Evaluation<'_>, at: usize, work: &mut [u64]) -> Valued
+    requires { Ready Path over.now at work.old }
+    ensures { Done Path over.now at work.new result.next result.bottom }
+{
+    match over.nodes[at] {
+        Node::Next => {
+            let next = state_formula(over, at + 1, work);
+            let bottom = next_within(over, at, next, work);
+            Valued { next, bottom }
+        }
+        Node::Until { from, to } => {
+            let (_, second) = operands(over, Kind::State, at + 1, work);
+            let next = second.next;
+            let bottom = until_within(over, from, to, at, next, work);
+            Valued { next, bottom }
+        }
         _ => nothing(at),
     }
 }
@@ -124,87 +105,49 @@ fn nothing(at: usize) -> Valued
     }
 }
 
-// Two expressions and what an operation makes of them.
+// A tree of a kind; a state formula's denominator is 1.
 #[cycle(nodes)]
-fn combined(
-    op: Operation,
-    nodes: [Slot; 64],
-    g: Setting,
-    masks: &[u16; STATES],
-    rows: &[[u16; STATES]; STATES],
-    at: usize,
-    work: &mut [u64],
-) -> Valued
-    requires { CombinedReady op nodes g masks.now rows.now at work.old }
-    ensures { CombinedDone op nodes g masks.now rows.now at work.new result.next result.bottom }
+fn tree(over: &Evaluation<'_>, kind: Kind, at: usize, work: &mut [u64]) -> Valued
+    requires { Ready kind over.now at work.old }
+    ensures { Done kind over.now at work.new result.next result.bottom }
 {
-    let two = two_expressions(nodes, g, masks, rows, at, work);
-    combine(op, two.first, two.second, g.tuples, work);
-    Valued {
-        next: two.next,
-        bottom: two.first * two.second,
+    match kind {
+        Kind::State => Valued {
+            next: state_formula(over, at, work),
+            bottom: 1,
+        },
+        Kind::Expression => expression(over, at, work),
+        Kind::Path => path(over, at, work),
     }
 }
 
-// Two expressions, the one that needs more layers first; the first one's codes in the front layer, the other's in the next.
+// Two trees of a kind, the one that needs more layers first; the first one's numbers in the front layer, the other's in the next.
 #[cycle(nodes)]
-fn two_expressions(
-    nodes: [Slot; 64],
-    g: Setting,
-    masks: &[u16; STATES],
-    rows: &[[u16; STATES]; STATES],
-    at: usize,
-    work: &mut [u64],
-) -> ValuedTwo
-    requires { TreesReady Expression nodes g masks.now rows.now at work.old }
-    ensures { TreesDone Expression nodes g masks.now rows.now at work.new result.next
-        result.first result.second }
+fn operands(over: &Evaluation<'_>, kind: Kind, at: usize, work: &mut [u64]) -> (Valued, Valued)
+    requires { BothReady kind over.now at work.old }
+    ensures { BothDone kind over.now at work.new result.1.next result.0.bottom result.1.bottom }
 {
-    let tuples = g.tuples;
-    let order = order_of(nodes, at);
-    let one = expression(nodes, g, masks, rows, order.first, work);
-    let other = expression(nodes, g, masks, rows, order.then, &mut work[tuples..]);
+    let tuples = over.setting.tuples;
+    let order = order_of(over.nodes, at);
+    let one = tree(over, kind, order.first, work);
+    let other = tree(over, kind, order.then, &mut work[tuples..]);
     if order.crossed {
         swap(tuples, work);
-        return ValuedTwo {
-            next: one.next,
-            first: other.bottom,
-            second: one.bottom,
-        };
+        return (other, one);
     }
-    ValuedTwo {
-        next: other.next,
-        first: one.bottom,
-        second: other.bottom,
-    }
+    (one, other)
 }
 
-// A path: its numerator at all tuples, and its denominator. Unspecified for other nodes.
+// Two expressions and what an operation makes of them.
 #[cycle(nodes)]
-pub fn path(
-    nodes: [Slot; 64],
-    g: Setting,
-    masks: &[u16; STATES],
-    rows: &[[u16; STATES]; STATES],
-    at: usize,
-    work: &mut [u64],
-) -> Valued
-    requires { PathReady nodes g masks.now rows.now at work.old }
-    ensures { TreeDone Path nodes g masks.now rows.now at work.new result.next result.bottom }
+fn combined(over: &Evaluation<'_>, op: Operation, at: usize, work: &mut [u64]) -> Valued
+    requires { CombinationReady op over.now at work.old }
+    ensures { CombinationDone op over.now at work.new result.next result.bottom }
 {
-    let slot = nodes[at];
-    let node = slot.node;
-    match node {
-        Node::Next => {
-            let next = state_formula(nodes, g, masks, rows, at + 1, work);
-            let bottom = next_within(nodes, g, rows, at, next, work);
-            Valued { next, bottom }
-        }
-        Node::Until { from, to } => {
-            let next = two_formulas(nodes, g, masks, rows, at + 1, work);
-            let bottom = until_within(nodes, g, rows, from, to, at, next, work);
-            Valued { next, bottom }
-        }
-        _ => nothing(at),
+    let (first, second) = operands(over, Kind::Expression, at, work);
+    combine(op, first.bottom, second.bottom, over.setting.tuples, work);
+    Valued {
+        next: second.next,
+        bottom: first.bottom * second.bottom,
     }
 }

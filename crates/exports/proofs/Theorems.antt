@@ -1,14 +1,16 @@
 -- What the exported contracts leave: one result and one content of all that is lent; unchanged memory on a refusal. A verdict's code tells
 -- the verdict (`verdict_told`), and a code that is no node's is refused as 6 (`no_node_refused`).
 use Prim.Native.Nat.{ℕ, ◌≤◌, ◌<◌}
-use mathlib.Core.Bool.{false≢true}
+use mathlib.Core.Bool.{Bool, true, false, false≢true}
 use mathlib.Core.List.{List, [], ◌∷◌, ◌++◌}
 use mathlib.Core.Path.{◌≡◌, refl, sym, ap, subst, ◌∙◌}
 use native.Mathlib.Omega.{arith}
+use Rattle.std.specs.Prelude.{Result, Ok, Err}
+use Rattle.refusal.specs.declared.Refusal.{Refusal}
 use Rattle.refusal.specs.Answers.{Reply, gives, refuses, number_in, filled, reply_of}
+use Rattle.refusal.proofs.Ensuring.{number_told}
 use Rattle.refusal.proofs.Listed.{one_writing}
 use Rattle.model.specs.declared.Model.{Model}
-use Rattle.model.specs.declared.ModelRead.{ModelRead}
 use Rattle.model.proofs.Theorems.{one_reading}
 use Rattle.sentence.specs.Record.{nodes_of}
 use Rattle.sentence_writer.specs.Contract.{WriteRow}
@@ -16,19 +18,15 @@ use Rattle.sentence.specs.Grammar.{Writable}
 use Rattle.sentence.specs.Working.{AllWritable}
 use Rattle.sentence.specs.declared.Node.{Node}
 use Rattle.sentence.specs.declared.Sentence.{Sentence}
-use Rattle.sentence_reader.specs.declared.SentenceRead.{SentenceRead}
 use Rattle.sentence_reader.proofs.ReadAll.{one_answer}
 use Rattle.sentence.proofs.Unique.{all_writable}
 use Rattle.sentence_writer.proofs.WriteAll.{one_writing as one-text}
-use Rattle.verdict.specs.declared.Answer as Judged
-use Rattle.verdict.specs.declared.Answer.TheVariants.{Holds, Fails, Refused}
-use Rattle.verdict.specs.Contract.{VerdictEnsures, verdict_reply}
+use Rattle.verdict.specs.Contract.{VerdictEnsures}
 use Rattle.verdict.proofs.Single.{one_verdict, number_few}
-use Rattle.numerator.specs.declared.Answer as Counted
-use Rattle.numerator.specs.Contract.{numerator_reply}
+use Rattle.numerator.specs.declared.Ratio.{Ratio}
 use Rattle.numerator.proofs.Single.{one_numerator}
 use Rattle.codes.specs.Codes.{Coded, code_of, sentence_head, letter_codes, codes_of, no_node}
-use Rattle.exports.specs.Questions.{verdict_code, ExportedVerdict, values_left, ExportedNumerator}
+use Rattle.exports.specs.Questions.{verdict_code, ExportedVerdict, values_of, ExportedNumerator}
 use Rattle.exports.specs.Models.{head_of, ExportedReadModel, ExportedWriteModel, ExportedMerge}
 use Rattle.exports.specs.Sentences.{ExportedReadSentence, ExportedWriteSentence}
 
@@ -63,12 +61,12 @@ module _ {head masks h h' m m' : List ℕ} {rows w w' : List (List ℕ)} {r r' :
   pub one_model_read : {file : List ℕ} → ExportedReadModel file head masks rows h m w r →
       ExportedReadModel file head masks rows h' m' w' r' →
       (r ≡ r') × (h ≡ h') × (m ≡ m') × (w ≡ w')
-  one_model_read a b =
-      let same : a.read ≡ b.read = one_reading a.answer b.answer in (
-        a.answered ∙ ap (λ (x : ModelRead). number_in (reply_of x.outcome)) same ∙ sym b.answered,
-        a.head_left ∙ ap (λ (x : ModelRead). filled (reply_of x.outcome) (head_of x.model) head) same ∙ sym b.head_left,
-        a.masks_left ∙ ap (λ (x : ModelRead). filled (reply_of x.outcome) x.model.masks masks) same ∙ sym b.masks_left,
-        a.weights_left ∙ ap (λ (x : ModelRead). filled (reply_of x.outcome) x.model.weights.rows rows) same ∙ sym b.weights_left,
+  one_model_read {file} a b =
+      let same : a.read ≡ b.read = one_reading file a.answer b.answer in (
+        a.answered ∙ ap (λ (x : Result Model Refusal). number_in (reply_of x)) same ∙ sym b.answered,
+        a.head_left ∙ ap (λ (x : Result Model Refusal). filled head_of (reply_of x) head) same ∙ sym b.head_left,
+        a.masks_left ∙ ap (λ (x : Result Model Refusal). filled (λ m. m.masks) (reply_of x) masks) same ∙ sym b.masks_left,
+        a.weights_left ∙ ap (λ (x : Result Model Refusal). filled (λ m. m.weights) (reply_of x) rows) same ∙ sym b.weights_left,
       )
 
 module _ {text head exists h h' e e' : List ℕ} {codes c c' : List (List ℕ)} {r r' : ℕ} where
@@ -76,12 +74,11 @@ module _ {text head exists h h' e e' : List ℕ} {codes c c' : List (List ℕ)} 
       (r ≡ r') × (h ≡ h') × (e ≡ e') × (c ≡ c')
   one_sentence_read a b =
       let same : a.read ≡ b.read = one_answer a.answer b.answer in (
-        a.answered ∙ ap (λ (x : SentenceRead). number_in (reply_of x.outcome)) same ∙ sym b.answered,
-        a.head_left ∙ ap (λ (x : SentenceRead). filled (reply_of x.outcome) (sentence_head x.sentence) head) same ∙ sym b.head_left,
-        a.exists_left ∙ ap (λ (x : SentenceRead). filled (reply_of x.outcome) (letter_codes x.sentence.exists) exists) same ∙
+        a.answered ∙ ap (λ (x : Result Sentence Refusal). number_in (reply_of x)) same ∙ sym b.answered,
+        a.head_left ∙ ap (λ (x : Result Sentence Refusal). filled sentence_head (reply_of x) head) same ∙ sym b.head_left,
+        a.exists_left ∙ ap (λ (x : Result Sentence Refusal). filled (λ s. letter_codes s.exists) (reply_of x) exists) same ∙
             sym b.exists_left,
-        a.codes_left ∙ ap (λ (x : SentenceRead). filled (reply_of x.outcome) (codes_of x.sentence.nodes) codes) same ∙
-            sym b.codes_left,
+        a.codes_left ∙ ap (λ (x : Result Sentence Refusal). filled (λ s. codes_of s.nodes) (reply_of x) codes) same ∙ sym b.codes_left,
       )
 
 module _ {file text tuple before value after after' v v' : List ℕ} {path r r' : ℕ} where
@@ -89,72 +86,60 @@ module _ {file text tuple before value after after' v v' : List ℕ} {path r r' 
       ExportedNumerator file text tuple path before value after' v' r' → (r ≡ r') × (after ≡ after') × (v ≡ v')
   one_numerator_given a b =
       let same = one_numerator a.answer b.answer in (
-        a.answered ∙ ap (λ (x : Counted.Answer). number_in (numerator_reply x)) same.0 ∙ sym b.answered,
+        a.answered ∙ ap (λ (x : Result Ratio Refusal). number_in (reply_of x)) same.0 ∙ sym b.answered,
         same.1,
-        a.value_left ∙ ap (λ (x : Counted.Answer). values_left (numerator_reply x) value) same.0 ∙ sym b.value_left,
+        a.value_left ∙ ap (λ (x : Result Ratio Refusal). filled values_of (reply_of x) value) same.0 ∙ sym b.value_left,
       )
 
 -- ---- a refusal leaves all lent memory unchanged
 
 -- where the reply's number is not 0, what is lent is unchanged
-filled_none : {A B : Type 0} (q : Reply A) (value before : B) → 0 < number_in q → filled q value before ≡ before
-filled_none (gives v) value before some = absurd (omega arith)
-filled_none (refuses n) value before some = refl
+filled_none : {A B : Type 0} (part : A → List B) (q : Reply A) (before : List B) → 0 < number_in q → filled part q before ≡ before
+filled_none part (gives v) before some = absurd (omega arith)
+filled_none part (refuses n) before some = refl
 
 module _ {head masks h m : List ℕ} {rows w : List (List ℕ)} {r : ℕ} where
   pub model_unchanged : {file : List ℕ} → ExportedReadModel file head masks rows h m w r → 0 < r → (h ≡ head) × (m ≡ masks) × (w ≡ rows)
   model_unchanged a some =
       let refusal = subst (λ (n : ℕ). 0 < n) a.answered some in (
-        a.head_left ∙ filled_none (reply_of a.read.outcome) _ head refusal,
-        a.masks_left ∙ filled_none (reply_of a.read.outcome) _ masks refusal,
-        a.weights_left ∙ filled_none (reply_of a.read.outcome) _ rows refusal,
+        a.head_left ∙ filled_none _ (reply_of a.read) head refusal,
+        a.masks_left ∙ filled_none _ (reply_of a.read) masks refusal,
+        a.weights_left ∙ filled_none _ (reply_of a.read) rows refusal,
       )
 
 module _ {text head exists h e : List ℕ} {codes c : List (List ℕ)} {r : ℕ} where
   pub sentence_unchanged : ExportedReadSentence text head exists codes h e c r → 0 < r → (h ≡ head) × (e ≡ exists) × (c ≡ codes)
   sentence_unchanged a some =
       let refusal = subst (λ (n : ℕ). 0 < n) a.answered some in (
-        a.head_left ∙ filled_none (reply_of a.read.outcome) _ head refusal,
-        a.exists_left ∙ filled_none (reply_of a.read.outcome) _ exists refusal,
-        a.codes_left ∙ filled_none (reply_of a.read.outcome) _ codes refusal,
+        a.head_left ∙ filled_none _ (reply_of a.read) head refusal,
+        a.exists_left ∙ filled_none _ (reply_of a.read) exists refusal,
+        a.codes_left ∙ filled_none _ (reply_of a.read) codes refusal,
       )
 
 module _ {file text tuple before value after v : List ℕ} {path r : ℕ} where
   pub value_unchanged : ExportedNumerator file text tuple path before value after v r → 0 < r → v ≡ value
-  value_unchanged a some = a.value_left ∙ none (numerator_reply a.counted) (subst (λ (n : ℕ). 0 < n) a.answered some)
-    where
-      none : (q : Reply (ℕ × ℕ)) → 0 < number_in q → values_left q value ≡ value
-      none (gives x) some = absurd (omega arith)
-      none (refuses n) some = refl
-
--- ---- the two numbers that are lent for numerator's values
-
-pub values_given : {q : Reply (ℕ × ℕ)} {v : ℕ × ℕ} → q ≡ gives v → (before : List ℕ) → values_left q before ≡ v.0 ∷ v.1 ∷ []
-values_given e before = ap (λ (x : Reply (ℕ × ℕ)). values_left x before) e
-
-pub values_refused : {q : Reply (ℕ × ℕ)} {n : ℕ} → q ≡ refuses n → (before : List ℕ) → values_left q before ≡ before
-values_refused e before = ap (λ (x : Reply (ℕ × ℕ)). values_left x before) e
+  value_unchanged a some = a.value_left ∙ filled_none _ (reply_of a.counted) value (subst (λ (n : ℕ). 0 < n) a.answered some)
 
 -- ---- a verdict's code tells the verdict
 
-code_tells : (a b : Judged.Answer) → number_in (verdict_reply a) ≤ 11 → number_in (verdict_reply b) ≤ 11 →
+code_tells : (a b : Result Bool Refusal) → number_in (reply_of a) ≤ 11 → number_in (reply_of b) ≤ 11 →
     verdict_code a ≡ verdict_code b → a ≡ b
 unfolding verdict_code
-code_tells Holds Holds x y e = refl
-code_tells Holds Fails x y e = absurd (omega arith)
-code_tells Holds (Refused n) x y e = absurd (omega arith)
-code_tells Fails Holds x y e = absurd (omega arith)
-code_tells Fails Fails x y e = refl
-code_tells Fails (Refused n) x y e = absurd (omega arith)
-code_tells (Refused n) Holds x y e = absurd (omega arith)
-code_tells (Refused n) Fails x y e = absurd (omega arith)
-code_tells (Refused n) (Refused m) x y e = ap Refused e
+code_tells (Ok true) (Ok true) x y e = refl
+code_tells (Ok true) (Ok false) x y e = absurd (omega arith)
+code_tells (Ok true) (Err r) x y e = absurd (omega arith)
+code_tells (Ok false) (Ok true) x y e = absurd (omega arith)
+code_tells (Ok false) (Ok false) x y e = refl
+code_tells (Ok false) (Err r) x y e = absurd (omega arith)
+code_tells (Err r) (Ok true) x y e = absurd (omega arith)
+code_tells (Err r) (Ok false) x y e = absurd (omega arith)
+code_tells (Err r) (Err q) x y e = ap Err (number_told r q e)
 
 -- who is given an answer's code is given that answer
-pub verdict_told : {file text before after : List ℕ} (a : Judged.Answer) → number_in (verdict_reply a) ≤ 11 →
+pub verdict_told : {file text before after : List ℕ} (a : Result Bool Refusal) → number_in (reply_of a) ≤ 11 →
     ExportedVerdict file text before after (verdict_code a) → VerdictEnsures file text before a after
 verdict_told {file} {text} {before} {after} a few g =
-    subst (λ (x : Judged.Answer). VerdictEnsures file text before x after)
+    subst (λ (x : Result Bool Refusal). VerdictEnsures file text before x after)
     (code_tells g.answer a (number_few g.ensures) few (sym g.coded))
     g.ensures
 

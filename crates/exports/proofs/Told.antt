@@ -7,8 +7,8 @@ use mathlib.Core.Path.{◌≡◌, sym, ap, ◌∙◌}
 use native.Mathlib.Decide.{dec_lt}
 use native.Mathlib.Omega.{arith}
 use lib.ListN.{length}
-use Rattle.refusal.specs.declared.Written.{Written}
-use Rattle.refusal.specs.declared.Written.TheVariants.{Wrote, Refused}
+use Rattle.std.specs.Prelude.{Result, Ok, Err}
+use Rattle.refusal.specs.declared.Refusal.{Refusal}
 use Rattle.refusal.specs.Rows.{Row, first, Ascending}
 use Rattle.refusal.specs.Answers.{gives, Ensured, refused, answered, TextAtFront, Writes}
 use Rattle.refusal.proofs.Ensuring.{right_of}
@@ -37,7 +37,7 @@ use Rattle.exports.specs.Models.{ExportedWriteModel, ExportedMerge}
 use Rattle.exports.specs.Sentences.{ExportedWriteSentence}
 
 -- the size that a writer tells is that of the text it was to write, and no row applies
-wrote : {rows : List Row} {text before after : List ℕ} {size : ℕ} → Ascending 0 rows → Writes rows text before after (Wrote size) →
+wrote : {rows : List Row} {text before after : List ℕ} {size : ℕ} → Ascending 0 rows → Writes rows text before after (Ok size) →
     (first rows ≡ 0) × (size ≡ length text)
 wrote ascending writes =
     let free = sym (list_number ascending writes.ensured) in
@@ -49,31 +49,31 @@ file_few : (m : Model) → fields_right m ≡ true → length (file_of m) ≤ 30
 file_few m fields = omega (arith, states_few m fields, length_blocks m (blocks m.n))
 
 -- what write model writes is short
-model_short : (m : Model) (before : List ℕ) (w : Written) (after : List ℕ) →
+model_short : (m : Model) (before : List ℕ) (w : Result ℕ Refusal) (after : List ℕ) →
     WriteModelEnsures m before after w → Short w
 unfolding record_number
-model_short m before (Wrote size) after writes =
+model_short m before (Ok size) after writes =
     let told = wrote (record_rows_ascend m (length before)) writes in
     omega (arith, told.1, file_few m (record_accepted m (length before) told.0).fields)
-model_short m before (Refused number) after writes = tt
+model_short m before (Err refusal) after writes = tt
 
 -- what merge writes is short
-merge_short : (file grouping before : List ℕ) (w : Written) (after : List ℕ) →
+merge_short : (file grouping before : List ℕ) (w : Result ℕ Refusal) (after : List ℕ) →
     MergeEnsures file grouping before after w → Short w
 unfolding merge_number
-merge_short file grouping before (Wrote size) after writes =
+merge_short file grouping before (Ok size) after writes =
     let told = wrote (merge_rows_ascend file grouping (length before)) writes in
     let m = mergeable file grouping (length before) told.0 in
     let right = fields_merged (fields_of file) grouping (fields_are_right file m.accepted) m.grouped in
     omega (arith, told.1, file_few (merged_model (fields_of file) grouping) right)
-merge_short file grouping before (Refused number) after writes = tt
+merge_short file grouping before (Err refusal) after writes = tt
 
 -- what write sentence writes is short: a record spells one text, and it is refused where that has more than 400 bytes
-sentence_short : (s : Sentence) (before : List ℕ) (w : Written) (after : List ℕ) → WriteSentenceEnsures s before w after → Short w
-sentence_short s before (Wrote size) after writes = by writes.ensured
+sentence_short : (s : Sentence) (before : List ℕ) (w : Result ℕ Refusal) (after : List ℕ) → WriteSentenceEnsures s before w after → Short w
+sentence_short s before (Ok size) after writes = by writes.ensured
   where
     by : Ensured (WriteRow s (length before)) (TextAtFront (Spells (prefix_of s) (nodes_of s)) before) before (gives size) after →
-        Short (Wrote size)
+        Short (Ok size)
     by (refused {n = n} e left row least) =
         let z : ◌≡◌ {A = ℕ} 0 1 = cc in
         absurd (omega arith)
@@ -86,10 +86,10 @@ sentence_short s before (Wrote size) after writes = by writes.ensured
         fits (yes more) =
             absurd (none 6 (unspelled (λ t p short. omega (arith, ap length (p.text ∙ sym right.asked.text)))))
         fits (no less) = omega arith
-sentence_short s before (Refused number) after writes = tt
+sentence_short s before (Err refusal) after writes = tt
 
 -- who is given an answer's code is given that answer
-module _ {before after : List ℕ} (a : Written) (short : Short a) where
+module _ {before after : List ℕ} (a : Result ℕ Refusal) (short : Short a) where
   pub model_told : (m : Model) → ExportedWriteModel m before after (code_of a) →
       WriteModelEnsures m before after a
   model_told m = answer_told _ (model_short m before) a short

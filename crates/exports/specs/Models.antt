@@ -1,9 +1,9 @@
 -- Read model, write model and merge as other languages see them: the contracts of the three calls. An exported reader
 -- that reads fills the memory that it is lent with the numbers of a record; one that refuses leaves it unchanged.
-use Rattle.std.specs.Prelude.{ℕ, List, [], ◌∷◌, ◌≡◌, get_or}
+use Rattle.std.specs.Prelude.{ℕ, List, [], ◌∷◌, ◌≡◌, get_or, Result}
+use Rattle.refusal.specs.declared.Refusal.{Refusal}
 use Rattle.refusal.specs.Answers.{number_in, filled, reply_of}
 use Rattle.model.specs.declared.Model.{Model}
-use Rattle.model.specs.declared.ModelRead.{ModelRead}
 use Rattle.model.specs.Layout.{model_of}
 use Rattle.model.specs.Contract.{ReadModelEnsures, WriteModelEnsures}
 use Rattle.codes.specs.Codes.{Coded, code_of}
@@ -17,12 +17,12 @@ head_of m = m.n ∷ m.a ∷ m.d ∷ m.version ∷ []
 pub record ExportedReadModel (file : List ℕ) (head masks : List ℕ) (weights : List (List ℕ)) (head' masks' : List ℕ)
     (weights' : List (List ℕ))
     (r : ℕ) : Type 0 where
-  pub read : ModelRead
+  pub read : Result Model Refusal
   pub answer : ReadModelEnsures file read
-  pub answered : r ≡ number_in (reply_of read.outcome)
-  pub head_left : head' ≡ filled (reply_of read.outcome) (head_of read.model) head
-  pub masks_left : masks' ≡ filled (reply_of read.outcome) read.model.masks masks
-  pub weights_left : weights' ≡ filled (reply_of read.outcome) read.model.weights.rows weights
+  pub answered : r ≡ number_in (reply_of read)
+  pub head_left : head' ≡ filled head_of (reply_of read) head
+  pub masks_left : masks' ≡ filled (λ m. m.masks) (reply_of read) masks
+  pub weights_left : weights' ≡ filled (λ m. m.weights) (reply_of read) weights
 
 -- the model that the three parts stand for: N, A, D and the version in this order, the masks and the weights
 abbrev pub model_of_parts : (head masks : List ℕ) → List (List ℕ) → Model

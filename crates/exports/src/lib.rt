@@ -8,9 +8,8 @@ pub mod sentences;
 
 ghost use Rattle.exports.specs.Models.{ExportedReadModel, model_of_parts, ExportedWriteModel};
 
-use codes::written_code;
-use model::{Model, matrix};
-use refusal::Outcome;
+use codes::answer_code;
+use model::Model;
 
 // Read model: returns 0 and leaves the model in the three lent parts (N, A, D and the version; the masks; the weights), or returns
 // the refusal's number and leaves the lent memory unchanged.
@@ -23,18 +22,15 @@ pub fn twolsken_read_model(
     ensures { ExportedReadModel file.now head.old masks.old rows.old head.new
         masks.new rows.new result }
 {
-    let read = model_reader::read_model(file);
-    let outcome = read.outcome;
-    match outcome {
-        Outcome::Refused(number) => number as u32,
-        Outcome::Done => {
-            let m = read.model;
-            let lent = m.masks;
+    match model_reader::read_model(file) {
+        Ok(m) => {
+            let (read_masks, read_rows) = (m.masks, m.weights);
             *head = [m.n, m.a, m.d, m.version];
-            *masks = lent;
-            *rows = matrix::rows_of(m.weights);
+            *masks = read_masks;
+            *rows = read_rows;
             0
         }
+        Err(refusal) => u32::from(u8::from(refusal)),
     }
 }
 
@@ -55,8 +51,7 @@ pub fn twolsken_write_model(
         d: head[2],
         version: head[3],
         masks: *masks,
-        weights: matrix::holding(*rows),
+        weights: *rows,
     };
-    let written = model_writer::write_model(m, out);
-    written_code(written)
+    answer_code(model_writer::write_model(&m, out))
 }

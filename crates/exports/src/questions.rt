@@ -6,11 +6,10 @@ ghost use Rattle.exports.specs.Questions.{ExportedVerdict, ExportedNumerator};
 pub fn twolsken_verdict(file: &[u8], text: &[u8], work: &mut [u64]) -> u32
     ensures { ExportedVerdict file.now text.now work.old work.new result }
 {
-    let answer = verdict::verdict(file, text, work);
-    match answer {
-        verdict::Answer::Holds => 256,
-        verdict::Answer::Fails => 257,
-        verdict::Answer::Refused(number) => number as u32,
+    match verdict::verdict(file, text, work) {
+        Ok(true) => 256,
+        Ok(false) => 257,
+        Err(refusal) => u32::from(u8::from(refusal)),
     }
 }
 
@@ -27,15 +26,11 @@ pub fn twolsken_numerator(
     ensures { ExportedNumerator file.now text.now tuple.now path work.old
         value.old work.new value.new result }
 {
-    let answer = numerator::numerator(file, text, tuple, path, work);
-    match answer {
-        numerator::Answer::Counted {
-            numerator,
-            denominator,
-        } => {
-            *value = [numerator, denominator];
+    match numerator::numerator(file, text, tuple, path, work) {
+        Ok(ratio) => {
+            *value = [ratio.numerator, ratio.denominator];
             0
         }
-        numerator::Answer::Refused(number) => number as u32,
+        Err(x) => u32::from(u8::from(x)),
     }
 }

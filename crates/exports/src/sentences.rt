@@ -3,8 +3,7 @@
 ghost use Rattle.codes.specs.Codes.{sentence_of};
 ghost use Rattle.exports.specs.Sentences.{ExportedReadSentence, ExportedWriteSentence};
 
-use codes::{codes_of, letter_codes, letters_of, places_of, written_code};
-use refusal::Outcome;
+use codes::{answer_code, codes_of, letter_codes, letters_of, places_of};
 use sentence::Sentence;
 
 // Read sentence: returns 0 and leaves the sentence in the three lent parts (the number of letters and the count; the
@@ -18,19 +17,14 @@ pub fn twolsken_read_sentence(
     ensures { ExportedReadSentence text.now head.old exists.old codes.old
         head.new exists.new codes.new result }
 {
-    let read = sentence_reader::read_sentence(text);
-    let outcome = read.outcome;
-    match outcome {
-        Outcome::Refused(number) => number as u32,
-        Outcome::Done => {
-            let s = read.sentence;
-            let letters = s.exists;
-            let nodes = s.nodes;
+    match sentence_reader::read_sentence(text) {
+        Ok(s) => {
             *head = [s.letters as u64, s.count as u64];
-            *exists = letter_codes(letters);
-            *codes = codes_of(nodes);
+            *exists = letter_codes(s.exists);
+            *codes = codes_of(s.nodes);
             0
         }
+        Err(refusal) => u32::from(u8::from(refusal)),
     }
 }
 
@@ -52,6 +46,5 @@ pub fn twolsken_write_sentence(
         count: count as usize,
         nodes: places_of(*codes),
     };
-    let written = sentence_writer::write_sentence(s, out);
-    written_code(written)
+    answer_code(sentence_writer::write_sentence(&s, out))
 }

@@ -2,4 +2,3 @@
 pub mod Magnitude
 pub mod Operands
 pub mod Values
-pub mod Meant

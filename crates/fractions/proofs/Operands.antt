@@ -14,17 +14,12 @@ use Rattle.fractions.specs.declared.Operation.{Operation}
 use Rattle.fractions.specs.declared.Operation.TheVariants.{Sum, Difference, Product}
 use Rattle.fractions.specs.declared.Making.{Making}
 use Rattle.fractions.specs.Codes.{Small, CrossFits}
-use Rattle.fractions.specs.Operations.{over, operated, sized, OperandsFit, CrossesFit, MakingFits, made_code}
-use Rattle.fractions.proofs.Magnitude.{small_fits}
+use Rattle.fractions.specs.Operations.{over, operated, sized, OperandsFit, CrossesFit, MakingFits}
+use Rattle.fractions.proofs.Magnitude.{small_fits, op_fits}
 
 -- a result is read back as what its contract says
 pub back : {z z' : ℤ} → z' ≡ z → nat_abs z ≤ size_limit → to_z w64 (of_z w64 z') ≡ z
 back {z} e h = ap (λ (x : ℤ). to_z w64 (of_z w64 x)) e ∙ to_z-of_z (small_fits z h)
-
--- a bound of numbers that were read back
-pub sizes_fit : (f : ℕ → ℕ → ℕ) {a b a' b' : ℤ} → a' ≡ a → b' ≡ b → f (nat_abs a) (nat_abs b) ≤ size_limit →
-    f (nat_abs a') (nat_abs b') ≤ size_limit
-sizes_fit f p q h = subst (λ (x : ℕ). x ≤ size_limit) (sym (ap₂ (λ (x y : ℤ). f (nat_abs x) (nat_abs y)) p q)) h
 
 -- ---- a cross product
 
@@ -58,7 +53,7 @@ pub record Crossed (a : ℤ) (d1 : ℕ) (b : ℤ) (d2 : ℕ) : Type 0 where
   pub each : CrossesFit a d1 b d2
   pub both : nat_abs (a *ℤ pos d2) + nat_abs (b *ℤ pos d1) ≤ size_limit
 
-pub crossed : {op : Operation} {a b : ℤ} {d1 d2 : ℕ} → OperandsFit op a d1 b d2 → sized op ≡ add_s → Crossed a d1 b d2
+crossed : {op : Operation} {a b : ℤ} {d1 d2 : ℕ} → OperandsFit op a d1 b d2 → sized op ≡ add_s → Crossed a d1 b d2
 unfolding add_s
 crossed {a = a} {b = b} {d1 = d1} {d2 = d2} fits e =
     let bound = bound_by fits e in
@@ -70,26 +65,35 @@ crossed {a = a} {b = b} {d1 = d1} {d2 = d2} fits e =
       both = omega (arith, abs_mul a (pos d2), abs_mul b (pos d1));
     }
 
--- together they fit as they come back
-pub crosses_fit : {a b x y : ℤ} {d1 d2 : ℕ} → Crossed a d1 b d2 → SFits w64 a → SFits w64 b →
-    x ≡ to_z w64 (of_z w64 a) *ℤ pos d2 → y ≡ to_z w64 (of_z w64 b) *ℤ pos d1 →
-    nat_abs (to_z w64 (of_z w64 x)) + nat_abs (to_z w64 (of_z w64 y)) ≤ size_limit
-crosses_fit h fits-a fits-b p q =
-    le_trans (le_of_eq (crosses_back (λ x y. nat_abs x + nat_abs y) h.each fits-a fits-b p q)) h.both
+pub sum_crossed : {a b : ℤ} {d1 d2 : ℕ} → OperandsFit Sum a d1 b d2 → Crossed a d1 b d2
+unfolding sized
+sum_crossed fits = crossed fits refl
+
+pub difference_crossed : {a b : ℤ} {d1 d2 : ℕ} → OperandsFit Difference a d1 b d2 → Crossed a d1 b d2
+unfolding sized
+difference_crossed fits = crossed fits refl
 
 -- the result is as small
 pub operated_small : (op : Operation) {a b : ℤ} {d1 d2 : ℕ} → OperandsFit op a d1 b d2 →
     Small (operated op (over a d1) (over b d2)).top
 unfolding operated add_f sub_f mul_f sized mul_s
 operated_small Sum {a} {b} {d1} {d2} fits =
-    record { size = le_trans (abs_add (a *ℤ pos d2) (b *ℤ pos d1)) (crossed fits refl).both }
+    record { size = le_trans (abs_add (a *ℤ pos d2) (b *ℤ pos d1)) (sum_crossed fits).both }
 operated_small Difference {a} {b} {d1} {d2} fits =
-    record { size = le_trans (abs_diff (a *ℤ pos d2) (b *ℤ pos d1)) (crossed fits refl).both }
+    record { size = le_trans (abs_diff (a *ℤ pos d2) (b *ℤ pos d1)) (difference_crossed fits).both }
 operated_small Product {a} {b} fits = record { size = le_trans (le_of_eq (abs_mul a b)) fits.bound }
 
+-- what fits an operation fits it by the name that is known
+pub fits_by : {op known : Operation} {a b : ℤ} {d1 d2 : ℕ} → OperandsFit op a d1 b d2 → op ≡ known → OperandsFit known a d1 b d2
+fits_by {a = a} {b = b} {d1 = d1} {d2 = d2} fits e = subst (λ o. OperandsFit o a d1 b d2) e fits
+
+-- what is made of two numbers as they are read back fits, where it is as small as that of what they are
+pub made_fits : (f : ℤ → ℤ → ℤ) {a b x y : ℤ} → x ≡ a → y ≡ b → nat_abs (f a b) ≤ size_limit → SFits w64 (f x y)
+made_fits f {a} {b} p q small = op_fits f p q (small_fits (f a b) small)
+
 -- and is read back as what it is, by the operation
-pub operated_back : {op o : Operation} {z a b : ℤ} {d1 d2 : ℕ} → OperandsFit op a d1 b d2 → op ≡ o →
-    z ≡ (operated o (over a d1) (over b d2)).top → to_z w64 (of_z w64 z) ≡ (operated op (over a d1) (over b d2)).top
+pub operated_back : {op known : Operation} {z a b : ℤ} {d1 d2 : ℕ} → OperandsFit op a d1 b d2 → op ≡ known →
+    z ≡ (operated known (over a d1) (over b d2)).top → to_z w64 (of_z w64 z) ≡ (operated op (over a d1) (over b d2)).top
 operated_back {op} {a = a} {b = b} {d1 = d1} {d2 = d2} fits e p =
     back (p ∙ sym (ap (λ o. (operated o (over a d1) (over b d2)).top) e)) (operated_small op fits).size
 
@@ -97,6 +101,3 @@ operated_back {op} {a = a} {b = b} {d1 = d1} {d2 = d2} fits e p =
 module _ (d1 d2 : ℕ) {making known : Making} {a b a' b' : ℤ} (e : making ≡ known) (p : a' ≡ a) (q : b' ≡ b) where
   pub fits_as : MakingFits making d1 d2 a b → MakingFits known d1 d2 a' b'
   fits_as h = subst₂ (MakingFits known d1 d2) (sym p) (sym q) (subst (λ m. MakingFits m d1 d2 a b) e h)
-
-  pub made_as : made_code known d1 d2 a' b' ≡ made_code making d1 d2 a b
-  made_as = ap₂ (made_code known d1 d2) p q ∙ sym (ap (λ m. made_code m d1 d2 a b) e)

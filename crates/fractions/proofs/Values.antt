@@ -9,6 +9,7 @@ use native.Mathlib.Omega.{arith}
 use lib.IntN.{nat_abs}
 use lib.ListN.{length, get_or, drop}
 use lib.Seq.{get_or-drop}
+use Rattle.sentence.specs.declared.Relation.{Relation}
 use Rattle.meaning.specs.Chain.{Chain, Sound, Tuple}
 use Rattle.meaning.specs.Tree as tree
 use Rattle.meaning.specs.Tree.{Expression, probability, constant, PathFormula}
@@ -17,13 +18,13 @@ use Rattle.meaning.specs.Size.{size, add_s, mul_s, exceeds, exceeds_in, large_si
 use Rattle.meaning.proofs.Bounds.{value_within, size_fits, cross_fits, top_fits}
 use Rattle.meaning.proofs.Numbers.{tuple_of, tuple_inside}
 use Rattle.meaning.proofs.Tests.{or_left, or_right}
+use Rattle.trees.specs.Listed.{relation_read}
 use Rattle.layers.specs.Layers.{Layer, truth, WrittenFront}
 use Rattle.layers.proofs.Truth.{written_layer}
 use Rattle.fractions.specs.declared.Operation.{Operation}
 use Rattle.fractions.specs.declared.Operation.TheVariants.{Sum, Difference, Product}
-use Rattle.fractions.specs.declared.Relation.{Relation}
 use Rattle.fractions.specs.Codes.{coded, decoded}
-use Rattle.fractions.specs.Operations.{over, operated, sized, meant_relation, combined_at, compared_at}
+use Rattle.fractions.specs.Operations.{over, operated, sized, combined_at, compared_at}
 use Rattle.fractions.specs.Operations.{CombineFits, CompareFits}
 use Rattle.fractions.specs.Values.{numerator_codes, expression_of}
 use Rattle.fractions.proofs.Magnitude.{decoded_coded}
@@ -145,7 +146,7 @@ module _ (c : Chain) (sound : Sound c) {n T : ℕ} (whole : T ≡ c.N ^ n) (a b 
       ap (λ x. coded x.top) (sym (value_of op a b c n (tuple_of c.N n k))))
 
   -- what `compare` asks, and what it makes
-  pub compare_fits : (r : Relation) → exceeds (tree.compare (meant_relation r) a b) c.D n ≡ false → T + T ≤ length w →
+  pub compare_fits : (r : Relation) → exceeds (tree.compare (relation_read r) a b) c.D n ≡ false → T + T ≤ length w →
       CompareFits (size a c.D n).d (size b c.D n).d T w
   compare_fits r small room = record {
     room = room;
@@ -153,20 +154,20 @@ module _ (c : Chain) (sound : Sound c) {n T : ℕ} (whole : T ≡ c.N ^ n) (a b 
       first = record {
         small = (size_fits b c.D n small_b).0;
         size = le_trans (mul-le-mul_right (size b c.D n).d (first k l).small)
-            (cross_fits (meant_relation r) a b c.D n small).0;
+            (cross_fits (relation_read r) a b c.D n small).0;
       };
       second = record {
         small = (size_fits a c.D n small-a).0;
         size = le_trans (mul-le-mul_right (size a c.D n).d (second k l).small)
-            (cross_fits (meant_relation r) a b c.D n small).1;
+            (cross_fits (relation_read r) a b c.D n small).1;
       };
     };
   }
 
   pub compare_layer : (r : Relation) {after : List ℕ} →
       WrittenFront T (compared_at r (size a c.D n).d (size b c.D n).d T w) w after →
-      Layer c.N n (truth (λ s. holds (tree.compare (meant_relation r) a b) c n s)) after
+      Layer c.N n (truth (λ s. holds (tree.compare (relation_read r) a b) c n s)) after
   unfolding holds
   compare_layer r h = written_layer whole h
       (λ k l.
-      ap₂ (λ x y. cond (compared (meant_relation r) x y) 1 0) (first k (omega arith)).is (second k (omega arith)).is)
+      ap₂ (λ x y. cond (compared (relation_read r) x y) 1 0) (first k (omega arith)).is (second k (omega arith)).is)

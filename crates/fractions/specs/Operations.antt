@@ -3,13 +3,12 @@
 -- The operations and the comparison of two numerators over their denominators, in the words of the meaning and of the
 -- size rule.
 use Rattle.std.specs.Prelude.{ℕ, ◌+◌, ◌≤◌, ◌<◌, cond, List, ℤ, nat_abs, length, get_or}
-use Rattle.meaning.specs.Tree as tree
+use Rattle.sentence.specs.declared.Relation.{Relation}
 use Rattle.meaning.specs.Meaning.{Fraction, add_f, sub_f, mul_f, compared}
 use Rattle.meaning.specs.Size.{Size, size_limit, add_s, mul_s}
+use Rattle.trees.specs.Listed.{relation_read}
 use Rattle.fractions.specs.declared.Operation.{Operation}
 use Rattle.fractions.specs.declared.Operation.TheVariants.{Sum, Difference, Product}
-use Rattle.fractions.specs.declared.Relation.{Relation}
-use Rattle.fractions.specs.declared.Relation.TheVariants.{Less, AtMost, Equal, AtLeast, Greater}
 use Rattle.fractions.specs.declared.Making.{Making}
 use Rattle.fractions.specs.declared.Making.TheVariants.{Operated, Compared}
 use Rattle.fractions.specs.Codes.{coded, decoded, CrossFits}
@@ -29,14 +28,6 @@ unfoldable pub sized : Operation → Size → Size → Size
 sized Sum x y = add_s x y
 sized Difference x y = add_s x y
 sized Product x y = mul_s x y
-
--- the relation of the meaning that each of the five comparisons stands for
-abbrev pub meant_relation : Relation → tree.Relation
-meant_relation Less = tree.less
-meant_relation AtMost = tree.at_most
-meant_relation Equal = tree.equal
-meant_relation AtLeast = tree.at_least
-meant_relation Greater = tree.greater
 
 -- the denominators are at most 2^62, and so is the bound of the operation's numerator
 pub record OperandsFit (op : Operation) (a : ℤ) (d1 : ℕ) (b : ℤ) (d2 : ℕ) : Type 0 where
@@ -58,7 +49,7 @@ MakingFits (Compared r) d1 d2 a b = CrossesFit a d1 b d2
 -- and 0 elsewhere
 abbrev pub made_code : Making → (d1 d2 : ℕ) → ℤ → ℤ → ℕ
 made_code (Operated op) d1 d2 a b = coded (operated op (over a d1) (over b d2)).top
-made_code (Compared r) d1 d2 a b = cond (compared (meant_relation r) (over a d1) (over b d2)) 1 0
+made_code (Compared r) d1 d2 a b = cond (compared (relation_read r) (over a d1) (over b d2)) 1 0
 
 -- what is made of two layers of codes at place k
 abbrev pub made_at : Making → (d1 d2 T : ℕ) → List ℕ → ℕ → ℕ

@@ -5,7 +5,8 @@ ghost use Rattle.fractions.specs.Codes.{decoded};
 ghost use Rattle.fractions.specs.Operations.{MakingFits, LayersFit, made_code, made_at};
 ghost use Rattle.fractions.specs.Operations.{combined_at, compared_at, CombineFits, CompareFits};
 
-use crate::{Making, Operation, Relation, signs};
+use crate::{Making, Operation, signs};
+use sentence::Relation;
 
 // What is made of the numerators of two codes: the code of a numerator, or 1 where the comparison holds and 0 elsewhere.
 fn made(making: Making, d1: u64, d2: u64, x: u64, y: u64) -> u64
@@ -16,11 +17,12 @@ fn made(making: Making, d1: u64, d2: u64, x: u64, y: u64) -> u64
     let b = signs::decode(y);
     match making {
         Making::Operated(op) => signs::code(crate::operate(op, a, d1, b, d2)),
-        Making::Compared(relation) => crate::compare(relation, a, d1, b, d2) as u64,
+        Making::Compared(relation) => u64::from(crate::compare(relation, a, d1, b, d2)),
     }
 }
 
-// A constant: the code of its top at every tuple.
+// A constant: the code of its top at every tuple, which is the top itself, as it is not negative. `fill` of `layers` by a name that says
+// what for, since `fill(top, ..)` is no plainer.
 pub fn constant(top: u64, tuples: usize, work: &mut [u64])
     requires { tuples ≤ length work.old }
     ensures { WrittenFront tuples (λ k. top) work.old work.new }
@@ -33,10 +35,8 @@ fn make(making: Making, d1: u64, d2: u64, tuples: usize, work: &mut [u64])
     requires { LayersFit (MakingFits making d1 d2) tuples work.old }
     ensures { WrittenFront tuples (made_at making d1 d2 tuples work.old) work.old work.new }
 {
-    let mut k: usize = 0;
-    while k < tuples {
+    for k in 0..tuples {
         work[k] = made(making, d1, d2, work[k], work[tuples + k]);
-        k += 1;
     }
 }
 

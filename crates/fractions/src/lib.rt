@@ -7,7 +7,11 @@ mod signs;
 
 ghost use Rattle.std.specs.Prelude.{◌≡◌};
 ghost use Rattle.meaning.specs.Meaning.{related, compared};
-ghost use Rattle.fractions.specs.Operations.{over, operated, meant_relation, OperandsFit, CrossesFit};
+ghost use Rattle.trees.specs.Listed.{relation_read};
+ghost use Rattle.fractions.specs.Operations.{over, operated, OperandsFit, CrossesFit};
+
+use sentence::Relation;
+use signs::cross;
 
 // The three operations on expressions.
 #[derive(Clone, Copy)]
@@ -15,16 +19,6 @@ pub enum Operation {
     Sum,
     Difference,
     Product,
-}
-
-// The five comparisons.
-#[derive(Clone, Copy)]
-pub enum Relation {
-    Less,
-    AtMost,
-    Equal,
-    AtLeast,
-    Greater,
 }
 
 // What to make of two numerators: the numerator of an operation, or the truth of a comparison.
@@ -40,29 +34,29 @@ pub(crate) fn operate(op: Operation, a: i64, d1: u64, b: i64, d2: u64) -> i64
     ensures { result ≡ (operated op (over a d1) (over b d2)).top }
 {
     match op {
-        Operation::Sum => signs::plus(signs::cross(a, d2), signs::cross(b, d1)),
-        Operation::Difference => signs::minus(signs::cross(a, d2), signs::cross(b, d1)),
-        Operation::Product => signs::times(a, b),
+        Operation::Sum => cross(a, d2) + cross(b, d1),
+        Operation::Difference => cross(a, d2) - cross(b, d1),
+        Operation::Product => a * b,
     }
 }
 
 // Whether `a` and `b` stand in the relation.
 pub(crate) fn relate(relation: Relation, a: i64, b: i64) -> bool
-    ensures { result ≡ related (meant_relation relation) a b }
+    ensures { result ≡ related (relation_read relation) a b }
 {
     match relation {
         Relation::Less => a < b,
         Relation::AtMost => a <= b,
-        Relation::Equal => (a <= b) & (b <= a),
-        Relation::AtLeast => b <= a,
-        Relation::Greater => b < a,
+        Relation::Equal => a == b,
+        Relation::AtLeast => a >= b,
+        Relation::Greater => a > b,
     }
 }
 
 // Whether a / d1 and b / d2 stand in the relation, by their cross products.
 pub(crate) fn compare(relation: Relation, a: i64, d1: u64, b: i64, d2: u64) -> bool
     requires { CrossesFit a d1 b d2 }
-    ensures { result ≡ compared (meant_relation relation) (over a d1) (over b d2) }
+    ensures { result ≡ compared (relation_read relation) (over a d1) (over b d2) }
 {
-    relate(relation, signs::cross(a, d2), signs::cross(b, d1))
+    relate(relation, cross(a, d2), cross(b, d1))
 }

@@ -7,6 +7,7 @@ use mathlib.Core.Path.{◌≡◌, refl, sym, ap, ap₂, ◌∙◌}
 use native.Mathlib.Decide.{dec_lt}
 use native.Mathlib.Omega.{arith}
 use borrow.Author.Tests.{eqb-true, eq-eqb, lt-ltb, le-ltb, ltb-true}
+use Rattle.std.specs.Prelude.{Option, Some, None, is_some, IsSome}
 use lib.Dec.{ltb, eqb}
 use lib.ListN.{length, get_or, drop, length-append, length-drop, get_or-append}
 use lib.Seq.{get_or-drop, get_or-append-add}
@@ -16,7 +17,7 @@ use Rattle.meaning.specs.Lists.{below, there_is}
 use Rattle.meaning.specs.Merging.{member}
 use Rattle.meaning.proofs.Tests.{there_is_found, there_is_from, below_member, below_has}
 use Rattle.groups.specs.Groups.{group_of, is_used, member_of}
-use Rattle.groups.specs.Working.{FirstMember}
+use Rattle.groups.specs.Working.{FirstMember, FirstIn}
 
 module _ (f : ℕ → ℕ) (g : ℕ) where
   -- the contract of `first_of` leaves one result
@@ -42,6 +43,15 @@ module _ (f : ℕ → ℕ) (g : ℕ) where
       less : (s : ℕ) → s < n → f s ≡ g → Dec (r < n) → ltb r n ≡ true
       less s small e (yes l) = lt-ltb r n l
       less s small e (no more) = absurd (h.before s (omega arith) e)
+
+  -- the same, where 'none' is said by itself
+  pub used_in : (n : ℕ) (r : Option ℕ) → FirstIn f g n r → is_some r ≡ there_is (λ s. eqb (f s) g) (below n)
+  used_in n None h = same_truth false (there_is (λ s. eqb (f s) g) (below n))
+      (λ e. absurd (true≢false (sym e)))
+      (λ e.
+      let w = there_is_found (λ s. eqb (f s) g) (below n) e in
+      absurd (h w.0 (below_member n w.1) (eqb-true (f w.0) g w.2)))
+  used_in n (Some r) h = sym (lt-ltb r n h.0) ∙ used_first h.1
 
   -- the first member of two joined lists stands in the first list, if that has one, else in the second
   member_left : (xs ys : List ℕ) → there_is (λ s. eqb (f s) g) xs ≡ true → member f g (xs ++ ys) ≡ member f g xs
@@ -96,14 +106,20 @@ own_first n grouping s {g} {r} l long e h = go (dec_lt s r)
       ap₂ (λ n g. member_of n grouping g) (sym long) (sym e) ∙ member_first (group_of grouping) g h (omega arith),
     )
 
--- where every group below a count is used, the first state of one is a state, and is its member
+-- where every group below a count is used, each has a first state, which is its member
 module _ (grouping : List ℕ) (count : ℕ) (all : every_below count (is_used grouping) ≡ true) (g : ℕ) (few : g < count) where
-  pub first_below : {r : ℕ} → FirstMember (group_of grouping) g (length grouping) r → r < length grouping
-  first_below {r} h =
-      ltb-true r (length grouping) (used_first (group_of grouping) g h ∙ every_at count (is_used grouping) all g few)
+  pub first_some : FirstIn (group_of grouping) g (length grouping) None → ⊥
+  first_some none =
+      true≢false
+      (sym (every_at count (is_used grouping) all g few) ∙ sym (used_in (group_of grouping) g (length grouping) None none))
 
-  pub first_member : {r : ℕ} → FirstMember (group_of grouping) g (length grouping) r → member_of (length grouping) grouping g ≡ r
-  first_member h = member_first (group_of grouping) g h (first_below h)
+  pub first_is : (r : Option ℕ) → FirstIn (group_of grouping) g (length grouping) r → IsSome r
+  first_is None h = absurd (first_some h)
+  first_is (Some r) h = refl
+
+  pub first_member : (r : ℕ) → FirstIn (group_of grouping) g (length grouping) (Some r) →
+      (r < length grouping) × (member_of (length grouping) grouping g ≡ r)
+  first_member r h = (h.0, member_first (group_of grouping) g h.1 h.0)
 
 -- a table that was written over the front of a list of one and the same d: f's values below the count, and d from it on
 pub front_table : {A : Type 0} (n count : ℕ) (f : ℕ → A) (d : A) → count ≤ n →

@@ -60,13 +60,10 @@ merged_model m grouping =
       version = m.version;
       masks = table 32 (λ g. cond (ltb g (group_count grouping)) (mask_of m (member_of m.n grouping g)) 0);
       weights =
-          record {
-            rows =
-                table 32
-                (λ g.
-                table 32
-                (λ h.
-                cond (ltb g (group_count grouping) && ltb h (group_count grouping))
-                (weight_into (chain_of m) (group_of grouping) (member_of m.n grouping g) h) 0));
-          };
+          table 32
+          (λ g.
+          table 32
+          (λ h.
+          cond (ltb g (group_count grouping) && ltb h (group_count grouping))
+          (weight_into (chain_of m) (group_of grouping) (member_of m.n grouping g) h) 0));
     }

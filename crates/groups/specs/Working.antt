@@ -1,7 +1,7 @@
 -- Working: what the functions of this crate promise one another. Nothing here has to be believed.
 --
 -- Names for the contracts of merge's parts.
-use Rattle.std.specs.Prelude.{ℕ, ◌<◌, ◌≤◌, Bool, cond, ◌&&◌, List, [], ◌≡◌, ltb, eqb, length, get_or}
+use Rattle.std.specs.Prelude.{ℕ, ◌<◌, ◌≤◌, Option, Some, None, Bool, cond, ◌&&◌, List, [], ◌≡◌, ltb, eqb, length, get_or}
 use Rattle.counting.specs.Below.{every_below, table}
 use Rattle.groups.specs.Groups.{member_of}
 
@@ -10,6 +10,11 @@ pub record FirstMember (f : ℕ → ℕ) (g n r : ℕ) : Type 0 where
   pub within : r ≤ n
   pub before : (k : ℕ) → k < r → f k ≡ g → ⊥
   pub found : r < n → f r ≡ g
+
+-- the same, where 'none' is said by itself
+abbrev pub FirstIn : (ℕ → ℕ) → (g n : ℕ) → Option ℕ → Type 0
+FirstIn f g n None = (k : ℕ) → k < n → f k ≡ g → ⊥
+FirstIn f g n (Some r) = (r < n) × FirstMember f g n r
 
 -- two states agree in their masks and in the first columns of their totals
 abbrev pub pair_alike : List ℕ → List (List ℕ) → ℕ → ℕ → ℕ → Bool

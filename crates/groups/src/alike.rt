@@ -11,45 +11,34 @@ fn rows_agree(a: &[u16; 32], b: &[u16; 32], count: usize) -> bool
     requires { count ≤ 32 }
     ensures { result ≡ every_below count (λ h. eqb (get_or a.now h 0) (get_or b.now h 0)) }
 {
-    let mut h: usize = 0;
-    while h < count {
-        if !(a[h] == b[h]) {
-            return false;
-        }
-        h += 1;
-    }
-    true
+    a[..count] == b[..count]
 }
 
-// Whether two states agree in mask and totals.
-fn pair_alike(masks: &[u16; 32], totals: [[u16; 32]; 32], count: usize, s: usize, t: usize) -> bool
+// Whether two states agree in mask and in their totals into the groups below a count.
+fn pair_alike(masks: &[u16; 32], totals: &[[u16; 32]; 32], count: usize, s: usize, t: usize) -> bool
     requires { (count ≤ 32) × (s < 32) × (t < 32) }
-    ensures { result ≡ pair_alike masks.now totals count s t }
+    ensures { result ≡ pair_alike masks.now totals.now count s t }
 {
-    let a = totals[s];
-    let b = totals[t];
-    (masks[s] == masks[t]) & rows_agree(&a, &b, count)
+    (masks[s] == masks[t]) & rows_agree(&totals[s], &totals[t], count)
 }
 
 // Whether every state agrees with the first state of its group.
 pub fn states_alike(
     masks: &[u16; 32],
-    totals: [[u16; 32]; 32],
+    totals: &[[u16; 32]; 32],
     grouping: &[u8],
     count: usize,
     n: usize,
 ) -> bool
     requires { (count ≤ 32) × (n ≤ 32) × (length grouping.now ≡ n) }
-    ensures { result ≡ every_below n (λ s. pair_alike masks.now totals count s
+    ensures { result ≡ every_below n (λ s. pair_alike masks.now totals.now count s
         (member_of n grouping.now (group_of grouping.now s))) }
 {
-    let mut s: usize = 0;
-    while s < n {
-        let first = first_of(grouping, group_of(grouping, s));
+    for s in 0..n {
+        let first = first_of(grouping, group_of(grouping, s)).unwrap();
         if !pair_alike(masks, totals, count, s, first) {
             return false;
         }
-        s += 1;
     }
     true
 }

@@ -1,9 +1,9 @@
 -- Numbers that repeat, and the bits of a label that do.
-use Prim.Native.Nat.{ℕ, suc, ◌+◌, ◌-◌, ◌*◌, ◌/◌, ◌%◌, ◌≤◌, ◌<◌}
+use Prim.Native.Nat.{ℕ, ◌+◌, ◌-◌, ◌*◌, ◌/◌, ◌%◌, ◌≤◌, ◌<◌}
 use mathlib.Core.List.{List}
-use mathlib.Core.Path.{◌≡◌, refl, sym, ap, ◌∙◌}
+use mathlib.Core.Path.{◌≡◌, sym, ap, subst, ◌∙◌}
 use native.Mathlib.Decide.{dec_lt}
-use native.Mathlib.Nat.{mod-lt, mod-eq_of_lt, mod-eq-sub-mod, mul-le-mul, mul-le-mul_right}
+use native.Mathlib.Nat.{mod-lt, mod-eq_of_lt, mod-eq-sub-mod, mul-le-mul}
 use native.Mathlib.Omega.{arith}
 use lib.Arith.{digits_div, mod-mul}
 use lib.ListN.{length, get_or}
@@ -36,51 +36,34 @@ repeated {few} {count} {k} {before} {after} less h = repeats few k before after 
 -- ---- the bits of a label
 
 -- the stretches of the first s states are written
-pub record Stretches (masks : List ℕ) (l states stride : ℕ) (before : List ℕ) (base s : ℕ) (after : List ℕ) : Type 0 where
-  pub up_to : s ≤ states
-  pub at : base ≡ s * stride
+pub record Stretches (masks : List ℕ) (l stride : ℕ) (before : List ℕ) (s : ℕ) (after : List ℕ) : Type 0 where
   pub long : length after ≡ length before
-  pub each : (k : ℕ) → k < base → get_or after k 0 ≡ bit_at masks l (k / stride)
-  pub high : (k : ℕ) → base ≤ k → get_or after k 0 ≡ get_or before k 0
+  pub each : (k : ℕ) → k < s * stride → get_or after k 0 ≡ bit_at masks l (k / stride)
+  pub high : (k : ℕ) → s * stride ≤ k → get_or after k 0 ≡ get_or before k 0
 
-module _ {masks : List ℕ} {l states stride : ℕ} {before : List ℕ} where
-  pub stretches_none : Stretches masks l states stride before 0 0 before
-  stretches_none = record { up_to = omega arith; at = omega arith; long = refl; each = λ k h. absurd (omega arith); high = λ k h. refl }
-
-  -- the stretch of one state more lies in the period
-  pub stretch_inside : {base s : ℕ} {after : List ℕ} → Stretches masks l states stride before base s after → s < states →
-      base + stride ≤ states * stride
-  stretch_inside {base} {s} h less =
-      let p : suc s * stride ≤ states * stride = mul-le-mul_right stride less in
-      omega (arith, h.at)
-
-  pub stretches_next : {base s bit : ℕ} {after now : List ℕ} → Stretches masks l states stride before base s after → s < states →
-      bit ≡ bit_at masks l s → WrittenAt base stride (λ k. bit) after now →
-      Stretches masks l states stride before (base + stride) (s + 1) now
-  stretches_next {base} {s} {bit} {after} {now} h less e w = record {
-    up_to = omega arith;
-    at = omega (arith, h.at);
+module _ {masks : List ℕ} {l stride : ℕ} {before : List ℕ} where
+  -- one state more
+  pub stretches_next : {s bit : ℕ} {after now : List ℕ} → Stretches masks l stride before s after → bit ≡ bit_at masks l s →
+      WrittenAt (s * stride) stride (λ k. bit) after now → Stretches masks l stride before (s + 1) now
+  stretches_next {s} {bit} {after} {now} h e w = record {
     long = w.long ∙ h.long;
-    each = λ k m. by k m (dec_lt k base);
-    high = λ k m. w.high k m ∙ h.high k (omega arith);
+    each = λ k m. by k m (dec_lt k (s * stride));
+    high = λ k m. w.high k (omega arith) ∙ h.high k (omega arith);
   }
     where
-      by : (k : ℕ) → k < base + stride → Dec (k < base) → get_or now k 0 ≡ bit_at masks l (k / stride)
+      by : (k : ℕ) → k < (s + 1) * stride → Dec (k < s * stride) → get_or now k 0 ≡ bit_at masks l (k / stride)
       by k m (yes y) = w.low k y ∙ h.each k y
       by k m (no x) =
-          let place : k ≡ base + (k - base) = omega arith in
-          let number : k ≡ s * stride + (k - base) = omega (arith, h.at) in
-          let state : k / stride ≡ s = ap (λ (x : ℕ). x / stride) number ∙ digits_div s (omega arith) in
-          ap (λ (x : ℕ). get_or now x 0) place ∙ w.each (k - base) (omega arith) ∙ e ∙ ap (bit_at masks l) (sym state)
+          let place : k ≡ s * stride + (k - s * stride) = omega arith in
+          let state : k / stride ≡ s = ap (λ (x : ℕ). x / stride) place ∙ digits_div s (omega arith) in
+          ap (λ (x : ℕ). get_or now x 0) place ∙ w.each (k - s * stride) (omega arith) ∙ e ∙ ap (bit_at masks l) (sym state)
 
-  pub stretches_all : {base s : ℕ} {after : List ℕ} → Stretches masks l states stride before base s after → states ≤ s →
+  -- all of them
+  pub stretches_all : {s states : ℕ} {after : List ℕ} → Stretches masks l stride before s after → s ≡ states →
       WrittenFront (states * stride) (λ k. bit_at masks l (k / stride)) before after
-  stretches_all {base} {s} h done =
-      let whole : base ≡ states * stride = h.at ∙ ap (λ (x : ℕ). x * stride) (omega (arith, h.up_to)) in
-      record {
-        each = λ k m. h.each k (omega (arith, whole));
-        kept = kept_from h.long (λ k m. h.high k (omega (arith, whole)));
-      }
+  stretches_all {s} {states} {after} h done =
+      subst (λ x. WrittenFront (x * stride) (λ k. bit_at masks l (k / stride)) before after) done
+      (record { each = h.each; kept = kept_from h.long h.high })
 
 -- repeated, they are those of all tuples
 pub bits_repeated : (masks : List ℕ) (l : ℕ) {states stride T : ℕ} {before mid after : List ℕ} → 1 ≤ states → 1 ≤ stride →

@@ -9,7 +9,7 @@ use lib.Seq.{take_all, drop_at, get_or-take, get_or-drop, length-take-le, drop-l
 use borrow.Rule.Slice.PartMut.{same_len_mid}
 
 -- what is lent is the tail
-pub lent_tail : (a : ℕ) (w : List ℕ) → take (length w - a) (drop a w) ≡ drop a w
+pub lent_tail : {A : Type 0} (a : ℕ) (w : List A) → take (length w - a) (drop a w) ≡ drop a w
 lent_tail a w = take_all (length w - a) (drop a w) (le_of_eq (length-drop a w))
 
 -- `after` is `before` with another tail from a on

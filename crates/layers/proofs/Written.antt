@@ -1,13 +1,12 @@
 -- A loop that writes the front of a list, one number a turn.
 use Prim.Native.Nat.{ℕ, ◌+◌, ◌-◌, ◌≤◌, ◌<◌}
 use mathlib.Core.List.{List}
-use mathlib.Core.Path.{◌≡◌, refl, sym, ap, subst, ◌∙◌}
+use mathlib.Core.Path.{◌≡◌, sym, ap, subst, ◌∙◌}
 use native.Mathlib.Omega.{arith}
 use native.Mathlib.Decide.{dec_lt}
 use lib.ListN.{length, get_or, set, drop, length-set, length-drop}
 use lib.Seq.{ext_get_or, get_or-drop, get_or-set_same, get_or-set_other}
-use Rattle.layers.specs.Layers.{RestKept, WrittenFront}
-use Rattle.layers.specs.Layers.{WrittenAt}
+use Rattle.layers.specs.Layers.{RestKept}
 
 -- a number past the first `count` has not changed
 pub kept_at : {count : ℕ} {before after : List ℕ} → RestKept count before after → (k : ℕ) → count ≤ k →
@@ -40,17 +39,6 @@ pub record Writing (base count : ℕ) (f : ℕ → ℕ) (before : List ℕ) (i :
   pub high : (k : ℕ) → base + i ≤ k → get_or after k 0 ≡ get_or before k 0
 
 module _ {base count : ℕ} {f : ℕ → ℕ} {before : List ℕ} where
-  -- before the first turn
-  pub writing_none : base + count ≤ length before → Writing base count f before 0 before
-  writing_none room = record {
-    up_to = omega arith;
-    room = room;
-    long = refl;
-    each = λ k l. absurd (omega arith);
-    low = λ k l. refl;
-    high = λ k l. refl;
-  }
-
   -- one number more
   pub writing_next : {i at v : ℕ} {after : List ℕ} → Writing base count f before i after → i < count → at ≡ base + i →
       v ≡ f i → Writing base count f before (i + 1) (set after at v)
@@ -70,25 +58,3 @@ module _ {base count : ℕ} {f : ℕ → ℕ} {before : List ℕ} where
           let q : at ≡ base + k = omega arith in
           let room : at < length after = omega (arith, h.long, h.room) in
           subst (λ (x : ℕ). get_or (set after at v) x 0 ≡ f k) q (get_or-set_same after at v 0 room ∙ e ∙ ap f p)
-
-  -- after the last turn all are written
-  pub writing_at_all : {i : ℕ} {after : List ℕ} → Writing base count f before i after → count ≤ i →
-      WrittenAt base count f before after
-  writing_at_all {i} h done = record {
-    long = h.long;
-    each = λ k l. h.each k (omega arith);
-    low = h.low;
-    high = λ k l. h.high k (omega (arith, h.up_to));
-  }
-
--- from place 0 on is from the front on
-pub from_front : {count : ℕ} {f : ℕ → ℕ} {before after : List ℕ} → WrittenAt 0 count f before after → WrittenFront count f before after
-from_front {after = after} h = record {
-  each = λ k l. ap (λ (x : ℕ). get_or after x 0) (omega arith) ∙ h.each k l;
-  kept = kept_from h.long (λ k l. h.high k (omega arith));
-}
-
--- so after the last turn of a loop from the front on all are written there
-pub writing_all : {count i : ℕ} {f : ℕ → ℕ} {before after : List ℕ} → Writing 0 count f before i after → count ≤ i →
-    WrittenFront count f before after
-writing_all h done = from_front (writing_at_all h done)

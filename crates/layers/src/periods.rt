@@ -11,11 +11,7 @@ pub(crate) fn stretch(value: u64, base: usize, size: usize, work: &mut [u64])
     requires { base + size ≤ length work.old }
     ensures { WrittenAt base size (λ k. value) work.old work.new }
 {
-    let mut k: usize = 0;
-    while k < size {
-        work[base + k] = value;
-        k += 1;
-    }
+    work[base..base + size].fill(value);
 }
 
 // Bit l of the mask of each state, for `stride` tuples each.
@@ -25,12 +21,8 @@ pub(crate) fn bits(masks: &[u16; STATES], l: u8, states: usize, stride: usize, w
     ensures { WrittenFront (states * stride) (λ k. bit_at masks.now l (k / stride)) work.old
         work.new }
 {
-    let mut base: usize = 0;
-    let mut s: usize = 0;
-    while s < states {
-        stretch(bit_of(masks[s], l), base, stride, work);
-        base += stride;
-        s += 1;
+    for s in 0..states {
+        stretch(bit_of(masks[s], l), s * stride, stride, work);
     }
 }
 
@@ -39,10 +31,7 @@ pub fn repeat(few: usize, all: usize, work: &mut [u64])
     requires { (1 ≤ few) × (few ≤ all) × (all ≤ length work.old) }
     ensures { WrittenAt few (all - few) (λ k. get_or work.old (k % few) 0) work.old work.new }
 {
-    let more = all - few;
-    let mut k: usize = 0;
-    while k < more {
+    for k in 0..all - few {
         work[few + k] = work[k];
-        k += 1;
     }
 }

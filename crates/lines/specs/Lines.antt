@@ -1,9 +1,7 @@
 -- Document 01: the program 'prints one line: `holds`, `fails`, or `refused` with a blank and the number'. Bytes are ASCII.
-use Rattle.std.specs.Prelude.{ℕ, List, [], ◌∷◌, ◌++◌}
+use Rattle.std.specs.Prelude.{ℕ, Bool, true, false, List, [], ◌∷◌, ◌++◌, Result, Ok, Err}
 use Rattle.counting.specs.Ascii.{ascii}
 use Rattle.numerals.specs.Numeral.{number_text}
-use Rattle.verdict.specs.declared.Answer.{Answer}
-use Rattle.verdict.specs.declared.Answer.TheVariants.{Holds, Fails, Refused}
 
 -- the byte that ends a line
 abbrev pub line_end : List ℕ
@@ -14,7 +12,7 @@ unfoldable pub refused_line : ℕ → List ℕ
 refused_line number = ascii "refused " ++ (number_text number ++ line_end)
 
 -- the line of an answer: `holds`, `fails` or `refused` with the number
-unfoldable pub line_of : Answer → List ℕ
-line_of Holds = ascii "holds" ++ line_end
-line_of Fails = ascii "fails" ++ line_end
-line_of (Refused number) = refused_line number
+unfoldable pub line_of : Result Bool ℕ → List ℕ
+line_of (Ok true) = ascii "holds" ++ line_end
+line_of (Ok false) = ascii "fails" ++ line_end
+line_of (Err number) = refused_line number

@@ -6,14 +6,5 @@ ghost use Rattle.lines.specs.Texts.{without_newline};
 pub fn without_newline(file: &[u8]) -> &[u8]
     ensures { result.now ≡ without_newline file.now }
 {
-    let n = file.len();
-    if n == 0 {
-        return file;
-    }
-    let last = n - 1;
-    if file[last] == b'\n' {
-        &file[..last]
-    } else {
-        file
-    }
+    file.strip_suffix(b"\n").unwrap_or(file)
 }

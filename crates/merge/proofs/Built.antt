@@ -170,4 +170,4 @@ module _ (m : Model) (grouping : List ℕ) (fields : fields_right m ≡ true) wh
         table 32
         (λ h. cond (ltb g M && ltb h M) (weight_into (chain_of m) (group_of grouping) (member_of m.n grouping g) h) 0))
         [] row_built in
-        λ i. record { n = M; a = m.a; d = m.d; version = m.version; masks = masks i; weights = record { rows = rows i } }
+        λ i. record { n = M; a = m.a; d = m.d; version = m.version; masks = masks i; weights = rows i }

@@ -1,5 +1,5 @@
 -- The number that merge gives, test by test.
-use Prim.Native.Nat.{ℕ, suc, ◌≤◌}
+use Prim.Native.Nat.{ℕ, ◌≤◌, ◌<◌}
 use mathlib.Core.Bool.{true, false, not}
 use mathlib.Core.List.{List, [], ◌∷◌}
 use mathlib.Core.Path.{◌≡◌, refl, sym, ap, ◌∙◌}
@@ -61,9 +61,9 @@ module _ (m : Model) (grouping : List ℕ) (room : ℕ) where
 -- ---- of a file
 
 module _ (file grouping : List ℕ) (room : ℕ) where
-  pub file_refused : (k : ℕ) → file_number file ≡ suc k → merge_number file grouping room ≡ suc k
+  pub file_refused : (k : ℕ) → 0 < k → file_number file ≡ k → merge_number file grouping room ≡ k
   unfolding file_number merge_number
-  file_refused k e = joined_refused (file_rows file) (group_rows (fields_of file) grouping room) k e
+  file_refused = joined_refused (file_rows file) (group_rows (fields_of file) grouping room)
 
   pub file_accepted : file_number file ≡ 0 → merge_number file grouping room ≡ first (group_rows (fields_of file) grouping room)
   unfolding file_number merge_number

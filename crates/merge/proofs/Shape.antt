@@ -31,8 +31,8 @@ mask_two m fields s l = look (ltb s m.n) (ltb (mask_of m s) (2 ^ m.a)) refl (mas
         omega arith
 
 module _ (m : Model) (fields : fields_right m ≡ true) (adds : rows_right m ≡ true)
-    (masks : length m.masks ≡ 32) (rows : length m.weights.rows ≡ 32)
-    (row : (s : ℕ) → s < 32 → length (get_or m.weights.rows s []) ≡ 32) where
+    (masks : length m.masks ≡ 32) (rows : length m.weights ≡ 32)
+    (row : (s : ℕ) → s < 32 → length (get_or m.weights s []) ≡ 32) where
   mask_small : (s : ℕ) → Dec (s < 32) → mask_of m s < 65536
   mask_small s (no past) =
       let e = get_or-eq_default m.masks 0 (past_end past) in
@@ -45,16 +45,16 @@ module _ (m : Model) (fields : fields_right m ≡ true) (adds : rows_right m ≡
   -- a weight is at most D
   weight_small : (s t : ℕ) → Dec (s < 32) → Dec (t < 32) → Dec (s < m.n) → weight_of m s t < 65536
   weight_small s t (no past) d n =
-      let e = ap (λ (r : List ℕ). get_or r t 0) (get_or-eq_default m.weights.rows [] (past_end past)) in
+      let e = ap (λ (r : List ℕ). get_or r t 0) (get_or-eq_default m.weights [] (past_end past)) in
       omega arith
     where
-      past_end : (s < 32 → ⊥) → length m.weights.rows ≤ s
+      past_end : (s < 32 → ⊥) → length m.weights ≤ s
       past_end h = omega arith
   weight_small s t (yes l) (no past) n =
-      let e = get_or-eq_default (get_or m.weights.rows s []) 0 (past_end past (row s l)) in
+      let e = get_or-eq_default (get_or m.weights s []) 0 (past_end past (row s l)) in
       omega arith
     where
-      past_end : (t < 32 → ⊥) → length (get_or m.weights.rows s []) ≡ 32 → length (get_or m.weights.rows s []) ≤ t
+      past_end : (t < 32 → ⊥) → length (get_or m.weights s []) ≡ 32 → length (get_or m.weights s []) ≤ t
       past_end h e = omega arith
   weight_small s t (yes l) (yes k) (no past) =
       let e = weight_past m fields s t l k (ap (λ (b : Bool). b && ltb t m.n) (le-ltb s m.n (omega arith))) in

@@ -13,7 +13,7 @@ use lib.Seq.{take_at}
 use Rattle.counting.proofs.Laws.{length_table, table_at}
 use Rattle.refusal.specs.Rows.{Applies, Given}
 use Rattle.refusal.specs.Answers.{gives, Ensured, refused, answered, TextAtFront}
-use Rattle.refusal.specs.declared.Written.TheVariants.{Wrote}
+use Rattle.std.specs.Prelude.{Ok}
 use Rattle.refusal.proofs.Listed.{list_number}
 use Rattle.refusal.proofs.Laws.{smallest, none_here}
 use Rattle.model.specs.declared.Model.{Model}
@@ -53,7 +53,7 @@ mergeable file grouping room e = look (file_number file) refl
   where
     look : (n : ℕ) → file_number file ≡ n → Mergeable file grouping room
     look (suc k) p =
-        let q = file_refused file grouping room k p in
+        let q = file_refused file grouping room (suc k) (omega arith) p in
         absurd (omega arith)
     look zero p =
         let m = fields_of file in
@@ -134,7 +134,7 @@ kept_file file grouping accepted grouped alike =
 -- of the bytes that merge leaves: where it answers that it wrote so many, those at the front of the output are a file that
 -- the reader accepts and that keeps what the full file says
 pub kept_written : (file grouping before after : List ℕ) (size : ℕ) →
-    MergeEnsures file grouping before after (Wrote size) →
+    MergeEnsures file grouping before after (Ok size) →
     (file_number (take size after) ≡ 0) × MergingKeeps (fields_of file) (group_of grouping) (fields_of (take size after))
 unfolding merge_number
 kept_written file grouping before after size w = by w.ensured

@@ -141,16 +141,16 @@ module _ (m : Model) where
         sym
         (table_same 32 _ _ []
         (λ g l. table_same 32 _ _ 0 (λ h k. weight_own g h l k (ltb g m.n && ltb h m.n) refl))) in
-        λ i. record { n = n i; a = m.a; d = m.d; version = m.version; masks = masks i; weights = record { rows = rows i } }
+        λ i. record { n = n i; a = m.a; d = m.d; version = m.version; masks = masks i; weights = rows i }
 
 -- where no state is halted, filling changes nothing
-filled_none : (m : Model) → length m.weights.rows ≡ 32 → ((s : ℕ) → s < 32 → length (get_or m.weights.rows s []) ≡ 32) →
+filled_none : (m : Model) → length m.weights ≡ 32 → ((s : ℕ) → s < 32 → length (get_or m.weights s []) ≡ 32) →
     ((s : ℕ) → halted m s ≡ false) → filled_model m ≡ m
 filled_none m rows_long row-long none =
     let rows =
-    table_is 32 _ [] m.weights.rows rows_long
-    (λ s l. table_is 32 _ 0 (get_or m.weights.rows s []) (row-long s l) (λ t k. sym (filled_other m s t (none s)))) in
-    λ i. record { n = m.n; a = m.a; d = m.d; version = m.version; masks = m.masks; weights = record { rows = sym rows i } }
+    table_is 32 _ [] m.weights rows_long
+    (λ s l. table_is 32 _ 0 (get_or m.weights s []) (row-long s l) (λ t k. sym (filled_other m s t (none s)))) in
+    λ i. record { n = m.n; a = m.a; d = m.d; version = m.version; masks = m.masks; weights = sym rows i }
 
 -- the file of a model with its rows filled is as long as the model's file
 filled_long : (m : Model) → length (file_of (filled_model m)) ≡ length (file_of m)

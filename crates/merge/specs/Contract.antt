@@ -1,7 +1,7 @@
 -- The rows of merge (document 01's table: 2 to 5, 12, 13 and 14), and what merge writes.
-use Rattle.std.specs.Prelude.{ℕ, not, List, [], ◌∷◌, ◌++◌, ltb, length}
+use Rattle.std.specs.Prelude.{ℕ, not, List, [], ◌∷◌, ◌++◌, ltb, length, Result}
 use Rattle.refusal.specs.Rows.{Row, first}
-use Rattle.refusal.specs.declared.Written.{Written}
+use Rattle.refusal.specs.declared.Refusal.{Refusal}
 use Rattle.refusal.specs.Answers.{Writes}
 use Rattle.model.specs.declared.Model.{Model}
 use Rattle.model.specs.Layout.{fields_of, file_of}
@@ -30,5 +30,5 @@ merged_file file grouping = file_of (merged_model (fields_of file) grouping)
 
 -- what merge ensures of the model file, the grouping, the output before and after, and of what it returns: the file of the merged
 -- model stands at the front
-abbrev pub MergeEnsures : (file grouping before after : List ℕ) → Written → Type 0
+abbrev pub MergeEnsures : (file grouping before after : List ℕ) → Result ℕ Refusal → Type 0
 MergeEnsures file grouping before = Writes (merge_rows file grouping (length before)) (merged_file file grouping) before

@@ -15,39 +15,34 @@ use groups::grouping::{group_count, grouping_right};
 use model::Model;
 use model_reader::read_model;
 use model_writer::write_model;
-use refusal::{Outcome, Written};
+use refusal::Refusal;
 use totals::merged::model_of_groups;
 use totals::totals::totals_of;
 
 // Merge, of the model of an accepted file: rows 12, 13 and 14, then the merged model's file.
-fn merge_model(m: Model, grouping: &[u8], out: &mut [u8]) -> Written
-    requires { (fields_right m ≡ true) × (rows_right m ≡ true) }
-    ensures { Writes (group_rows m grouping.now (length out.old))
-        (file_of (merged_model m grouping.now)) out.old out.new result }
+fn merge_model(m: &Model, grouping: &[u8], out: &mut [u8]) -> Result<usize, Refusal>
+    requires { (fields_right m.now ≡ true) × (rows_right m.now ≡ true) }
+    ensures { Writes (group_rows m.now grouping.now (length out.old))
+        (file_of (merged_model m.now grouping.now)) out.old out.new result }
 {
     let n = m.n as usize;
     if !grouping_right(grouping, n) {
-        return Written::Refused(12);
+        return Err(Refusal::Grouping);
     }
     let count = group_count(grouping);
-    let masks = m.masks;
     let rows = filled_rows(m);
-    let totals = totals_of(rows, grouping, n);
-    if !states_alike(&masks, totals, grouping, count, n) {
-        return Written::Refused(13);
+    let totals = totals_of(&rows, grouping, n);
+    if !states_alike(&m.masks, &totals, grouping, count, n) {
+        return Err(Refusal::Alike);
     }
-    let merged = model_of_groups(m.a, m.d, m.version, &masks, totals, grouping, count);
-    write_model(merged, out)
+    let merged = model_of_groups(m, &totals, grouping, count);
+    write_model(&merged, out)
 }
 
 // Merge: the file of the merged model at the front of the output, or the smallest number of a row that applies.
-pub fn merge(file: &[u8], grouping: &[u8], out: &mut [u8]) -> Written
+pub fn merge(file: &[u8], grouping: &[u8], out: &mut [u8]) -> Result<usize, Refusal>
     ensures { MergeEnsures file.now grouping.now out.old out.new result }
 {
-    let read = read_model(file);
-    let outcome = read.outcome;
-    match outcome {
-        Outcome::Refused(number) => Written::Refused(number),
-        Outcome::Done => merge_model(read.model, grouping, out),
-    }
+    let model = read_model(file)?;
+    merge_model(&model, grouping, out)
 }

@@ -1,21 +1,19 @@
 -- The number of the rows, test by test, for read model and write model; and read model's contract from that number.
-use Prim.Native.Nat.{ℕ, suc, ◌-◌, ◌*◌, ◌<◌, ◌≤◌}
-use native.Mathlib.Omega.{arith}
+use Prim.Native.Nat.{ℕ, ◌*◌, ◌<◌, ◌≤◌}
 use mathlib.Core.List.{List}
 use mathlib.Core.Path.{◌≡◌, refl, sym, ap, ◌∙◌}
 use mathlib.Core.Bool.{true, false, not}
-use Rattle.refusal.proofs.Laws.{in_order, above, first_here, first_later, first_none}
+use Rattle.refusal.proofs.Laws.{in_order, first_here, first_later, first_none}
 use Rattle.block.specs.Block.{checks_right}
-use Rattle.refusal.specs.declared.Outcome.{Outcome}
-use Rattle.refusal.specs.Answers.{gives, refuses, number_in, Ensured, refused, answered, reply_of}
-use Rattle.refusal.specs.Rows.{Ascending, Applies}
-use Rattle.refusal.proofs.Ensuring.{right_of}
-use Rattle.refusal.proofs.Listed.{none_applies, list_refused, list_answered, list_number}
-use Rattle.refusal.specs.declared.Outcome.TheVariants.{Done, Refused}
+use Rattle.std.specs.Prelude.{Result, Ok, Err}
+use Rattle.refusal.specs.declared.Refusal.{Refusal}
+use Rattle.refusal.specs.Answers.{gives, number_in, number_of, reply_of}
+use Rattle.refusal.specs.Rows.{Ascending}
+use Rattle.refusal.proofs.Ensuring.{right_of, answer_told}
+use Rattle.refusal.proofs.Listed.{none_applies, list_number, reads_refused, reads_done}
 use borrow.Author.Tests.{lt-ltb, le-ltb}
 use Rattle.model.specs.declared.Model.{Model}
-use Rattle.model.specs.declared.ModelRead.{ModelRead}
-use Rattle.model.specs.Layout.{fields_of, blocks, empty_model}
+use Rattle.model.specs.Layout.{fields_of, blocks}
 use Rattle.model.specs.Rules.{length_right, fields_right, laid_out, rows_right}
 use Rattle.model.specs.Contract.{file_rows, file_number, record_rows, record_number, ReadModelEnsures}
 
@@ -74,44 +72,31 @@ record_rows_ascend m room = in_order 0 (record_rows m room) refl
 -- ---- the contract, from the number
 
 -- a refusal
-pub reads_refused : (file : List ℕ) (k : ℕ) {r : ModelRead} → file_number file ≡ suc k →
-    r.outcome ≡ Refused (suc k) → r.model ≡ empty_model → ReadModelEnsures file r
+pub read_refused : (file : List ℕ) {r : Result Model Refusal} (x : Refusal) → file_number file ≡ number_of x → r ≡ Err x →
+    ReadModelEnsures file r
 unfolding file_number
-reads_refused file k e o m = record { ensured = list_refused (file_rows_ascend file) k e (ap reply_of o) m }
+read_refused file x = reads_refused (file_rows_ascend file) x
 
 -- an answer
-pub reads_done : (file : List ℕ) {r : ModelRead} → file_number file ≡ 0 → r.outcome ≡ Done → r.model ≡ fields_of file
-    → ReadModelEnsures file r
+pub read_done : (file : List ℕ) {r : Result Model Refusal} → file_number file ≡ 0 → r ≡ Ok (fields_of file) → ReadModelEnsures file r
 unfolding file_number
-reads_done file e o m = record { ensured = list_answered (file_rows_ascend file) e (ap reply_of o) m }
+read_done file e a = reads_done (file_rows_ascend file) e a refl
 
 -- ---- and back
 
 -- the number that the reader answers
-pub reads_number : {file : List ℕ} {r : ModelRead} → ReadModelEnsures file r → number_in (reply_of r.outcome) ≡ file_number file
+pub read_number : (file : List ℕ) {r : Result Model Refusal} → ReadModelEnsures file r → number_in (reply_of r) ≡ file_number file
 unfolding file_number
-reads_number {file} reads = list_number (file_rows_ascend file) reads.ensured
+read_number file reads = list_number (file_rows_ascend file) reads.ensured
 
--- a refusal of the reader: its number is the rows' number, and not 0
-pub reads_refusal : {file : List ℕ} {r : ModelRead} {number : ℕ} → ReadModelEnsures file r → r.outcome ≡ Refused number →
-    (k : ℕ) × (file_number file ≡ suc k) × (number ≡ suc k)
-reads_refusal {file} {r} {number} reads o = by reads.ensured
-  where
-    same : number ≡ file_number file
-    same = sym (ap (λ (x : Outcome). number_in (reply_of x)) o) ∙ reads_number reads
-
-    by : Ensured (λ n. Applies n (file_rows file)) (λ done m. m ≡ fields_of file) empty_model (reply_of r.outcome) r.model →
-        (k : ℕ) × (file_number file ≡ suc k) × (number ≡ suc k)
-    by (refused {n} e l row least) =
-        let some = above (file_rows_ascend file) n row in
-        let here : number ≡ n = ap number_in (sym (ap reply_of o) ∙ e) in
-        (n - 1, omega (arith, same), omega arith)
-    by (answered {v} e right none) =
-        let other : refuses number ≡ gives v = sym (ap reply_of o) ∙ e in
-        let z : ◌≡◌ {A = ℕ} 0 1 = cc in
-        absurd (omega arith)
+-- a refusal of the reader: it is the rows' number
+pub read_refusal : (file : List ℕ) {r : Result Model Refusal} {x : Refusal} → ReadModelEnsures file r → r ≡ Err x →
+    file_number file ≡ number_of x
+read_refusal file reads e = sym (read_number file reads) ∙ ap (λ (r : Result Model Refusal). number_in (reply_of r)) e
 
 -- the model of an accepted file
-pub reads_value : {file : List ℕ} {r : ModelRead} → ReadModelEnsures file r → file_number file ≡ 0 → r.model ≡ fields_of file
+pub read_value : (file : List ℕ) {r : Result Model Refusal} → ReadModelEnsures file r → file_number file ≡ 0 → r ≡ Ok (fields_of file)
 unfolding file_number
-reads_value {file} reads e = (right_of (none_applies (file_rows_ascend file) e) reads.ensured).2
+read_value file {r} reads e =
+    let given = right_of (none_applies (file_rows_ascend file) e) reads.ensured in
+    answer_told r (Ok (fields_of file)) (given.1 ∙ ap gives given.2)

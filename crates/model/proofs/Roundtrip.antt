@@ -241,9 +241,9 @@ module _ (m : Model) (right : fields_right m ≡ true) (sums : rows_right m ≡ 
   masks_written : Shaped m → table 32 (mask_at (file_of m)) ≡ m.masks
   masks_written shaped = sym (table_is 32 (mask_at (file_of m)) 0 m.masks shaped.masks (λ s l. sym (mask_written s l (shaped.mask s))))
 
-  rows_written : Shaped m → table 32 (λ s. table 32 (weight_at (file_of m) s)) ≡ m.weights.rows
-  rows_written shaped = sym (table_is 32 (λ s. table 32 (weight_at (file_of m) s)) [] m.weights.rows shaped.rows
-      (λ s l. table_is 32 (weight_at (file_of m) s) 0 (get_or m.weights.rows s []) (shaped.row s l)
+  rows_written : Shaped m → table 32 (λ s. table 32 (weight_at (file_of m) s)) ≡ m.weights
+  rows_written shaped = sym (table_is 32 (λ s. table 32 (weight_at (file_of m) s)) [] m.weights shaped.rows
+      (λ s l. table_is 32 (weight_at (file_of m) s) 0 (get_or m.weights s []) (shaped.row s l)
       (λ t k. sym (weight_written s t l k (shaped.weight s t)))))
 
   -- reading what was written gives the same model
@@ -255,7 +255,7 @@ module _ (m : Model) (right : fields_right m ≡ true) (sums : rows_right m ≡ 
     d = total_written i;
     version = version_written i;
     masks = masks_written shaped i;
-    weights = record { rows = rows_written shaped i };
+    weights = rows_written shaped i;
   }
 
   -- and no row applies to the file

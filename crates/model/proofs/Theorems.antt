@@ -3,18 +3,18 @@
 use Prim.Native.Nat.{ℕ, ◌*◌, ◌≤◌}
 use mathlib.Core.Bool.{true, not}
 use mathlib.Core.List.{List, []}
-use mathlib.Core.Path.{◌≡◌, refl, sym, ap, ap₂, ◌∙◌}
+use mathlib.Core.Path.{◌≡◌, sym, ap, ◌∙◌}
 use native.Mathlib.Omega.{arith}
 use borrow.Author.Tests.{not-false, ltb-false}
 use lib.Dec.{ltb}
 use lib.ListN.{length}
-use Rattle.refusal.specs.declared.Outcome.{Outcome}
+use Rattle.std.specs.Prelude.{Result}
+use Rattle.refusal.specs.declared.Refusal.{Refusal}
 use Rattle.refusal.specs.Rows.{Given}
-use Rattle.refusal.proofs.Ensuring.{one_result, outcome_told}
+use Rattle.refusal.proofs.Ensuring.{one_reading as one_reading-of}
 use Rattle.refusal.proofs.Laws.{smallest, none_here}
 use Rattle.block.specs.Block.{checks_right}
 use Rattle.model.specs.declared.Model.{Model}
-use Rattle.model.specs.declared.ModelRead.{ModelRead}
 use Rattle.model.specs.Layout.{Shaped, blocks, fields_of, file_of}
 use Rattle.model.specs.Rules.{length_right, fields_right, laid_out, rows_right}
 use Rattle.model.specs.Contract.{file_rows, file_number, record_rows, record_number, ReadModelEnsures}
@@ -35,10 +35,8 @@ write_smallest m room = smallest (record_rows_ascend m room)
 
 -- ---- one result
 
-pub one_reading : {file : List ℕ} {r r' : ModelRead} → ReadModelEnsures file r → ReadModelEnsures file r' → r ≡ r'
-one_reading {file} {r} {r'} x y =
-    let one = one_result (λ (v v' : Unit {0}) (m m' : Model) p q. (refl, p ∙ sym q)) x.ensured y.ensured in
-    ap₂ (λ (o : Outcome) (m : Model). record { outcome = o; model = m }) (outcome_told r.outcome r'.outcome one.0) one.1
+pub one_reading : (file : List ℕ) {r r' : Result Model Refusal} → ReadModelEnsures file r → ReadModelEnsures file r' → r ≡ r'
+one_reading file = one_reading-of (λ m m' p q. p ∙ sym q)
 
 -- ---- what an accepted file, and an accepted record, is
 

@@ -1,13 +1,12 @@
 -- Document 01's table of refusals, for read model (2, 3, 4, 5) and write model (4, 5, 14), and what the two calls ensure. A row
 -- here is a row of that table.
-use Rattle.std.specs.Prelude.{ℕ, ◌*◌, not, List, [], ◌∷◌, ◌≡◌, ltb, length}
+use Rattle.std.specs.Prelude.{ℕ, ◌*◌, not, List, [], ◌∷◌, ◌≡◌, ltb, length, Result}
 use Rattle.refusal.specs.Rows.{Row, first, Applies}
-use Rattle.refusal.specs.declared.Written.{Written}
-use Rattle.refusal.specs.Answers.{reply_of, Ensured, Writes}
+use Rattle.refusal.specs.declared.Refusal.{Refusal}
+use Rattle.refusal.specs.Answers.{Reads, Writes}
 use Rattle.block.specs.Block.{checks_right}
 use Rattle.model.specs.declared.Model.{Model}
-use Rattle.model.specs.declared.ModelRead.{ModelRead}
-use Rattle.model.specs.Layout.{fields_of, empty_model, blocks, file_of}
+use Rattle.model.specs.Layout.{fields_of, blocks, file_of}
 use Rattle.model.specs.Rules.{fields_right, rows_right, length_right, laid_out}
 
 -- the rows 2 to 5 of a model file
@@ -23,9 +22,9 @@ file_rows file =
 unfoldable pub file_number : List ℕ → ℕ
 file_number file = first (file_rows file)
 
--- what read model ensures of the file and what it answers: the fields of an accepted file, and beside a refusal the empty model
-pub record ReadModelEnsures (file : List ℕ) (r : ModelRead) : Type 0 where
-  pub ensured : Ensured (λ n. Applies n (file_rows file)) (λ done m. m ≡ fields_of file) empty_model (reply_of r.outcome) r.model
+-- what read model ensures of the file and what it answers: the fields of an accepted file
+abbrev pub ReadModelEnsures : List ℕ → Result Model Refusal → Type 0
+ReadModelEnsures file = Reads (λ n. Applies n (file_rows file)) (λ m. m ≡ fields_of file)
 
 -- ---- the rows of write model, for a record and an output of `room` bytes
 
@@ -43,5 +42,5 @@ record_number m room = first (record_rows m room)
 
 -- what write model ensures of the record, the output before and after, and of what it returns: the file of the model stands at
 -- the front
-abbrev pub WriteModelEnsures : Model → (before after : List ℕ) → Written → Type 0
+abbrev pub WriteModelEnsures : Model → (before after : List ℕ) → Result ℕ Refusal → Type 0
 WriteModelEnsures m before = Writes (record_rows m (length before)) (file_of m) before

@@ -14,31 +14,20 @@ mask_of m s = get_or m.masks s 0
 
 -- the weight from state s to state t, likewise
 abbrev pub weight_of : Model → ℕ → ℕ → ℕ
-weight_of m = cell m.weights.rows
+weight_of m = cell m.weights
 
 -- a record as its type has it: 32 masks, 32 rows of 32 weights, each a number of two bytes
 pub record Shaped (m : Model) : Type 0 where
   pub masks : length m.masks ≡ 32
-  pub rows : length m.weights.rows ≡ 32
-  pub row : (s : ℕ) → s < 32 → length (get_or m.weights.rows s []) ≡ 32
+  pub rows : length m.weights ≡ 32
+  pub row : (s : ℕ) → s < 32 → length (get_or m.weights s []) ≡ 32
   pub mask : (s : ℕ) → mask_of m s < 65536
   pub weight : (s t : ℕ) → weight_of m s t < 65536
 
 -- the model of these fields
 abbrev pub model_of : (n a d version : ℕ) → List ℕ → List (List ℕ) → Model
 model_of n a d version masks rows =
-    record { n = n; a = a; d = d; version = version; masks = masks; weights = record { rows = rows } }
-
--- the empty model, which stands beside a refusal: every field zero
-unfoldable pub empty_model : Model
-empty_model = record {
-  n = 0;
-  a = 0;
-  d = 0;
-  version = 0;
-  masks = table 32 (λ s. 0);
-  weights = record { rows = table 32 (λ s. table 32 (λ t. 0)) };
-}
+    record { n = n; a = a; d = d; version = version; masks = masks; weights = rows }
 
 -- ---- where the fields stand
 
@@ -88,7 +77,7 @@ fields_of file = record {
   d = four_at file 0 4;
   version = byte_of file 0 3;
   masks = table 32 (mask_at file);
-  weights = record { rows = table 32 (λ s. table 32 (weight_at file s)) };
+  weights = table 32 (λ s. table 32 (weight_at file s));
 }
 
 -- ---- the file of a model

@@ -2,11 +2,7 @@
 // read model and write model are in specs/Contract. Each of the two calls is a crate of its own.
 #![tactic(auto)]
 
-pub mod matrix;
 pub mod rules;
-
-use matrix::Weights;
-use refusal::Outcome;
 
 // Where rows stand in a block: so many states a block, from this byte on, so many bytes a row, up to this byte.
 pub const STATES_PER_BLOCK: usize = 7;
@@ -18,7 +14,7 @@ pub const ROW_BYTES: usize = 64;
 pub const ROWS_END: usize = 450;
 
 // A model as its file says it: N states, A labels, D, the version, a label mask for each state, and the weight from each
-// state to each. The record can hold what no file can: such a record is refused by write_model.
+// state (its row) to each (the column). The record can hold what no file can: such a record is refused by write_model.
 #[derive(Clone, Copy)]
 pub struct Model {
     pub n: u32,
@@ -26,12 +22,5 @@ pub struct Model {
     pub d: u32,
     pub version: u32,
     pub masks: [u16; 32],
-    pub weights: Weights,
-}
-
-// What read_model returns: the answer, and the model beside it. A refusal carries an empty model.
-#[derive(Clone, Copy)]
-pub struct ModelRead {
-    pub outcome: Outcome,
-    pub model: Model,
+    pub weights: [[u16; 32]; 32],
 }

@@ -8,7 +8,6 @@ ghost use Rattle.model.specs.Rules.{laid_out};
 
 use crate::AFTER_ROWS;
 use block::{BLOCK, block_byte};
-use model::rules::fields_right;
 use model::{Model, ROWS_END, STATES_PER_BLOCK};
 
 // Whether the `count` bytes from byte `from` of a block on are zero.
@@ -16,12 +15,10 @@ fn zeros(file: &[u8], block: usize, from: usize, count: usize) -> bool
     requires { from + count ≤ 510 }
     ensures { result ≡ every_below count (λ k. eqb (byte_of file.now block (from + k)) 0) }
 {
-    let mut k: usize = 0;
-    while k < count {
-        if !(block_byte(file, block, from + k) == 0) {
+    for k in 0..count {
+        if block_byte(file, block, from + k) != 0 {
             return false;
         }
-        k += 1;
     }
     true
 }
@@ -65,26 +62,24 @@ fn blocks_laid(file: &[u8], count: usize) -> bool
     ensures { result ≡ every_below count
         (λ i. every_below 510 (λ j. eqb (byte_of file.now i j) (content_byte (fields_of file.now) i j))) }
 {
-    let mut i: usize = 0;
-    while i < count {
+    for i in 0..count {
         if !block_laid(file, i) {
             return false;
         }
-        i += 1;
     }
     true
 }
 
 // Whether row 4 does not apply to a file with the fields m.
-pub(crate) fn laid_out(file: &[u8], m: Model) -> bool
-    requires { m ≡ fields_of file.now }
-    ensures { result ≡ laid_out file.now m }
+pub(crate) fn laid_out(file: &[u8], m: &Model) -> bool
+    requires { m.now ≡ fields_of file.now }
+    ensures { result ≡ laid_out file.now m.now }
 {
-    let blocks = file.len() / BLOCK;
-    let wanted = 1 + (m.n as usize + 6) / STATES_PER_BLOCK;
-    if !fields_right(m) {
+    if !m.fields_right() {
         return false;
     }
+    let blocks = file.len() / BLOCK;
+    let wanted = 1 + (m.n as usize + 6) / STATES_PER_BLOCK;
     if blocks != wanted {
         return false;
     }

@@ -1,5 +1,4 @@
 -- Laws of numbers in a text.
 pub mod Numbers
-pub mod Places
 pub mod NumberAt
-pub mod Puts
+pub mod LastDigit

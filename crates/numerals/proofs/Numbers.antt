@@ -42,6 +42,11 @@ digit_more v d low high small =
     m : (v * 10 + d) % 10 ≡ d
     m = omega arith
 
+-- the first byte of a list, and 0 where there is none
+abbrev pub first_byte : List ℕ → ℕ
+first_byte [] = 0
+first_byte (b ∷ t) = b
+
 -- the value of the digits at the front of a text, after the value a, and the text after them
 abbrev is_digit : ℕ → Bool
 is_digit b = leb 48 b && leb b 57
@@ -192,9 +197,3 @@ size_5 n l =
       size_step 1 (n / 10 / 10 / 10) (omega arith),
       size_last (n / 10 / 10 / 10 / 10),
     )
-
--- the size of a text of a byte, two numbers and the bytes after them
-pub two_sizes : (a b c d x y : ℕ) → x ≡ length (number_text a) → y ≡ length (number_text b)
-    → x + y + 3 ≡ suc (length (number_text a ++ c ∷ (number_text b ++ d ∷ [])))
-two_sizes a b c d x y e f =
-    rw (length-append (number_text a) (c ∷ (number_text b ++ d ∷ [])), length-append (number_text b) (d ∷ [])) (omega arith)

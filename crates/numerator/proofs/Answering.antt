@@ -7,9 +7,12 @@ use native.Mathlib.Omega.{arith}
 use borrow.Author.Tests.{eqb-false, ltb-false}
 use lib.Dec.{eqb, ltb}
 use lib.ListN.{length}
-use Rattle.refusal.specs.Answers.{answered}
+use Rattle.std.specs.Prelude.{Result, Ok, Err}
+use Rattle.refusal.specs.declared.Refusal.{Refusal}
+use Rattle.refusal.specs.declared.Refusal.TheVariants.{Area, Asked}
+use Rattle.refusal.specs.Answers.{answered, number_of, reply_of}
 use Rattle.refusal.specs.Rows.{Decided, by_row as given, by_none}
-use Rattle.refusal.proofs.Ensuring.{refused_as, others_first, one_decided, none_at_all}
+use Rattle.refusal.proofs.Ensuring.{number_positive, refused_as, others_first, one_decided, none_at_all}
 use Rattle.model.specs.declared.Model.{Model}
 use Rattle.meaning.specs.Tree.{Formula, paths_of}
 use Rattle.meaning.specs.Meaning.{numerator, denominator}
@@ -22,30 +25,34 @@ use Rattle.question.proofs.Numbers.{row_few}
 use Rattle.question.proofs.Pair.{letters_length, own_sentence}
 use Rattle.question.proofs.Stages.{one}
 use Rattle.question.proofs.Settled.{area_is, area_short, area_enough}
-use Rattle.numerator.specs.declared.Answer.TheVariants.{Counted, Refused}
 use Rattle.numerator.specs.declared.Ratio.{Ratio}
 use Rattle.numerator.specs.Contract.{numbered, AskedRow, question, long, member, missing, NumeratorEnsures}
 use Rattle.numerator.specs.Working.{asks_right, CountedSo}
 use Rattle.numerator.proofs.Asking.{RightParts}
 
 module _ {file text tuple : List ℕ} {number : ℕ} where
-  -- a refusal with the number that the rows of the question give
-  pub refused_so : {before : List ℕ} {n : ℕ} → Decided (QuestionRow file text) n → 0 < n →
-      NumeratorEnsures file text tuple number before (Refused n) before
-  refused_so {n = n} (given row least) h =
-      record { ensured = refused_as (others_first (given (question row) from) h) h refl refl }
+  -- the number of the question's rows is that of all rows but 1
+  asked : {n : ℕ} → Decided (QuestionRow file text) n → 0 < n → Decided (AskedRow file text tuple number) n
+  asked {n} (given row least) h = given (question row) from
     where
       from : (k : ℕ) → AskedRow file text tuple number k → n ≤ k
       from k (question r) = least k r
       from k (long s e) = let few = row_few row in omega arith
       from k (member e) = let few = row_few row in omega arith
       from k (missing s e) = let few = row_few row in omega arith
-  refused_so (by_none none) h = absurd (omega arith)
+  asked (by_none none) h = absurd (omega arith)
+
+  -- a refusal with the number that the rows of the question give
+  pub refused_so : {before : List ℕ} {x : Refusal} {r : Result Ratio Refusal} → r ≡ Err x → Decided (QuestionRow file text) (number_of x) →
+      NumeratorEnsures file text tuple number before r before
+  refused_so {x = x} e decided =
+      let some = number_positive x in
+      record { ensured = refused_as (others_first (asked decided some) some) some (ap reply_of e) refl }
 
   module _ (before : List ℕ) {q : Question} (y : Answerable file text q) where
     -- row 15
     pub refused_15 : asks_right q.model q.sentence y.sentence.body tuple number ≡ false →
-        NumeratorEnsures file text tuple number before (Refused 15) before
+        NumeratorEnsures file text tuple number before (Err Asked) before
     refused_15 e =
         let first = row (eqb (length tuple) q.sentence.letters) (members_below q.model.n tuple) refl refl e in
         record { ensured = refused_as (others_first (given first from) (omega arith)) (omega arith) refl refl }
@@ -73,12 +80,12 @@ module _ {file text tuple : List ℕ} {number : ℕ} where
           omega (arith, low, same, e)
 
       -- a refusal because of the area
-      pub refused_1 : length before < q.area → NumeratorEnsures file text tuple number before (Refused 1) before
+      pub refused_1 : length before < q.area → NumeratorEnsures file text tuple number before (Err Area) before
       refused_1 h = record { ensured = refused_as (one_decided free (area_short y h)) (omega arith) refl refl }
 
       -- the two values, where there is room too
       pub answered_so : {after : List ℕ} {r : Ratio} → q.area ≤ length before → CountedSo q.model q.sentence tuple number r →
-          after ≡ cleared q.area before → NumeratorEnsures file text tuple number before (Counted r.top r.bottom) after
+          after ≡ cleared q.area before → NumeratorEnsures file text tuple number before (Ok r) after
       answered_so {after} {r} room counts clear =
           let w = numbered y.sentence.body number in
           let n = letters_length y.sentence in

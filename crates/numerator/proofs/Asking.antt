@@ -2,20 +2,20 @@
 use Prim.Native.Nat.{ℕ, ◌<◌}
 use mathlib.Core.Bool.{Bool, true, false}
 use mathlib.Core.List.{List}
-use mathlib.Core.Path.{◌≡◌, refl, sym, ap, ◌∙◌}
-use native.Mathlib.Omega.{arith}
-use borrow.Author.Tests.{lt-ltb, le-ltb, ltb-true, eqb-true}
+use mathlib.Core.Path.{◌≡◌, sym, ap, ◌∙◌}
+use borrow.Author.Tests.{ltb-true, eqb-true}
 use lib.Dec.{ltb, eqb}
-use lib.ListN.{length}
+use lib.ListN.{length, take}
+use Rattle.std.specs.Prelude.{Option, is_some}
 use Rattle.counting.proofs.Laws.{left_of, right_of}
 use Rattle.model.specs.declared.Model.{Model}
 use Rattle.sentence.specs.declared.Sentence.{Sentence}
 use Rattle.sentence.specs.Record.{record_of}
-use Rattle.meaning.specs.Tree.{Formula, next, always, paths_of}
+use Rattle.meaning.specs.Tree.{Formula, paths_of}
 use Rattle.trees.specs.Listed.{formula_nodes}
 use Rattle.paths.specs.Tuples.{members_below, tuple_right}
-use Rattle.paths.specs.Places.{PathPlace, here, none}
-use Rattle.paths.proofs.Joining.{path_stands, path_missing}
+use Rattle.paths.specs.Places.{PathPlace}
+use Rattle.paths.proofs.Joining.{place_test}
 use Rattle.question.specs.Working.{TextOfSentence}
 use Rattle.question.proofs.Pair.{nodes_few}
 use Rattle.numerator.specs.Working.{asks_right, Right}
@@ -28,20 +28,10 @@ module _ {text : List ℕ} {s : Sentence} (b : TextOfSentence text s) where
   unfolding record_of
   counted = ap (λ (x : Sentence). x.count) b.fields
 
-  -- the place is one of the sentence's exactly if there is a path formula with the number
-  pub place_test : {number at : ℕ} → PathPlace s.nodes s.count number at → ltb at s.count ≡ ltb number (length (paths_of b.body))
-  place_test {number} {at} place = by s.count refl place
-    where
-      by : (count : ℕ) → s.count ≡ count → {r : ℕ} → PathPlace s.nodes count number r →
-          ltb r count ≡ ltb number (length (paths_of b.body))
-      by count e (here {r} h starts i) =
-          lt-ltb r count h ∙
-          sym (lt-ltb number (length (paths_of b.body))
-          (path_stands b.prefix b.body (nodes_few b) held (sym e ∙ counted) (here h starts i) h (next always)).0)
-      by count e (none i) =
-          le-ltb count count (omega arith) ∙
-          sym (le-ltb number (length (paths_of b.body))
-          (path_missing b.prefix b.body (nodes_few b) held (sym e ∙ counted) (none i) (omega arith)))
+  -- a place is found exactly if there is a path formula with the number
+  pub place_there : {number : ℕ} {r : Option ℕ} → PathPlace (take s.count s.nodes) number r →
+      is_some r ≡ ltb number (length (paths_of b.body))
+  place_there = place_test b.prefix b.body (nodes_few b) held counted _
 
 -- what it is for the tuple and the number to be right
 pub record RightParts (m : Model) (s : Sentence) (f : Formula) (tuple : List ℕ) (number : ℕ) : Type 0 where

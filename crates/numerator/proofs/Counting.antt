@@ -3,16 +3,17 @@ use Prim.Native.Nat.{ℕ, ◌^◌, ◌<◌}
 use mathlib.Core.List.{List}
 use mathlib.Core.Path.{◌≡◌, sym, ap, ap₂, subst, ◌∙◌}
 use native.Mathlib.Omega.{arith}
-use borrow.Author.Tests.{ltb-true, lt-ltb}
-use lib.ListN.{length, get_or}
+use borrow.Author.Tests.{lt-ltb}
+use lib.ListN.{length, get_or, take}
+use Rattle.std.specs.Prelude.{Option, Some, IsSome}
 use Rattle.model.specs.declared.Model.{Model}
 use Rattle.sentence.specs.declared.Kind.TheVariants.{Path}
 use Rattle.sentence.specs.declared.Sentence.{Sentence}
 use Rattle.meaning.specs.Tree.{Formula, always, PathFormula, next, paths_of}
 use Rattle.meaning.specs.Meaning.{numerator, denominator}
 use Rattle.meaning.specs.Size.{exceeds}
-use Rattle.path_steps.specs.declared.Setting.{Setting}
-use Rattle.evaluate.specs.Evaluation.{PathReady, TreeDone}
+use Rattle.layers.specs.declared.Setting.{Setting}
+use Rattle.evaluate.specs.Evaluation.{TreeReady, TreeDone}
 use Rattle.trees.specs.Ranged.{Ranged}
 use Rattle.chain.specs.Of.{chain_of, filled_rows}
 use Rattle.paths.specs.Places.{PathPlace, TupleReady, TuplePlace}
@@ -24,7 +25,7 @@ use Rattle.question.proofs.Settled.{body_ranged, sizes, fixed, variables_few, la
 use Rattle.question.specs.Contract.{area_needed}
 use Rattle.numerator.specs.Contract.{numbered}
 use Rattle.numerator.specs.Working.{Asked}
-use Rattle.numerator.proofs.Asking.{held, counted, place_test, RightParts, right_parts}
+use Rattle.numerator.proofs.Asking.{held, counted, place_there, RightParts, right_parts}
 
 module _ {m : Model} {s : Sentence} {g : Setting} {tuple : List ℕ} {number : ℕ} (a : Asked m s tuple number) (so : SettingOf m s g) where
   abbrev body : Formula
@@ -59,31 +60,32 @@ module _ {m : Model} {s : Sentence} {g : Setting} {tuple : List ℕ} {number : �
       let low = tuple_inside place in
       omega (arith, layer, low)
 
-  -- the path formula stands at the place that was found
-  found : {at : ℕ} → PathPlace s.nodes s.count number at → Found s.nodes g.variables m.d body number at (next always)
-  found {at} place =
-      let b = a.ready.read.sentence in
-      let test = place_test b place ∙ lt-ltb number (length (paths_of body)) parts.there in
-      path_found b.prefix b.body (nodes_few b) (held b) (counted b) place (ltb-true at s.count test)
-      (subst (λ (k : ℕ). Ranged k b.body) (sym so.variables) (body_ranged b))
-      (ap (exceeds b.body m.d) so.variables ∙ a.ready.small) (next always)
+  -- there is a path formula with the number
+  pub place_some : {r : Option ℕ} → PathPlace (take s.count s.nodes) number r → IsSome r
+  place_some place = place_there a.ready.read.sentence place ∙ lt-ltb number (length (paths_of body)) parts.there
 
-  module _ {rows : List (List ℕ)} (e : rows ≡ filled_rows m) {at : ℕ} (place : PathPlace s.nodes s.count number at) where
-    pub path_ready : {w : List ℕ} → length w ≡ area_needed (chain_of m) s.letters → PathReady s.nodes g m.masks rows at w
+  module _ {rows : List (List ℕ)} (e : rows ≡ filled_rows m) {at : ℕ} (place : PathPlace (take s.count s.nodes) number (Some at)) where
+    -- it stands at the place that was found
+    found : Found s.nodes g.variables m.d body number at (next always)
+    found =
+        let b = a.ready.read.sentence in
+        path_found b.prefix b.body (nodes_few b) (held b) (counted b) place
+        (subst (λ (k : ℕ). Ranged k b.body) (sym so.variables) (body_ranged b))
+        (ap (exceeds b.body m.d) so.variables ∙ a.ready.small) (next always)
+
+    pub path_ready : {w : List ℕ} → length w ≡ area_needed (chain_of m) s.letters → TreeReady Path s.nodes g m.masks rows at w
     path_ready long =
-        let f = found place in
+        let f = found in
         record {
-          one = record {
-            chain = chain_of m;
-            fixed = fixed a.ready so e;
-            few = variables_few a.ready so;
-            tree = get_or (paths_of body) number (next always);
-            end = f.end;
-            stands = f.stands;
-            ranged = f.ranged;
-            fits = f.fits;
-            room = layers_fit a.ready so f.room long;
-          };
+          chain = chain_of m;
+          fixed = fixed a.ready so e;
+          few = variables_few a.ready so;
+          tree = get_or (paths_of body) number (next always);
+          end = f.end;
+          stands = f.stands;
+          ranged = f.ranged;
+          fits = f.fits;
+          room = layers_fit a.ready so f.room long;
           small = f.small;
         }
 
@@ -95,7 +97,7 @@ module _ {m : Model} {s : Sentence} {g : Setting} {tuple : List ℕ} {number : �
     unfolding numbered
     counted_so {k = k} done index b =
         let c = chain_of m in
-        let f = found place in
+        let f = found in
         let all = done.each c (get_or (paths_of body) number (next always)) f.end (fixed a.ready so e) f.stands f.fits in
         let same = (one_sentence b a.ready.read.sentence).1 in
         let path = ap (λ (x : Formula). numbered x number) same in (

@@ -2,31 +2,22 @@
 use Prim.Native.Nat.{ℕ}
 use mathlib.Core.Bool.{Bool}
 use mathlib.Core.List.{List}
-use mathlib.Core.Path.{◌≡◌, sym, ap, ap₂, ◌∙◌}
-use native.Mathlib.Omega.{arith}
+use mathlib.Core.Path.{◌≡◌, sym, ap₂, ◌∙◌}
 use lib.ListN.{length}
-use Rattle.refusal.proofs.Ensuring.{one_result}
+use Rattle.refusal.proofs.Ensuring.{one_result, answer_told}
 use Rattle.model.specs.Layout.{fields_of}
 use Rattle.meaning.specs.Tree.{Formula}
 use Rattle.meaning.specs.Meaning.{numerator, denominator}
 use Rattle.trees.proofs.Once.{sentence_once}
 use Rattle.chain.specs.Of.{chain_of}
 use Rattle.question.proofs.Cleared.{cleared_once}
-use Rattle.numerator.specs.declared.Answer.{Answer}
-use Rattle.numerator.specs.declared.Answer.TheVariants.{Counted, Refused}
-use Rattle.numerator.specs.Contract.{numerator_reply, numbered, Counts, NumeratorEnsures}
-
--- a reply tells its answer
-pub reply_told : (a b : Answer) → numerator_reply a ≡ numerator_reply b → a ≡ b
-reply_told (Counted t u) (Counted t' u') e =
-    let same : ◌≡◌ {A = ℕ × ℕ} (t, u) (t', u') = cc e in
-    ap (λ (x : ℕ × ℕ). Counted x.0 x.1) same
-reply_told (Counted t u) (Refused n) e = let z : ◌≡◌ {A = ℕ} 0 1 = cc in absurd (omega arith)
-reply_told (Refused n) (Counted t u) e = let z : ◌≡◌ {A = ℕ} 0 1 = cc in absurd (omega arith)
-reply_told (Refused n) (Refused m) e = ap Refused (cc e)
+use Rattle.std.specs.Prelude.{Result}
+use Rattle.refusal.specs.declared.Refusal.{Refusal}
+use Rattle.numerator.specs.declared.Ratio.{Ratio}
+use Rattle.numerator.specs.Contract.{numbered, Counts, NumeratorEnsures}
 
 -- the right values are one pair, whatever the area
-pub one_value : {file text tuple before before' : List ℕ} {number : ℕ} (v v' : ℕ × ℕ) (l l' : List ℕ) →
+pub one_value : {file text tuple before before' : List ℕ} {number : ℕ} (v v' : Ratio) (l l' : List ℕ) →
     Counts file text tuple number before v l → Counts file text tuple number before' v' l' → v ≡ v'
 one_value {file} {tuple = tuple} {number = number} v v' l l' x y =
     let one = sentence_once x.sentence.body y.sentence.body x.sentence.spelled y.sentence.spelled in
@@ -34,18 +25,18 @@ one_value {file} {tuple = tuple} {number = number} v v' l l' x y =
     one.1 in
     let bottom = ap₂ (λ (ps : List Bool) (h : Formula). denominator (numbered h number) (fields_of file).d (length ps)) one.0
     one.1 in
-    ap₂ (λ (a b : ℕ). (a, b)) (x.top ∙ top ∙ sym y.top) (x.bottom ∙ bottom ∙ sym y.bottom)
+    ap₂ (λ (a b : ℕ). record { numerator = a; denominator = b }) (x.top ∙ top ∙ sym y.top) (x.bottom ∙ bottom ∙ sym y.bottom)
 
 -- what is right is one
-one_right : {file text tuple before : List ℕ} {number : ℕ} (v v' : ℕ × ℕ) (l l' : List ℕ) → Counts file text tuple number before v l →
+one_right : {file text tuple before : List ℕ} {number : ℕ} (v v' : Ratio) (l l' : List ℕ) → Counts file text tuple number before v l →
     Counts file text tuple number before v' l' → (v ≡ v') × (l ≡ l')
 one_right {file} {before = before} v v' l l' x y =
     (one_value v v' l l' x y, cleared_once file before x.sentence y.sentence x.left ∙ sym y.left)
 
 -- any two results that the contract allows are equal
-pub one_numerator : {file text tuple before after after' : List ℕ} {number : ℕ} {a b : Answer} →
+pub one_numerator : {file text tuple before after after' : List ℕ} {number : ℕ} {a b : Result Ratio Refusal} →
     NumeratorEnsures file text tuple number before a after →
     NumeratorEnsures file text tuple number before b after' → (a ≡ b) × (after ≡ after')
 one_numerator {a = a} {b} x y =
     let one = one_result one_right x.ensured y.ensured in
-    (reply_told a b one.0, one.1)
+    (answer_told a b one.0, one.1)

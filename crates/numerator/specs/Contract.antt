@@ -1,20 +1,15 @@
 -- Document 01, 'Calls and refusal numbers', for numerator: its rows, and what the call answers and leaves.
-use Rattle.std.specs.Prelude.{ℕ, ◌≤◌, false, List, ◌≡◌, length, get_or}
+use Rattle.std.specs.Prelude.{ℕ, ◌≤◌, false, List, ◌≡◌, length, get_or, Result}
 use Rattle.refusal.specs.Rows.{OneLast}
-use Rattle.refusal.specs.Answers.{Reply, gives, refuses, Ensured}
+use Rattle.refusal.specs.declared.Refusal.{Refusal}
+use Rattle.refusal.specs.Answers.{reply_of, Ensured}
 use Rattle.model.specs.Layout.{fields_of}
 use Rattle.meaning.specs.Tree.{Formula, always, PathFormula, next, paths_of}
 use Rattle.meaning.specs.Meaning.{numerator, denominator}
 use Rattle.chain.specs.Of.{chain_of}
 use Rattle.paths.specs.Tuples.{members_below}
 use Rattle.question.specs.Contract.{QuestionRow, SentenceOf, needed, AreaShort, cleared}
-use Rattle.numerator.specs.declared.Answer.{Answer}
-use Rattle.numerator.specs.declared.Answer.TheVariants.{Counted, Refused}
-
--- the document's words for an answer: the numerator and the denominator, or the number of a refusal
-abbrev pub numerator_reply : Answer → Reply (ℕ × ℕ)
-numerator_reply (Counted top bottom) = gives (top, bottom)
-numerator_reply (Refused number) = refuses number
+use Rattle.numerator.specs.declared.Ratio.{Ratio}
 
 -- the path formula with a number, counted from 0 in written order (where there is none, row 15 applies)
 unfoldable pub numbered : Formula → ℕ → PathFormula
@@ -34,14 +29,15 @@ NumeratorRow file text tuple path room = OneLast (AskedRow file text tuple path)
 
 -- the correct result of numerator: the numerator of the path formula at the tuple, and its denominator; the numbers of the area that
 -- it needs are zero afterwards
-pub record Counts (file text tuple : List ℕ) (path : ℕ) (before : List ℕ) (values : ℕ × ℕ) (after : List ℕ) : Type 0 where
+pub record Counts (file text tuple : List ℕ) (path : ℕ) (before : List ℕ) (values : Ratio) (after : List ℕ) : Type 0 where
   pub sentence : SentenceOf text
-  pub top : values.0 ≡ numerator (numbered sentence.body path) (chain_of (fields_of file)) (length sentence.prefix) tuple
-  pub bottom : values.1 ≡ denominator (numbered sentence.body path) (fields_of file).d (length sentence.prefix)
+  pub top : values.numerator ≡ numerator (numbered sentence.body path) (chain_of (fields_of file)) (length sentence.prefix) tuple
+  pub bottom : values.denominator ≡ denominator (numbered sentence.body path) (fields_of file).d (length sentence.prefix)
   pub left : after ≡ cleared (needed file sentence) before
 
 -- what numerator ensures of the model file, the sentence text, the tuple, the path formula's number, the work area before and
 -- after, and what it answers
-pub record NumeratorEnsures (file text tuple : List ℕ) (path : ℕ) (before : List ℕ) (answer : Answer) (after : List ℕ) : Type 0 where
+pub record NumeratorEnsures (file text tuple : List ℕ) (path : ℕ) (before : List ℕ) (answer : Result Ratio Refusal) (after : List ℕ) :
+    Type 0 where
   pub ensured : Ensured (NumeratorRow file text tuple path (length before)) (Counts file text tuple path before) before
-      (numerator_reply answer) after
+      (reply_of answer) after

@@ -26,5 +26,5 @@ pub record Right (m : Model) (s : Sentence) (tuple : List ℕ) (number : ℕ) (r
 -- the numerator and the denominator, of whatever text the sentence is read from
 pub record CountedSo (m : Model) (s : Sentence) (tuple : List ℕ) (number : ℕ) (r : Ratio) : Type 0 where
   pub each : (text : List ℕ) (b : TextOfSentence text s) →
-      (r.top ≡ numerator (numbered b.body number) (chain_of m) s.letters tuple) ×
-      (r.bottom ≡ denominator (numbered b.body number) m.d s.letters)
+      (r.numerator ≡ numerator (numbered b.body number) (chain_of m) s.letters tuple) ×
+      (r.denominator ≡ denominator (numbered b.body number) m.d s.letters)

@@ -11,80 +11,69 @@ ghost use Rattle.numerator.specs.Working.{Asked, Right, CountedSo};
 use chain::filled_rows;
 use evaluate::nodes::path;
 use layers::plain::zero;
-use model::Model;
+use path_steps::Evaluation;
 use paths::{path_place, tuple_place, tuple_right};
-use question::{question_of, setting_of};
-use sentence::Sentence;
-
-// What numerator answers.
-#[derive(Clone, Copy)]
-pub enum Answer {
-    Counted { numerator: u64, denominator: u64 },
-    Refused(u8),
-}
+use question::{Question, question_of};
+use refusal::Refusal;
 
 // A numerator and its denominator.
 #[derive(Clone, Copy)]
 pub struct Ratio {
-    pub top: u64,
-    pub bottom: u64,
+    pub numerator: u64,
+    pub denominator: u64,
 }
 
 // Whether row 15 does not apply: the tuple has n members, each below N, and there is a path formula with the number.
-fn asks_right(m: Model, s: Sentence, tuple: &[u8], number: usize) -> bool
-    requires { Ready m s }
-    ensures { Right m s tuple.now number result }
+fn asks_right(q: &Question, tuple: &[u8], number: usize) -> bool
+    requires { Ready q.now.model q.now.sentence }
+    ensures { Right q.now.model q.now.sentence tuple.now number result }
 {
-    let nodes = s.nodes;
-    let count = s.count;
-    let at = path_place(nodes, count, number);
-    let right = tuple_right(tuple, s.letters, m.n as usize);
-    right & (at < count)
+    let at = path_place(&q.sentence.nodes[..q.sentence.count], number);
+    tuple_right(tuple, q.sentence.letters, q.model.n as usize) & at.is_some()
 }
 
 // The numerator of the path formula with the number at the tuple, and its denominator: the numerators at all tuples are put
 // into the first layer of the area.
-fn counted(m: Model, s: Sentence, tuple: &[u8], number: usize, area: &mut [u64]) -> Ratio
-    requires { Asked m s tuple.now number × (length area.old ≡ area_needed (chain_of m) s.letters) }
-    ensures { CountedSo m s tuple.now number result }
+fn counted(q: &Question, tuple: &[u8], number: usize, area: &mut [u64]) -> Ratio
+    requires { Asked q.now.model q.now.sentence tuple.now number ×
+        (length area.old ≡ area_needed (chain_of q.now.model) q.now.sentence.letters) }
+    ensures { CountedSo q.now.model q.now.sentence tuple.now number result }
 {
-    let g = setting_of(m, s);
-    let nodes = s.nodes;
-    let masks = m.masks;
-    let rows = filled_rows(m);
-    let at = path_place(nodes, s.count, number);
-    let valued = path(nodes, g, &masks, &rows, at, area);
-    let k = tuple_place(tuple, g.states);
+    let over = Evaluation {
+        nodes: &q.sentence.nodes,
+        setting: q.setting(),
+        masks: &q.model.masks,
+        rows: &filled_rows(&q.model),
+    };
+    let at = path_place(&q.sentence.nodes[..q.sentence.count], number).unwrap();
+    let valued = path(&over, at, area);
+    let k = tuple_place(tuple, over.setting.states);
     Ratio {
-        top: area[k],
-        bottom: valued.bottom,
+        numerator: area[k],
+        denominator: valued.bottom,
     }
 }
 
 // Numerator: the numerator and the denominator of a path formula at a tuple, or the smallest number of a row that applies, but 1 only
 // where no other does.
-pub fn numerator(file: &[u8], text: &[u8], tuple: &[u8], number: usize, work: &mut [u64]) -> Answer
+pub fn numerator(
+    file: &[u8],
+    text: &[u8],
+    tuple: &[u8],
+    number: usize,
+    work: &mut [u64],
+) -> Result<Ratio, Refusal>
     ensures { NumeratorEnsures file.now text.now tuple.now number work.old result
         work.new }
 {
-    let asked = question_of(file, text);
-    let first = asked.number;
-    if 0 < first {
-        return Answer::Refused(first);
+    let asked = question_of(file, text)?;
+    if !asks_right(&asked, tuple, number) {
+        return Err(Refusal::Asked);
     }
-    let model = asked.model;
-    let sentence = asked.sentence;
-    if !asks_right(model, sentence, tuple, number) {
-        return Answer::Refused(15);
+    if work.len() < asked.area {
+        return Err(Refusal::Area);
     }
-    let area = asked.area;
-    if work.len() < area {
-        return Answer::Refused(1);
-    }
-    let ratio = counted(model, sentence, tuple, number, &mut work[..area]);
-    zero(area, work);
-    Answer::Counted {
-        numerator: ratio.top,
-        denominator: ratio.bottom,
-    }
+    let ratio = counted(&asked, tuple, number, &mut work[..asked.area]);
+    zero(asked.area, work);
+    Ok(ratio)
 }

@@ -2,19 +2,19 @@
 --
 -- The path that stands at the places at..end, from the truth of its formulas.
 use Rattle.std.specs.Prelude.{ℕ, ◌*◌, ◌^◌, ◌≤◌, List, ◌≡◌, take}
-use Rattle.sentence.specs.declared.Slot.{Slot}
+use Rattle.sentence.specs.declared.Node.{Node}
 use Rattle.meaning.specs.Named.{Some, count}
 use Rattle.meaning.specs.Size.{size_limit}
 use Rattle.steps.specs.Steps.{StepFits, Stepped}
 use Rattle.untils.specs.Untils.{UntilFits, UntilRepeated}
 use Rattle.names.specs.Names.{names_between}
-use Rattle.path_steps.specs.declared.Setting.{Setting}
+use Rattle.layers.specs.declared.Setting.{Setting}
 
 -- the variables that step: those that its nodes name
-abbrev pub named_at : List Slot → Setting → (at end : ℕ) → Some
+abbrev pub named_at : List Node → Setting → (at end : ℕ) → Some
 named_at nodes g at end = take g.variables (names_between nodes at end)
 
-module _ (nodes : List Slot) (g : Setting) (rows : List (List ℕ)) where
+module _ (nodes : List Node) (g : Setting) (rows : List (List ℕ)) where
   -- what a next asks: its denominator is at most 2^62
   pub record NextFits (at end : ℕ) (w : List ℕ) : Type 0 where
     pub forward : at ≤ end

@@ -1,61 +1,35 @@
 -- A tuple read from the front, member by member: whether each is a state, and the tuple's number. Both go by what is left of
 -- the tuple.
 use Prim.Native.Nat.{ℕ, zero, suc, ◌+◌, ◌*◌, ◌^◌, ◌≤◌, ◌<◌}
-use mathlib.Core.Bool.{Bool, true, false, ◌&&◌}
+use mathlib.Core.Bool.{Bool, true, ◌&&◌}
 use mathlib.Core.List.{List, [], ◌∷◌}
 use mathlib.Core.Path.{◌≡◌, refl, sym, ap, subst, ◌∙◌}
 use native.Mathlib.Nat.{pow-zero, pow-succ', pow-le-pow_left, pow-le-pow_right, mul-le-mul_left}
-use native.Mathlib.Numerals.{add-one}
 use native.Mathlib.Omega.{arith}
-use mir.Syntax.{w64}
-use mir.Val.{Fits}
 use borrow.Author.Tests.{ltb-true, eqb-true}
 use lib.Dec.{ltb, eqb}
 use lib.ListN.{length, get_or, drop, drop_of_length-le}
-use lib.Seq.{drop-cons}
+use mir.Syntax.{w64}
+use mir.Val.{Fits}
+use Rattle.std.proofs.lemmas.List.{drop_more}
+use Rattle.std.specs.List.{list_all}
 use Rattle.counting.proofs.Laws.{left_of, right_of}
-use Rattle.layers.specs.Layers.{Layer}
-use Rattle.layers.specs.Held.{most_states, most_variables}
-use Rattle.layers.proofs.Places.{pow_some}
 use Rattle.meaning.specs.Lists.{every, nothing, further}
 use Rattle.meaning.specs.Chain.{Tuple, Inside}
 use Rattle.meaning.proofs.Numbers.{number_of, tuple_of, number_below, tuple_number}
+use Rattle.layers.specs.Layers.{Layer}
+use Rattle.layers.specs.Held.{most_states, most_variables}
+use Rattle.layers.proofs.Places.{pow_some}
 use Rattle.paths.specs.Tuples.{members_below, tuple_right}
 use Rattle.paths.specs.Places.{TupleReady, TuplePlace}
 
--- what is left at place i: a member and the rest
-left_more : (s : List ℕ) (i : ℕ) → i < length s → drop i s ≡ get_or s i 0 ∷ drop (i + 1) s
-left_more s i l = drop-cons s i 0 l ∙ ap (λ (k : ℕ). get_or s i 0 ∷ drop k s) (sym (add-one i))
-
 -- ---- whether each member is a state
 
--- the first i members are states, so that those left decide
-pub record MembersTested (N : ℕ) (s : List ℕ) (i : ℕ) : Type 0 where
-  pub rest : members_below N (drop i s) ≡ members_below N s
-
-module _ {N : ℕ} {s : List ℕ} where
-  -- before the first turn
-  pub tested_none : MembersTested N s 0
-  tested_none = record { rest = refl }
-
-  turn : {i : ℕ} → MembersTested N s i → i < length s → (t : Bool) → ltb (get_or s i 0) N ≡ t →
-      (t && members_below N (drop (i + 1) s)) ≡ members_below N s
-  unfolding every
-  turn {i} h l t e =
-      ap (λ (b : Bool). b && members_below N (drop (i + 1) s)) (sym e) ∙ ap (members_below N) (sym (left_more s i l)) ∙ h.rest
-
-  -- one member more is a state
-  pub tested_next : {i : ℕ} → MembersTested N s i → i < length s → ltb (get_or s i 0) N ≡ true → MembersTested N s (i + 1)
-  tested_next {i} h l e = record { rest = turn h l true e }
-
-  -- a member that is no state decides the test
-  pub tested_not : {i : ℕ} → MembersTested N s i → i < length s → ltb (get_or s i 0) N ≡ false → false ≡ members_below N s
-  tested_not h l e = turn h l false e
-
-  -- after the last turn every member is a state
-  pub tested_all : {i : ℕ} → MembersTested N s i → length s ≤ i → true ≡ members_below N s
-  unfolding every
-  tested_all {i} h done = ap (members_below N) (sym (drop_of_length-le s done)) ∙ h.rest
+-- the library's test of every element is the meaning's
+pub every_listed : (test : ℕ → Bool) (s : List ℕ) → list_all test s ≡ every test s
+unfolding every
+every_listed test [] = refl
+every_listed test (x ∷ s) = ap (λ (b : Bool). test x && b) (every_listed test s)
 
 -- so the tuple consists of states
 pub members_inside : (N : ℕ) (s : List ℕ) → members_below N s ≡ true → Inside N (length s) s
@@ -75,10 +49,6 @@ some_state nothing l = absurd (omega arith)
 some_state (further h i) l = omega arith
 
 module _ {N : ℕ} {s : List ℕ} where
-  -- before the first turn
-  pub counted_none : Counted N s 0 0
-  counted_none = record { number = omega arith }
-
   -- one member more
   pub counted_next : {i place : ℕ} → Counted N s i place → i < length s → Counted N s (i + 1) (place * N + get_or s i 0)
   unfolding number_of
@@ -86,7 +56,7 @@ module _ {N : ℕ} {s : List ℕ} where
       let x = get_or s i 0 in
       let left = drop (i + 1) s in
       let now : place * N ^ suc (length left) + (x * N ^ length left + number_of N left) ≡ number_of N s =
-      subst (λ (r : List ℕ). place * N ^ length r + number_of N r ≡ number_of N s) (left_more s i l) h.number in
+      subst (λ (r : List ℕ). place * N ^ length r + number_of N r ≡ number_of N s) (drop_more s i 0 l) h.number in
       let power : place * N ^ suc (length left) ≡ place * (N * N ^ length left) = ap (λ (k : ℕ). place * k) (pow-succ' N (length left)) in
       record { number = omega arith }
 

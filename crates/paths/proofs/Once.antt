@@ -6,7 +6,8 @@ use mathlib.Core.Path.{◌≡◌, refl, sym, ap, ◌∙◌}
 use native.Mathlib.Decide.{dec_lt}
 use native.Mathlib.Omega.{arith}
 use lib.ListN.{length}
-use Rattle.sentence.specs.declared.Slot.{Slot}
+use Rattle.std.specs.Prelude.{Option, Some}
+use Rattle.sentence.specs.declared.Node.{Node}
 use Rattle.meaning.proofs.Numbers.{number_of, number_tuple}
 use Rattle.trees.specs.Listed.{starts_path}
 use Rattle.trees.specs.Standing.{node_at}
@@ -14,7 +15,7 @@ use Rattle.trees.specs.Numbered.{paths_below}
 use Rattle.trees.proofs.Numbered.{below_more}
 use Rattle.paths.specs.Places.{PathPlace, here, none, TuplePlace}
 
-module _ (nodes : List Slot) where
+module _ (nodes : List Node) where
   grows : (d p : ℕ) → paths_below nodes p ≤ paths_below nodes (p + d)
   grows zero p =
       let same : paths_below nodes (p + 0) ≡ paths_below nodes p = ap (paths_below nodes) (omega arith) in
@@ -34,15 +35,15 @@ module _ (nodes : List Slot) where
       omega arith
 
 -- the contract of `path_place` allows one place
-pub path_place_once : {nodes : List Slot} {count path r q : ℕ} → PathPlace nodes count path r → PathPlace nodes count path q → r ≡ q
-path_place_once {nodes} {count} {path} {r} {q} (here l s e) (here m t g) = by (dec_lt r q) (dec_lt q r)
+pub path_place_once : {nodes : List Node} {path : ℕ} {r q : Option ℕ} → PathPlace nodes path r → PathPlace nodes path q → r ≡ q
+path_place_once {nodes} (here {at = r} l s e) (here {at = q} m t g) = by (dec_lt r q) (dec_lt q r)
   where
-    by : Dec (r < q) → Dec (q < r) → r ≡ q
+    by : Dec (r < q) → Dec (q < r) → Some r ≡ Some q
     by (yes y) other = let h = past nodes r q y s in absurd (omega arith)
     by (no n) (yes y) = let h = past nodes q r y t in absurd (omega arith)
-    by (no n) (no o) = omega arith
-path_place_once {nodes} {count} {path} {r} (here l s e) (none g) = let h = past nodes r count l s in absurd (omega arith)
-path_place_once {nodes} {count} {path} {q = q} (none g) (here l s e) = let h = past nodes q count l s in absurd (omega arith)
+    by (no n) (no o) = ap (λ (k : ℕ). Some k) (omega arith)
+path_place_once {nodes} (here {at = r} l s e) (none g) = let h = past nodes r (length nodes) l s in absurd (omega arith)
+path_place_once {nodes} (none g) (here {at = q} l s e) = let h = past nodes q (length nodes) l s in absurd (omega arith)
 path_place_once (none g) (none h) = refl
 
 -- and that of `tuple_place` one number

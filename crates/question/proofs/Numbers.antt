@@ -1,18 +1,12 @@
 -- The smallest number that applies, stage by stage: what is left of the rows where those before do not apply.
-use Prim.Native.Nat.{ℕ, zero, suc, ◌+◌, ◌*◌, ◌^◌, ◌≤◌, ◌<◌}
-use mathlib.Core.Bool.{Bool, true, false, ◌&&◌}
+use Prim.Native.Nat.{ℕ, zero, suc, ◌^◌, ◌≤◌}
 use mathlib.Core.List.{List}
-use mathlib.Core.Path.{◌≡◌, refl, sym, ap, subst, ◌∙◌}
-use native.Mathlib.Nat.{mul-le-mul, mul_comm, pow-succ'}
-use native.Mathlib.Numerals.{add-one}
+use mathlib.Core.Path.{◌≡◌, subst}
 use native.Mathlib.Omega.{arith}
-use lib.ListN.{length, get_or, take, drop, drop_of_length-le}
-use lib.Seq.{drop-cons, get_or-take, length-take-le}
 use Rattle.refusal.specs.Rows.{Applies, here, later, Decided, by_row, by_none, Given}
 use Rattle.model.specs.Contract.{file_rows, file_number}
 use Rattle.model.proofs.Theorems.{read_smallest}
 use Rattle.sentence_reader.specs.Contract.{ReadRow, outside, long, range, many}
-use Rattle.meaning.specs.Lists.{every}
 use Rattle.question.specs.Contract.{QuestionRow, model, sentence, labels, size, tuples}
 
 -- the numbers of a file's rows, and of a text's
@@ -69,60 +63,10 @@ module _ {file text : List ℕ} where
 
 -- ---- T, a power that stays small
 
-pub power_next : (p s i : ℕ) → p ≡ s ^ i → p * s ≡ s ^ (i + 1)
-power_next p s i e = ap (λ (x : ℕ). x * s) e ∙ mul_comm (s ^ i) s ∙ sym (pow-succ' s i) ∙ ap (λ (k : ℕ). s ^ k) (sym (add-one i))
-
-powers_small : (k : ℕ) → k ≤ 4 → 32 ^ k ≤ 1048576
+pub powers_small : (k : ℕ) → k ≤ 4 → 32 ^ k ≤ 1048576
 powers_small zero h = omega arith
 powers_small (suc zero) h = omega arith
 powers_small (suc (suc zero)) h = omega arith
 powers_small (suc (suc (suc zero))) h = omega arith
 powers_small (suc (suc (suc (suc zero)))) h = omega arith
 powers_small (suc (suc (suc (suc (suc k))))) h = absurd (omega arith)
-
-pub power_small : (p s i : ℕ) → p ≤ 32 ^ i → s ≤ 32 → i < 4 → (p * s ≤ 32 ^ (i + 1)) × (p * s ≤ 1048576)
-power_small p s i low few l =
-    let next : 32 ^ i * 32 ≡ 32 ^ (i + 1) = power_next (32 ^ i) 32 i refl in
-    let whole : p * s ≤ 32 ^ i * 32 = mul-le-mul low few in
-    let up_to : i + 1 ≤ 4 = omega arith in
-    let four = powers_small (i + 1) up_to in
-    (omega (arith, next, whole), omega (arith, next, whole, four))
-
--- ---- a walk over the first n members that leaves at the first that fails: those that are left decide
-module _ {A : Type 0} (test : A → Bool) (l : List A) (n : ℕ) where
-  pub record Left (i : ℕ) : Type 0 where
-    pub up_to : i ≤ n
-    pub same : every test (drop i (take n l)) ≡ every test (take n l)
-
-pub left_none : {A : Type 0} {test : A → Bool} {l : List A} {n : ℕ} → Left test l n 0
-left_none = record { up_to = omega arith; same = refl }
-
--- what is left, one member at a time
-begins : {A : Type 0} (test : A → Bool) (l : List A) (n i : ℕ) (d : A) → i < n → n ≤ length l →
-    every test (drop i (take n l)) ≡ (test (get_or l i d) && every test (drop (i + 1) (take n l)))
-unfolding every
-begins test l n i d h room =
-    let long = length-take-le n l room in
-    ap (every test) (drop-cons (take n l) i d (omega arith)) ∙
-    ap (λ x. test x && every test (drop (suc i) (take n l))) (get_or-take n l i d h) ∙
-    ap (λ (k : ℕ). test (get_or l i d) && every test (drop k (take n l))) (sym (add-one i))
-
-pub left_next : {A : Type 0} {test : A → Bool} {l : List A} {n : ℕ} {i : ℕ} (d : A) → Left test l n i → i < n → n ≤ length l →
-    test (get_or l i d) ≡ true → Left test l n (i + 1)
-left_next {test = test} {l} {n} {i} d left h room e = record {
-  up_to = omega arith;
-  same = sym (begins test l n i d h room ∙ ap (λ (b : Bool). b && every test (drop (i + 1) (take n l))) e) ∙ left.same;
-}
-
-pub left_failed : {A : Type 0} {test : A → Bool} {l : List A} {n : ℕ} {i : ℕ} (d : A) → Left test l n i → i < n → n ≤ length l →
-    test (get_or l i d) ≡ false → false ≡ every test (take n l)
-left_failed {test = test} {l} {n} {i} d left h room e =
-    sym (begins test l n i d h room ∙ ap (λ (b : Bool). b && every test (drop (i + 1) (take n l))) e) ∙ left.same
-
-pub left_all : {A : Type 0} {test : A → Bool} {l : List A} {n : ℕ} {i : ℕ} → Left test l n i → n ≤ i → n ≤ length l →
-    true ≡ every test (take n l)
-unfolding every
-left_all {test = test} {l} {n} {i} left h room =
-    let long = length-take-le n l room in
-    let past : length (take n l) ≤ i = omega arith in
-    sym (ap (every test) (drop_of_length-le (take n l) past)) ∙ left.same

@@ -1,5 +1,5 @@
 -- A file and a text to which none of the question's rows applies: the model and the sentence that were read are ready for evaluation.
-use Prim.Native.Nat.{ℕ, zero, suc, ◌*◌, ◌^◌, ◌≤◌, ◌<◌}
+use Prim.Native.Nat.{ℕ, ◌*◌, ◌^◌, ◌≤◌, ◌<◌}
 use mathlib.Core.Bool.{Bool, true, false}
 use mathlib.Core.List.{List}
 use mathlib.Core.Path.{◌≡◌, refl, sym, ap, ap₂, subst, ◌∙◌}
@@ -7,22 +7,17 @@ use native.Mathlib.Decide.{dec_lt}
 use native.Mathlib.Nat.{mul-le-mul_right}
 use native.Mathlib.Omega.{arith}
 use lib.ListN.{length}
-use Rattle.refusal.specs.Answers.{number_in, reply_of}
-use Rattle.refusal.proofs.Ensuring.{right_of}
 use Rattle.model.specs.declared.Model.{Model}
-use Rattle.model.specs.declared.ModelRead as Loaded
 use Rattle.model.specs.Layout.{fields_of}
-use Rattle.model.specs.Contract.{file_number, ReadModelEnsures}
 use Rattle.sentence.specs.declared.Sentence.{Sentence}
-use Rattle.sentence_reader.specs.declared.SentenceRead as Parsed
 use Rattle.sentence.specs.Grammar.{some_out_of_range}
-use Rattle.sentence_reader.specs.Contract.{ReadSentenceEnsures, range}
+use Rattle.sentence_reader.specs.Contract.{range}
 use Rattle.sentence.specs.Record.{record_of}
 use Rattle.meaning.specs.Chain.{Sound, tuple_count}
 use Rattle.meaning.specs.Size.{exceeds}
 use Rattle.counting.specs.Entries.{cell}
 use Rattle.layers.specs.Held.{LayerSizes}
-use Rattle.path_steps.specs.declared.Setting.{Setting}
+use Rattle.layers.specs.declared.Setting.{Setting}
 use Rattle.evaluate.specs.Evaluation.{Fixed}
 use Rattle.trees.specs.Listed.{formula_nodes}
 use Rattle.trees.specs.Ranged.{Ranged}
@@ -31,58 +26,33 @@ use Rattle.chain.specs.Of.{chain_of, filled_rows}
 use Rattle.chain.proofs.Filling.{filled_cell}
 use Rattle.chain.proofs.Accepted as accepted
 use Rattle.question.specs.declared.Question.{Question}
-use Rattle.question.specs.Contract.{QuestionRow, sentence, size, tuples, SentenceOf, area_needed, needed, AreaShort}
+use Rattle.question.specs.Contract.{QuestionRow, size, tuples, SentenceOf, area_needed, needed, AreaShort}
 use Rattle.question.specs.Working.{FileOfModel, TextOfSentence, Ready, Answerable, SettingOf}
-use Rattle.question.proofs.Numbers.{least_model}
-use Rattle.question.proofs.Early.{file_read, text_read}
 use Rattle.question.proofs.Pair.{states_few, letters_few, letters_length, own_sentence}
 use Rattle.question.proofs.Stages.{size_same, tuples_same, one}
 
-module _ {file text : List ℕ} (none : (n : ℕ) → QuestionRow file text n → ⊥) where
-  -- the file is accepted
-  pub file_free : file_number file ≡ 0
-  file_free = by (file_number file) refl
-    where
-      by : (n : ℕ) → file_number file ≡ n → n ≡ 0
-      by zero e = refl
-      by (suc n) e = absurd (none (suc n) (least_model e).0)
+-- where no row applies the sentence has few enough tuples,
+pub tuples_few : {file text : List ℕ} → ((n : ℕ) → QuestionRow file text n → ⊥) → (s : SentenceOf text) →
+    tuple_count (chain_of (fields_of file)) (length s.prefix) ≤ 1024
+tuples_few {file} none s = by (dec_lt 1024 (tuple_count (chain_of (fields_of file)) (length s.prefix)))
+  where
+    by : Dec (1024 < tuple_count (chain_of (fields_of file)) (length s.prefix)) →
+        tuple_count (chain_of (fields_of file)) (length s.prefix) ≤ 1024
+    by (yes h) = absurd (none 11 (tuples s h))
+    by (no h) = omega arith
 
-  text_free : {s : Parsed.SentenceRead} → ReadSentenceEnsures text s → number_in (reply_of s.outcome) ≡ 0
-  text_free said = ap number_in (right_of (λ n row. none n (sentence row)) said.ensured).1
-
-  -- the sentence has few enough tuples
-  pub tuples_few : (s : SentenceOf text) → tuple_count (chain_of (fields_of file)) (length s.prefix) ≤ 1024
-  tuples_few s = by (dec_lt 1024 (tuple_count (chain_of (fields_of file)) (length s.prefix)))
-    where
-      by : Dec (1024 < tuple_count (chain_of (fields_of file)) (length s.prefix)) →
-          tuple_count (chain_of (fields_of file)) (length s.prefix) ≤ 1024
-      by (yes h) = absurd (none 11 (tuples s h))
-      by (no h) = omega arith
-
-  -- the readers' answers, where no row applies
-  pub model_of_read : {m : Loaded.ModelRead} → ReadModelEnsures file m → FileOfModel file m.model
-  model_of_read reads = file_read reads file_free
-
-  pub sentence_of_read : {s : Parsed.SentenceRead} → ReadSentenceEnsures text s → TextOfSentence text s.sentence
-  sentence_of_read said = text_read said (text_free said)
-
-  pub ready_of : {m : Loaded.ModelRead} {s : Parsed.SentenceRead} → ReadModelEnsures file m → ReadSentenceEnsures text s
-      → Ready m.model s.sentence
-  ready_of {m} {s} reads said = record {
-    read = record { file = file; text = text; model = a; sentence = b };
-    small = size_same a b ∙ fits (exceeds b.body (fields_of file).d (length b.prefix)) refl;
-    few = let t = tuples_same a b in let few = tuples_few (own_sentence b) in omega (arith, t, few);
-  }
-    where
-      a : FileOfModel file m.model
-      a = model_of_read reads
-
-      b : TextOfSentence text s.sentence
-      b = sentence_of_read said
-
-      fits : (t : Bool) → exceeds b.body (fields_of file).d (length b.prefix) ≡ t → t ≡ false
-      fits true e = absurd (none 10 (size (own_sentence b) e))
-      fits false e = refl
+-- and the model and the sentence that were read are ready
+pub ready_of : {file text : List ℕ} {m : Model} {s : Sentence} → ((n : ℕ) → QuestionRow file text n → ⊥) → FileOfModel file m →
+    TextOfSentence text s → Ready m s
+ready_of {file} {text} {m} {s} none a b = record {
+  read = record { file = file; text = text; model = a; sentence = b };
+  small = size_same a b ∙ fits (exceeds b.body (fields_of file).d (length b.prefix)) refl;
+  few = let t = tuples_same a b in let few = tuples_few none (own_sentence b) in omega (arith, t, few);
+}
+  where
+    fits : (t : Bool) → exceeds b.body (fields_of file).d (length b.prefix) ≡ t → t ≡ false
+    fits true e = absurd (none 10 (size (own_sentence b) e))
+    fits false e = refl
 
 -- a question to which no row applies
 module _ {file text : List ℕ} {q : Question} (y : Answerable file text q) where

@@ -1,9 +1,9 @@
 -- Of a file and a text that are accepted only rows 9, 10 and 11 are left; what each asks of the model and the sentence that
 -- were read.
 use Prim.Native.Nat.{ℕ, ◌^◌, ◌≤◌, ◌<◌}
-use mathlib.Core.Bool.{Bool, true, false, ◌&&◌, true≢false}
-use mathlib.Core.List.{List, [], ◌∷◌, map}
-use mathlib.Core.Path.{◌≡◌, refl, sym, ap, ap₂, subst, ◌∙◌}
+use mathlib.Core.Bool.{Bool, true, false, true≢false}
+use mathlib.Core.List.{List}
+use mathlib.Core.Path.{◌≡◌, sym, ap, ap₂, subst, ◌∙◌}
 use native.Mathlib.Omega.{arith}
 use lib.ListN.{length, take}
 use Rattle.refusal.specs.Rows.{Applies, Decided, by_row, by_none, Given}
@@ -11,8 +11,6 @@ use Rattle.model.specs.declared.Model.{Model}
 use Rattle.model.specs.Layout.{fields_of}
 use Rattle.model.specs.Contract.{file_rows, file_number}
 use Rattle.model.proofs.Theorems.{read_smallest}
-use Rattle.sentence.specs.declared.Node.{Node}
-use Rattle.sentence.specs.declared.Slot.{Slot}
 use Rattle.sentence.specs.declared.Sentence.{Sentence}
 use Rattle.sentence.specs.Record.{nodes_of}
 use Rattle.sentence.proofs.Records.{same_sentence}
@@ -36,17 +34,9 @@ none_of_file file e {n} a = by (subst (Given (file_rows file)) e (read_smallest 
     by (by_row b least) = let m = file_number_bounds file b in absurd (omega arith)
     by (by_none none) = none n a
 
--- a test of the nodes, by the places that hold them
-every_places : (test : Node → Bool) (l : List Slot) → every (λ (x : Slot). test x.node) l ≡ every test (map (λ (x : Slot). x.node) l)
-unfolding every
-every_places test [] = refl
-every_places test (x ∷ xs) = ap (λ (b : Bool). test x.node && b) (every_places test xs)
-
 module _ {file text : List ℕ} {m : Model} {s : Sentence} (a : FileOfModel file m) (b : TextOfSentence text s) where
-  pub labels_same : every (λ (x : Slot). label_right m.a x.node) (take s.count s.nodes) ≡ every (label_right (fields_of file).a)
-      (formula_nodes b.body)
+  pub labels_same : every (label_right m.a) (take s.count s.nodes) ≡ every (label_right (fields_of file).a) (formula_nodes b.body)
   labels_same =
-      every_places (label_right m.a) (take s.count s.nodes) ∙
       ap (λ (x : Sentence). every (label_right m.a) (nodes_of x)) b.fields ∙
       ap (every (label_right m.a)) (same_sentence b.prefix (formula_nodes b.body)).1 ∙
       ap (λ (x : Model). every (label_right x.a) (formula_nodes b.body)) a.fields

@@ -1,18 +1,18 @@
 -- Working: what the functions of this crate promise one another. Nothing here has to be believed.
-use Rattle.std.specs.Prelude.{ℕ, ◌^◌, ◌≤◌, Bool, false, List, ◌≡◌}
+use Rattle.std.specs.Prelude.{ℕ, ◌^◌, ◌≤◌, Bool, false, List, ◌≡◌, Result, Ok, Err}
+use Rattle.refusal.specs.declared.Refusal.{Refusal}
+use Rattle.refusal.specs.Answers.{number_in, number_of, reply_of}
 use Rattle.refusal.specs.Rows.{Decided}
 use Rattle.model.specs.declared.Model.{Model}
-use Rattle.model.specs.declared.ModelRead as Loaded
 use Rattle.model.specs.Layout.{fields_of}
-use Rattle.model.specs.Contract.{file_number, ReadModelEnsures}
+use Rattle.model.specs.Contract.{file_number}
 use Rattle.sentence.specs.declared.Sentence.{Sentence}
-use Rattle.sentence_reader.specs.declared.SentenceRead as Parsed
 use Rattle.sentence.specs.Grammar.{Spells}
-use Rattle.sentence_reader.specs.Contract.{ReadRow, ReadSentenceEnsures}
+use Rattle.sentence_reader.specs.Contract.{ReadRow}
 use Rattle.sentence.specs.Record.{record_of}
 use Rattle.meaning.specs.Tree.{Formula}
 use Rattle.meaning.specs.Size.{exceeds}
-use Rattle.path_steps.specs.declared.Setting.{Setting}
+use Rattle.layers.specs.declared.Setting.{Setting}
 use Rattle.trees.specs.Listed.{formula_nodes}
 use Rattle.chain.specs.Of.{chain_of}
 use Rattle.question.specs.declared.Question.{Question}
@@ -38,20 +38,10 @@ pub record BothRead (m : Model) (s : Sentence) : Type 0 where
   pub model : FileOfModel file m
   pub sentence : TextOfSentence text s
 
--- the number that the rows give, of whatever file and text m and s are read from
-pub record Late (m : Model) (s : Sentence) (number : ℕ) : Type 0 where
-  pub each : (file text : List ℕ) → FileOfModel file m → TextOfSentence text s → Decided (QuestionRow file text) number
-
--- what the two readers answered, to some file and some text
-pub record BothAnswered (m : Loaded.ModelRead) (s : Parsed.SentenceRead) : Type 0 where
-  pub file : List ℕ
-  pub text : List ℕ
-  pub model : ReadModelEnsures file m
-  pub sentence : ReadSentenceEnsures text s
-
--- the number that the rows give, of whatever file and text the readers were asked
-pub record FirstNumber (m : Loaded.ModelRead) (s : Parsed.SentenceRead) (number : ℕ) : Type 0 where
-  pub each : (file text : List ℕ) → ReadModelEnsures file m → ReadSentenceEnsures text s → Decided (QuestionRow file text) number
+-- what the rows give, of whatever file and text m and s are read from
+pub record Late (m : Model) (s : Sentence) (answer : Result Unit Refusal) : Type 0 where
+  pub each : (file text : List ℕ) → FileOfModel file m → TextOfSentence text s →
+      Decided (QuestionRow file text) (number_in (reply_of answer))
 
 -- none of the question's rows applies to the pair
 pub record Ready (m : Model) (s : Sentence) : Type 0 where
@@ -67,10 +57,10 @@ pub record Answerable (file text : List ℕ) (q : Question) : Type 0 where
   pub ready : Ready q.model q.sentence
   pub area : q.area ≡ area_needed (chain_of q.model) q.sentence.letters
 
--- the number that the rows give of the file and the text, and what is left to answer where that is 0
-pub record QuestionOf (file text : List ℕ) (q : Question) : Type 0 where
-  pub decided : Decided (QuestionRow file text) q.number
-  pub answerable : q.number ≤ 0 → Answerable file text q
+-- the refusal that the rows give of the file and the text, and where they give none what is left to answer
+abbrev pub QuestionOf : (file text : List ℕ) → Result Question Refusal → Type 0
+QuestionOf file text (Ok q) = Answerable file text q
+QuestionOf file text (Err refusal) = Decided (QuestionRow file text) (number_of refusal)
 
 -- the setting of the pair: N, n, T and D
 pub record SettingOf (m : Model) (s : Sentence) (g : Setting) : Type 0 where

@@ -2,19 +2,18 @@
 // share, how much of the work area is needed where none of them applies, and the setting that such a pair is evaluated in.
 #![tactic(auto)]
 
-ghost use Rattle.std.specs.Prelude.{◌≡◌, ◌^◌, ◌≤◌, take};
-ghost use Rattle.refusal.specs.Answers.{number_in, reply_of};
+ghost use Rattle.std.specs.Prelude.{◌≡◌, ◌^◌, ◌≤◌};
 ghost use Rattle.meaning.specs.Lists.{every};
 ghost use Rattle.chain.specs.Of.{chain_of};
 ghost use Rattle.question.specs.Contract.{label_right, area_needed};
-ghost use Rattle.question.specs.Working.{BothRead, Late, BothAnswered, FirstNumber, QuestionOf, Ready, SettingOf};
+ghost use Rattle.question.specs.Working.{BothRead, Late, QuestionOf, Ready, SettingOf};
 
-use model::{Model, ModelRead};
+use layers::Setting;
+use model::Model;
 use model_reader::read_model;
-use path_steps::Setting;
-use refusal::Outcome;
-use sentence::{Node, Sentence, Slot};
-use sentence_reader::{SentenceRead, read_sentence};
+use refusal::Refusal;
+use sentence::{Node, Sentence};
+use sentence_reader::read_sentence;
 use sizes::exceeds;
 
 // The most tuples.
@@ -28,26 +27,16 @@ fn label_right(node: Node, a: u32) -> bool
     ensures { result ≡ label_right a node }
 {
     match node {
-        Node::Label { label, variable: _ } => (label as u32) < a,
+        Node::Label { label, .. } => u32::from(label) < a,
         _ => true,
     }
 }
 
-// Whether every label letter of the first nodes is below A.
-fn labels_right(nodes: [Slot; 64], count: usize, a: u32) -> bool
-    requires { count ≤ 64 }
-    ensures { result ≡ every (λ s. label_right a s.node) (take count nodes) }
+// Whether every label letter of the nodes is below A.
+fn labels_right(nodes: &[Node], a: u32) -> bool
+    ensures { result ≡ every (label_right a) nodes.now }
 {
-    let mut i: usize = 0;
-    while i < count {
-        let slot = nodes[i];
-        let node = slot.node;
-        if !label_right(node, a) {
-            return false;
-        }
-        i += 1;
-    }
-    true
+    nodes.iter().all(|node| label_right(*node, a))
 }
 
 // T, the number of tuples: N to the power n.
@@ -55,117 +44,71 @@ fn tuple_count(states: usize, letters: usize) -> usize
     requires { (states ≤ 32) × (letters ≤ 4) }
     ensures { result ≡ states ^ letters }
 {
-    let mut product: usize = 1;
-    let mut i: usize = 0;
-    while i < letters {
-        product = product * states;
-        i += 1;
-    }
-    product
+    states.pow(letters as u32)
 }
 
-// The number that the rows give of a model and a sentence that were read: 9, 10 or 11, or 0.
-fn late_number(m: Model, s: Sentence) -> u8
-    requires { BothRead m s }
-    ensures { Late m s result }
+// The rows 9, 10 and 11, of a model and a sentence that were read.
+fn late_rows(m: &Model, s: &Sentence) -> Result<(), Refusal>
+    requires { BothRead m.now s.now }
+    ensures { Late m.now s.now result }
 {
-    let nodes = s.nodes;
-    if !labels_right(nodes, s.count, m.a) {
-        return 9;
+    if !labels_right(&s.nodes[..s.count], m.a) {
+        return Err(Refusal::Label);
     }
-    if exceeds(s, m.d as u64, s.letters) {
-        return 10;
+    if exceeds(&s.nodes, u64::from(m.d), s.letters) {
+        return Err(Refusal::Size);
     }
     if TUPLES < tuple_count(m.n as usize, s.letters) {
-        return 11;
+        return Err(Refusal::Tuples);
     }
-    0
-}
-
-// The number of what a reader answered, 0 where it is no refusal.
-fn number_of(outcome: Outcome) -> u8
-    ensures { result ≡ number_in (reply_of outcome) }
-{
-    match outcome {
-        Outcome::Done => 0,
-        Outcome::Refused(number) => number,
-    }
-}
-
-// The number that the rows 2 to 11 give of what the readers answered: the smallest that applies, or 0.
-fn first_number(m: ModelRead, s: SentenceRead) -> u8
-    requires { BothAnswered m s }
-    ensures { FirstNumber m s result }
-{
-    let loaded = m.outcome;
-    let of_model = number_of(loaded);
-    if 0 < of_model {
-        return of_model;
-    }
-    let said = s.outcome;
-    let of_sentence = number_of(said);
-    if 0 < of_sentence {
-        return of_sentence;
-    }
-    let model = m.model;
-    let sentence = s.sentence;
-    late_number(model, sentence)
+    Ok(())
 }
 
 // How many numbers of the work area a pair needs to which none of the rows applies: 8 × T.
-fn area_needed(m: Model, s: Sentence) -> usize
-    requires { Ready m s }
-    ensures { result ≡ area_needed (chain_of m) s.letters }
+fn area_needed(m: &Model, s: &Sentence) -> usize
+    requires { Ready m.now s.now }
+    ensures { result ≡ area_needed (chain_of m.now) s.now.letters }
 {
     LAYERS * tuple_count(m.n as usize, s.letters)
 }
 
-// A file and a text as the calls take them: the number that the rows 2 to 11 give, and where that is 0 the model, the sentence and how
-// many numbers of the work area they need.
+// A file and a text to which none of the rows 2 to 11 applies: the model, the sentence, and how many numbers of the work area they need.
+// That no row applies is said of a file and a text, which a ghost field does not hold: it stays a `requires` (`Ready`).
 #[derive(Clone, Copy)]
 pub struct Question {
-    pub number: u8,
     pub model: Model,
     pub sentence: Sentence,
     pub area: usize,
 }
 
-// What a file and a text ask.
-pub fn question_of(file: &[u8], text: &[u8]) -> Question
+// What a file and a text ask, or the refusal that the rows 2 to 11 give.
+pub fn question_of(file: &[u8], text: &[u8]) -> Result<Question, Refusal>
     ensures { QuestionOf file.now text.now result }
 {
-    let read = read_model(file);
-    let said = read_sentence(text);
-    let number = first_number(read, said);
-    let model = read.model;
-    let sentence = said.sentence;
-    if 0 < number {
-        return Question {
-            number: number,
-            model: model,
-            sentence: sentence,
-            area: 0,
-        };
-    }
-    Question {
-        number: 0,
-        model: model,
-        sentence: sentence,
-        area: area_needed(model, sentence),
-    }
+    let model = read_model(file)?;
+    let sentence = read_sentence(text)?;
+    late_rows(&model, &sentence)?;
+    let area = area_needed(&model, &sentence);
+    Ok(Question {
+        model,
+        sentence,
+        area,
+    })
 }
 
-// N, n, T and D of such a pair.
-pub fn setting_of(m: Model, s: Sentence) -> Setting
-    requires { Ready m s }
-    ensures { SettingOf m s result }
-{
-    let states = m.n as usize;
-    let letters = s.letters;
-    Setting {
-        states: states,
-        variables: letters,
-        tuples: tuple_count(states, letters),
-        d: m.d as u64,
+impl Question {
+    // N, n, T and D.
+    pub fn setting(&self) -> Setting
+        requires { Ready self.now.model self.now.sentence }
+        ensures { SettingOf self.now.model self.now.sentence result }
+    {
+        let states = self.model.n as usize;
+        let letters = self.sentence.letters;
+        Setting {
+            states,
+            variables: letters,
+            tuples: tuple_count(states, letters),
+            d: u64::from(self.model.d),
+        }
     }
 }

@@ -1,15 +1,15 @@
 -- What every call's contract leaves: one reply and one content of everything lent, with the number that its rows ask for.
-use Prim.Native.Nat.{ℕ, ◌≤◌, ◌<◌}
-use mathlib.Core.List.{List}
+use Prim.Native.Nat.{ℕ, ◌-◌, ◌≤◌, ◌<◌}
+use mathlib.Core.List.{List, [], ◌∷◌}
 use mathlib.Core.Path.{◌≡◌, refl, sym, ap, subst, ◌∙◌}
 use native.Mathlib.Nat.{le_antisymm}
 use native.Mathlib.Omega.{arith}
-use lib.ListN.{length}
-use Rattle.refusal.specs.declared.Outcome.{Outcome}
-use Rattle.refusal.specs.declared.Outcome.TheVariants.{Done, Refused}
-use Rattle.refusal.specs.declared.Written.{Written}
-use Rattle.refusal.specs.declared.Written.TheVariants.{Wrote, Refused as Unwritten}
-use Rattle.refusal.specs.Answers.{Reply, gives, refuses, number_in, filled, Ensured, refused, answered, reply_of, reply_of_written}
+use lib.ListN.{length, get_or}
+use Rattle.std.specs.Prelude.{Result, Ok, Err}
+use Rattle.refusal.specs.declared.Refusal.{Refusal}
+use Rattle.refusal.specs.declared.Refusal.TheVariants.{Area, Length, Check, Layout, Rows, Grammar, Range, Nodes}
+use Rattle.refusal.specs.declared.Refusal.TheVariants.{Label, Size, Tuples, Grouping, Alike, Room, Asked}
+use Rattle.refusal.specs.Answers.{Reply, gives, refuses, number_in, filled, Ensured, refused, answered, number_of, reply_of, Reads}
 use Rattle.refusal.specs.Answers.{at_front, TextAtFront}
 use Rattle.refusal.specs.Rows.{Decided, by_row as smallest, by_none, OneLast, other, no_other}
 
@@ -74,6 +74,12 @@ module _ {R : ℕ → Type 0} {Short : Type 0} where
     pub room_enough : Short → ⊥
     room_enough short = none 1 (no_other others_free short)
 
+-- a reply does not give and refuse
+not_both : {A : Type 0} {v : A} {n : ℕ} → ◌≡◌ {A = Reply A} (gives v) (refuses n) → ⊥
+not_both e =
+    let z : ◌≡◌ {A = ℕ} 0 1 = cc in
+    omega arith
+
 -- where there is room, the other rows decide
 pub with_room : {A L : Type 0} {R : ℕ → Type 0} {Short : Type 0} {Right : A → L → Type 0} {before after : L} {r : Reply A} →
     (Short → ⊥) → Ensured (OneLast R Short) Right before r after → Ensured R Right before r after
@@ -92,11 +98,13 @@ same_reply same (answered e right none) (refused {n} e' k' row least) = absurd (
 same_reply same (answered e right none) (answered e' right' none') = e ∙ ap gives (same _ _ _ _ right right') ∙ sym e'
 
 -- what is lent is filled, or stays as it was
-pub filled_given : {A B : Type 0} {q : Reply A} {v : A} → q ≡ gives v → (value before : B) → filled q value before ≡ value
-filled_given {A} e value before = ap (λ (x : Reply A). filled x value before) e
+pub filled_given : {A B : Type 0} {q : Reply A} {v : A} (part : A → List B) → q ≡ gives v → (before : List B) →
+    filled part q before ≡ part v
+filled_given {A} part e before = ap (λ (x : Reply A). filled part x before) e
 
-pub filled_refused : {A B : Type 0} {q : Reply A} {n : ℕ} → q ≡ refuses n → (value before : B) → filled q value before ≡ before
-filled_refused {A} e value before = ap (λ (x : Reply A). filled x value before) e
+pub filled_refused : {A B : Type 0} {q : Reply A} {n : ℕ} (part : A → List B) → q ≡ refuses n → (before : List B) →
+    filled part q before ≡ before
+filled_refused {A} part e before = ap (λ (x : Reply A). filled part x before) e
 
 -- what is right of a writer is one, where one text is asked for
 pub one_front : {Asked : List ℕ → Type 0} {before : List ℕ} → ((t t' : List ℕ) → Asked t → Asked t' → t ≡ t') → (size size' : ℕ)
@@ -106,16 +114,60 @@ one_front {before = before} one size size' after after' f f' =
     let same = one f.text f'.text f.asked f'.asked in
     (f.sized ∙ ap length same ∙ sym f'.sized, f.left ∙ ap (λ (t : List ℕ). at_front t before) same ∙ sym f'.left)
 
--- a writer's reply tells its answer
-pub written_told : (w w' : Written) → reply_of_written w ≡ reply_of_written w' → w ≡ w'
-written_told (Wrote size) (Wrote size') e = ap Wrote (cc e)
-written_told (Wrote size) (Unwritten n) e = let z : ◌≡◌ {A = ℕ} 0 1 = cc in absurd (omega arith)
-written_told (Unwritten n) (Wrote size) e = let z : ◌≡◌ {A = ℕ} 0 1 = cc in absurd (omega arith)
-written_told (Unwritten n) (Unwritten n') e = ap Unwritten (cc e)
+-- the refusal with a number
+abbrev numbered : ℕ → Refusal
+numbered n =
+    get_or (Area ∷ Length ∷ Check ∷ Layout ∷ Rows ∷ Grammar ∷ Range ∷ Nodes ∷ Label ∷ Size ∷ Tuples ∷ Grouping ∷ Alike ∷ Room ∷ Asked ∷ [])
+    (n - 1) Asked
 
--- a reader's reply tells its answer
-pub outcome_told : (o o' : Outcome) → reply_of o ≡ reply_of o' → o ≡ o'
-outcome_told Done Done e = refl
-outcome_told Done (Refused n) e = let z : ◌≡◌ {A = ℕ} 0 1 = cc in absurd (omega arith)
-outcome_told (Refused n) Done e = let z : ◌≡◌ {A = ℕ} 0 1 = cc in absurd (omega arith)
-outcome_told (Refused n) (Refused n') e = ap Refused (cc e)
+number_back : (r : Refusal) → numbered (number_of r) ≡ r
+number_back Area = refl
+number_back Length = refl
+number_back Check = refl
+number_back Layout = refl
+number_back Rows = refl
+number_back Grammar = refl
+number_back Range = refl
+number_back Nodes = refl
+number_back Label = refl
+number_back Size = refl
+number_back Tuples = refl
+number_back Grouping = refl
+number_back Alike = refl
+number_back Room = refl
+number_back Asked = refl
+
+-- no refusal has the number 0
+pub number_positive : (r : Refusal) → 0 < number_of r
+number_positive Area = omega arith
+number_positive Length = omega arith
+number_positive Check = omega arith
+number_positive Layout = omega arith
+number_positive Rows = omega arith
+number_positive Grammar = omega arith
+number_positive Range = omega arith
+number_positive Nodes = omega arith
+number_positive Label = omega arith
+number_positive Size = omega arith
+number_positive Tuples = omega arith
+number_positive Grouping = omega arith
+number_positive Alike = omega arith
+number_positive Room = omega arith
+number_positive Asked = omega arith
+
+-- no two refusals have one number
+pub number_told : (r r' : Refusal) → number_of r ≡ number_of r' → r ≡ r'
+number_told r r' e = sym (number_back r) ∙ ap numbered e ∙ number_back r'
+
+-- a call's reply tells its answer
+pub answer_told : {A : Type 0} (a a' : Result A Refusal) → reply_of a ≡ reply_of a' → a ≡ a'
+answer_told (Ok v) (Ok v') e = ap Ok (cc e)
+answer_told (Ok v) (Err r) e = absurd (not_both e)
+answer_told (Err r) (Ok v) e = absurd (not_both (sym e))
+answer_told (Err r) (Err r') e = ap Err (number_told r r' (ap number_in e))
+
+-- any two answers that a reader's contract allows are equal, where one is correct
+pub one_reading : {A : Type 0} {R : ℕ → Type 0} {Correct : A → Type 0} {a a' : Result A Refusal} →
+    ((v v' : A) → Correct v → Correct v' → v ≡ v') → Reads R Correct a → Reads R Correct a' → a ≡ a'
+one_reading {a = a} {a'} one w w' =
+    answer_told a a' (one_result (λ v v' l l' right right'. (one v v' right right', refl)) w.ensured w'.ensured).0

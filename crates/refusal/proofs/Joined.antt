@@ -1,5 +1,5 @@
 -- The number of a call whose rows are those of another call and then its own.
-use Prim.Native.Nat.{ℕ, suc}
+use Prim.Native.Nat.{ℕ, ◌<◌}
 use mathlib.Core.Bool.{Bool, true, false}
 use mathlib.Core.List.{List, [], ◌∷◌, ◌++◌}
 use mathlib.Core.Path.{◌≡◌, refl}
@@ -7,13 +7,13 @@ use native.Mathlib.Omega.{arith}
 use Rattle.refusal.specs.Rows.{Row, or_else, first, Ascending, none, more}
 
 -- where one of the first rows applies, its number is given
-pub joined_refused : (rows own : List Row) (k : ℕ) → first rows ≡ suc k → first (rows ++ own) ≡ suc k
+pub joined_refused : (rows own : List Row) (k : ℕ) → 0 < k → first rows ≡ k → first (rows ++ own) ≡ k
 unfolding first
-joined_refused [] own k e = absurd (omega arith)
-joined_refused (r ∷ rows) own k e = look r.applies e (joined_refused rows own k)
+joined_refused [] own k some e = absurd (omega arith)
+joined_refused (r ∷ rows) own k some e = look r.applies e (joined_refused rows own k some)
   where
-    look : (b : Bool) → or_else b r.number (first rows) ≡ suc k → (first rows ≡ suc k → first (rows ++ own) ≡ suc k) →
-        or_else b r.number (first (rows ++ own)) ≡ suc k
+    look : (b : Bool) → or_else b r.number (first rows) ≡ k → (first rows ≡ k → first (rows ++ own) ≡ k) →
+        or_else b r.number (first (rows ++ own)) ≡ k
     look true e later = e
     look false e later = later e
 

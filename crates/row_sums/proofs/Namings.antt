@@ -65,21 +65,13 @@ module _ {row : List ℕ} {t count : ℕ} {places : List ℕ} (h : Naming row t 
   naming_skip e = record {
     long = h.long;
     inside = h.inside;
+    few = h.few;
     rest = h.rest;
-    each = λ g few.
-        h.each g few ∙
+    each = λ g.
+        h.each g ∙
         (let p = sum_more t (λ s. get_or row s 0 * g s) in
         let q : get_or row t 0 * g t ≡ 0 * g t = ap (λ (x : ℕ). x * g t) e in
         omega arith);
-  }
-
-  -- there are too many
-  pub naming_full : Naming row (t + 1) 8 places
-  naming_full = record {
-    long = h.long;
-    inside = h.inside;
-    rest = λ i a b. absurd (omega arith);
-    each = λ g few. absurd (omega arith);
   }
 
   -- the next state is named
@@ -87,11 +79,12 @@ module _ {row : List ℕ} {t count : ℕ} {places : List ℕ} (h : Naming row t 
   naming_next {v} few small e = record {
     long = length-set places count v ∙ h.long;
     inside = λ i l. inside_at i l (dec_lt i count);
+    few = omega arith;
     rest = λ i a b. ap (λ (x : ℕ). get_or row x 0) (other i (omega arith)) ∙ h.rest i (omega arith) b;
-    each = λ g _.
+    each = λ g.
         sum_more count (named_at row (set places count v) g) ∙
         ap₂ (λ (x y : ℕ). x + y)
-        (sum_same count (λ i l. ap (λ (x : ℕ). get_or row x 0 * g x) (other i (omega arith))) ∙ h.each g (omega arith))
+        (sum_same count (λ i l. ap (λ (x : ℕ). get_or row x 0 * g x) (other i (omega arith))) ∙ h.each g)
         (ap (λ (x : ℕ). get_or row x 0 * g x) here) ∙
         sym (sum_more t (λ s. get_or row s 0 * g s));
   }
@@ -113,14 +106,14 @@ module _ {row : List ℕ} {t count : ℕ} {places : List ℕ} (h : Naming row t 
               let q = ap (λ (x : ℕ). get_or (set places count v) x 0) p in
               omega (arith, here)
 
-  -- where at most seven weights are not 0, a sum over the places is one over the row
-  pub naming_named : count ≤ 7 → Named row t count places
-  naming_named few = record {
+  -- a sum over the places is one over the row
+  pub naming_named : Named row t count places
+  naming_named = record {
     inside = h.inside;
     each = λ g m enough room.
         sum_past count m (named_at row places g) enough
         (λ i a b. ap (λ (x : ℕ). x * g (get_or places i 0)) (h.rest i a (omega arith)) ∙ omega arith) ∙
-        h.each g few;
+        h.each g;
   }
 
 -- places that all name one weight that is 0
@@ -129,22 +122,30 @@ pub naming_none : {row places : List ℕ} (z : ℕ) → length places ≡ 8 → 
 naming_none {row} {places} z long small e all = record {
   long = long;
   inside = λ i l. omega (arith, all i l);
+  few = omega arith;
   rest = λ i a b. ap (λ (x : ℕ). get_or row x 0) (all i b) ∙ e;
-  each = λ g few. sum_none (named_at row places g) ∙ sym (sum_none (λ s. get_or row s 0 * g s));
+  each = λ g. sum_none (named_at row places g) ∙ sym (sum_none (λ s. get_or row s 0 * g s));
 }
 
 -- more places do as well
 pub named_more : {row places : List ℕ} {N most more : ℕ} → Named row N most places → most ≤ more → Named row N more places
 named_more h l = record { inside = h.inside; each = λ g m enough room. h.each g m (omega arith) room }
 
--- the sum so far and the next two products fit
-pub pair_fits : {row places : List ℕ} {N most : ℕ} → Named row N most places → most ≤ 7 → (column : List ℕ) →
-    sum_below N (λ t. get_or row t 0 * get_or column t 0) ≤ size_limit → (i : ℕ) → i ≤ 6 →
+-- the sum so far and the next two products are at most that of all places
+pub pair_fits : (row places column : List ℕ) →
+    sum_below 8 (named_at row places (λ t. get_or column t 0)) ≤ size_limit → (i : ℕ) → i ≤ 6 →
     sum_below i (named_at row places (λ t. get_or column t 0)) + products_at row places column i ≤ size_limit
-pair_fits {row} {places} h few column fits i less =
+pair_fits row places column fits i less =
     let p = two_le 8 i (named_at row places (λ t. get_or column t 0)) (omega arith) in
-    let q = h.each (λ t. get_or column t 0) 8 (omega arith) (omega arith) in
     omega arith
+
+-- the sum with one pair more
+pub pair_more : (row places column : List ℕ) (i : ℕ) {total more : ℕ} →
+    total ≡ sum_below (2 * i) (named_at row places (λ t. get_or column t 0)) → more ≡ products_at row places column (2 * i) →
+    total + more ≡ sum_below (2 * (i + 1)) (named_at row places (λ t. get_or column t 0))
+pair_more row places column i e f =
+    let g = named_at row places (λ t. get_or column t 0) in
+    ap₂ (λ (a b : ℕ). a + b) e f ∙ sym (two_more (2 * i) g) ∙ ap (λ (x : ℕ). sum_below x g) (omega arith)
 
 -- eight times one number
 pub eight : (z i : ℕ) → i < 8 → get_or (z ∷ z ∷ z ∷ z ∷ z ∷ z ∷ z ∷ z ∷ []) i 0 ≡ z

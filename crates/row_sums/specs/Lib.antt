@@ -2,3 +2,4 @@
 --
 -- Sums over a state's row.
 pub mod Sparse
+pub mod Columns

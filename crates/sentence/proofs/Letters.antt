@@ -2,23 +2,15 @@
 use Prim.Native.Nat.{ℕ, ◌≤◌}
 use mathlib.Core.Bool.{Bool, true, false}
 use mathlib.Core.List.{List, [], ◌∷◌, ◌++◌, map, tail}
-use mathlib.Core.Path.{◌≡◌, refl, sym, ap, ◌∙◌}
+use mathlib.Core.Path.{◌≡◌, refl, ap}
 use native.Mathlib.Omega.{arith}
-use lib.ListN.{drop, get_or}
+use Rattle.numerals.proofs.Numbers.{first_byte}
 use Rattle.sentence.specs.Grammar.{letter_byte}
-use Rattle.numerals.proofs.Places.{first_byte, first_byte_here}
 
 -- a letter's byte is no dot
 pub letter_low : (x : Bool) → 65 ≤ letter_byte x
 letter_low true = omega arith
 letter_low false = omega arith
-
--- what letters and a dot say of the byte at a place: it is the dot, or the first letter
-pub at_dot : (t : List ℕ) (at : ℕ) (rest : List ℕ) → drop at t ≡ 46 ∷ rest → get_or t at 0 ≡ 46
-at_dot t at rest same = sym (first_byte_here t at) ∙ ap first_byte same
-
-pub at_letter : (t : List ℕ) (at : ℕ) (x : Bool) (rest : List ℕ) → drop at t ≡ letter_byte x ∷ rest → get_or t at 0 ≡ letter_byte x
-at_letter t at x rest same = sym (first_byte_here t at) ∙ ap first_byte same
 
 -- a text has one prefix, and one text after it
 letter_one : (x y : Bool) → letter_byte x ≡ letter_byte y → x ≡ y

@@ -1,5 +1,4 @@
 -- Laws of the grammar and of the record.
-pub mod Arms
 pub mod Unique
 pub mod Letters
 pub mod Once

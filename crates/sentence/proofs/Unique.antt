@@ -12,15 +12,31 @@ use Rattle.numerals.specs.Numeral.{number_text}
 use Rattle.sentence.specs.Grammar.{node_text, Writable, wants, Nests, body_text}
 use Rattle.sentence.specs.Grammar.Nests.{end, node}
 use Rattle.numerals.specs.Working.{NoDigit}
-use Rattle.sentence.specs.Working.{operator_node, AllWritable}
+use Rattle.sentence.specs.Working.{AllWritable}
 use Rattle.sentence.specs.declared.Kind.{Kind}
 use Rattle.sentence.specs.declared.Relation.TheVariants.{Less, AtMost, Equal, AtLeast, Greater}
 use Rattle.sentence.specs.declared.Node.{Node}
 use Rattle.sentence.specs.declared.Node.TheVariants.{True, Label, Not, And, Compare, Probability, Constant, Sum, Difference, Product}
 use Rattle.sentence.specs.declared.Node.TheVariants.{Next, Until}
-use Rattle.numerals.proofs.Numbers.{scan, scan_number, scan_other}
-use Rattle.numerals.proofs.Places.{first_byte}
+use Rattle.numerals.proofs.Numbers.{first_byte, scan, scan_number, scan_other}
 use Rattle.sentence.proofs.Suiting.{numbers_written}
+
+-- the node of an operator's byte; of another byte it means nothing
+abbrev operator_node : ℕ → Node
+operator_node b =
+    cond (eqb b 84) True
+    (cond (eqb b 33) Not
+    (cond (eqb b 38) And
+    (cond (eqb b 60) (Compare Less)
+    (cond (eqb b 76) (Compare AtMost)
+    (cond (eqb b 61) (Compare Equal)
+    (cond (eqb b 71) (Compare AtLeast)
+    (cond (eqb b 62) (Compare Greater)
+    (cond (eqb b 80) Probability
+    (cond (eqb b 43) Sum
+    (cond (eqb b 45) Difference
+    (cond (eqb b 42) Product
+    Next)))))))))))
 
 -- the two numbers at the front of a text, each with a byte after it, and the text after them
 abbrev pub two_numbers : (ℕ → ℕ → Node) → List ℕ → Node × List ℕ

@@ -1,14 +1,9 @@
 -- Document 01, 'The sentence text': the record of a sentence. It has room for 64 nodes and a count; places past the count are no
 -- part of the sentence.
-use Rattle.std.specs.Prelude.{ℕ, ◌-◌, Bool, false, List, ◌++◌, map, length, take, replicate}
+use Rattle.std.specs.Prelude.{ℕ, ◌-◌, Bool, false, List, ◌++◌, length, take, replicate}
 use Rattle.sentence.specs.declared.Node.{Node}
 use Rattle.sentence.specs.declared.Node.TheVariants.{True}
-use Rattle.sentence.specs.declared.Slot.{Slot}
 use Rattle.sentence.specs.declared.Sentence.{Sentence}
-
--- a place of the record
-abbrev pub slot : Node → Slot
-slot n = record { node = n }
 
 -- the record of a prefix and a node list: places past the letters hold `false`, places past the count hold `True`
 unfoldable pub record_of : List Bool → List Node → Sentence
@@ -17,12 +12,12 @@ record_of ps ns =
       letters = length ps;
       exists = ps ++ replicate (4 - length ps) false;
       count = length ns;
-      nodes = map slot ns ++ replicate (64 - length ns) (slot True);
+      nodes = ns ++ replicate (64 - length ns) True;
     }
 
 -- the first `count` nodes of the places
-abbrev pub listed : List Slot → ℕ → List Node
-listed nodes count = map (λ (x : Slot). x.node) (take count nodes)
+abbrev pub listed : List Node → ℕ → List Node
+listed nodes count = take count nodes
 
 -- the prefix of a record: places past the letters are no part of the sentence
 abbrev pub prefix_of : Sentence → List Bool

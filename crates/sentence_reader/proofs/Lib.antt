@@ -1,4 +1,3 @@
 -- The laws that the proofs of the reader share.
 pub mod PrefixAt
 pub mod ReadAll
-pub mod Found

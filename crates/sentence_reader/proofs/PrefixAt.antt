@@ -1,58 +1,74 @@
--- What `letters_from` answers at each byte, by the letters and the dot. Assumes nothing.
+-- What `read` of a prefix answers, by the letters and the dot. Assumes nothing.
 use Prim.Native.Nat.{ℕ, ◌+◌, ◌≤◌, ◌<◌}
-use mathlib.Core.Bool.{Bool, true, false}
-use mathlib.Core.List.{List, [], ◌∷◌, ◌++◌, map, tail}
-use mathlib.Core.Path.{◌≡◌, refl, sym, ap, ◌∙◌}
+use mathlib.Core.Bool.{Bool}
+use mathlib.Core.List.{List, [], ◌∷◌, tail}
+use mathlib.Core.Path.{◌≡◌, refl, sym, ap, ◌∙◌, subst}
+use mathlib.Core.Logic.{◌⊎◌, inl, inr}
+use lib.Dec.{eqb}
 use native.Mathlib.Numerals.{add-one}
 use native.Mathlib.Omega.{arith}
-use lib.ListN.{length, drop, get_or, set}
-use lib.Seq.{sets}
+use lib.ListN.{length, set}
+use Rattle.numerals.proofs.Numbers.{first_byte}
+use Rattle.std.proofs.Common.{Option, Some, None, MatchOption, Bor}
+use Rattle.std.proofs.lemmas.List.Edits.{sets}
 use Rattle.sentence.specs.Grammar.{letter_byte}
-use Rattle.sentence_reader.specs.Working.{PrefixResult}
-use Rattle.sentence_reader.specs.Working.PrefixResult.{prefix, none}
-use Rattle.sentence_reader.specs.declared.PrefixRead.{PrefixRead}
-use Rattle.numerals.proofs.Places.{inside, starts}
-use Rattle.sentence.proofs.Letters.{letter_low, at_dot, at_letter}
+use Rattle.sentence.proofs.Letters.{letter_low}
+use Rattle.sentence_reader.specs.Working.{one_letter, with_letters, IsPrefix, NoPrefix}
+use Rattle.sentence_reader.specs.declared.Prefix.{Prefix}
 
-pub dot_read : (t : List ℕ) (at : ℕ) (flags : List Bool) → get_or t at 0 ≡ 46 → 1 ≤ at → at ≤ 4
-    → PrefixResult t at flags (record { ok = true; letters = at; next = at + 1; exists = flags })
-dot_read t at flags e l h =
-    let in_text : at < length t = inside t at (omega arith) in
-    prefix [] refl (omega arith) (omega arith) (starts t at 46 e (omega arith)) (omega arith) (omega arith) refl
+-- the dot
+pub dot : {t s : List ℕ} (p : Prefix) → t ≡ 46 ∷ s → 1 ≤ p.letters → p.letters ≤ 4 → IsPrefix p t p s
+dot {t} {s} p e some few = record {
+  letters = [];
+  follows = record { some = omega arith; few = omega arith; text = e };
+  same = ap (λ (n : ℕ). record { letters = n; exists = p.exists }) (omega arith);
+}
 
-pub dot_first : (t : List ℕ) (at : ℕ) (flags : List Bool) (r : PrefixRead) → get_or t at 0 ≡ 46 → at ≡ 0 → r.ok ≡ false
-    → PrefixResult t at flags r
-dot_first t at flags r e z ok = none ok refuted
+-- a letter more, and what follows it
+letter_moves : (p : Prefix) (x : Bool) (qs : List Bool) → with_letters (one_letter p x) qs ≡ with_letters p (x ∷ qs)
+letter_moves p x qs =
+    let count : p.letters + 1 + length qs ≡ p.letters + length (x ∷ qs) = omega arith in
+    let kept : sets (set p.exists p.letters x) (p.letters + 1) qs ≡ sets p.exists p.letters (x ∷ qs) =
+    ap (λ (i : ℕ). sets (set p.exists p.letters x) i qs) (add-one p.letters) in
+    cc
+
+letter_more : {t s : List ℕ} (p : Prefix) (x : Bool) (r : Option (Prefix × Bor (List ℕ))) → t ≡ letter_byte x ∷ s
+    → MatchOption r (NoPrefix (one_letter p x) s) (λ y. IsPrefix (one_letter p x) s y.0 y.1.now)
+    → MatchOption r (NoPrefix p t) (λ y. IsPrefix p t y.0 y.1.now)
+letter_more {t} {s} p x (Some y) e is = record {
+  letters = x ∷ is.letters;
+  follows =
+      record {
+        some = omega (arith, is.follows.some);
+        few = omega (arith, is.follows.few);
+        text = e ∙ ap (λ (l : List ℕ). letter_byte x ∷ l) is.follows.text;
+      };
+  same = is.same ∙ letter_moves p x is.letters;
+}
+letter_more {t} {s} p x None e not = by
   where
-    refuted : (qs : List Bool) (rest : List ℕ) → 1 ≤ at + length qs → at + length qs ≤ 4 → drop at t ≡ map letter_byte qs ++ 46 ∷ rest → ⊥
-    refuted [] rest l h same = omega arith
-    refuted (x ∷ qs) rest l h same = omega (arith, at_letter t at x (map letter_byte qs ++ 46 ∷ rest) same, letter_low x)
+    by : NoPrefix p t
+    by [] rest f = omega (arith, ap first_byte (sym e ∙ f.text), letter_low x)
+    by (y ∷ qs) rest f = not qs rest (
+        record { some = omega (arith, f.some); few = omega (arith, f.few); text = ap tail (sym e ∙ f.text) }
+        )
 
-pub letter_on : (t : List ℕ) (at : ℕ) (flags : List Bool) (x : Bool) (r : PrefixRead) → get_or t at 0 ≡ letter_byte x
-    → PrefixResult t (at + 1) (set flags at x) r → PrefixResult t at flags r
-letter_on t at flags x r e (prefix qs ok l h same n-in letters exists) =
-    prefix (x ∷ qs) ok (omega arith) (omega arith)
-    (starts t at (letter_byte x) e (omega (arith, letter_low x)) ∙ ap (λ (s : List ℕ). letter_byte x ∷ s) same)
-    n-in (omega arith) (exists ∙ ap (λ (i : ℕ). sets (set flags at x) i qs) (add-one at))
-letter_on t at flags x r e (none ok not) = none ok refuted
+pub letter_on : {t s : List ℕ} {b : ℕ} (p : Prefix) {q : Prefix} (r : Option (Prefix × Bor (List ℕ))) → t ≡ b ∷ s → (b ≡ 65) ⊎ (b ≡ 69)
+    → q ≡ one_letter p (eqb b 69) → MatchOption r (NoPrefix q s) (λ y. IsPrefix q s y.0 y.1.now)
+    → MatchOption r (NoPrefix p t) (λ y. IsPrefix p t y.0 y.1.now)
+letter_on {t} {s} {b} p r e which same m =
+    letter_more p (eqb b 69) r (e ∙ ap (λ (x : ℕ). x ∷ s) (back which))
+    (subst (λ (o : Prefix). MatchOption r (NoPrefix o s) (λ y. IsPrefix o s y.0 y.1.now)) same m)
   where
-    refuted : (qs : List Bool) (rest : List ℕ) → 1 ≤ at + length qs → at + length qs ≤ 4 → drop at t ≡ map letter_byte qs ++ 46 ∷ rest → ⊥
-    refuted [] rest l h same = omega (arith, at_dot t at rest same, letter_low x)
-    refuted (y ∷ qs) rest l h same =
-        not qs rest (omega arith) (omega arith) (ap tail (sym (starts t at (letter_byte x) e (omega (arith, letter_low x))) ∙ same))
+    back : (b ≡ 65) ⊎ (b ≡ 69) → b ≡ letter_byte (eqb b 69)
+    back (inl all) = rw all refl
+    back (inr some) = rw some refl
 
-pub letter_over : (t : List ℕ) (at : ℕ) (flags : List Bool) (x : Bool) (r : PrefixRead) → get_or t at 0 ≡ letter_byte x → at ≡ 4
-    → r.ok ≡ false → PrefixResult t at flags r
-letter_over t at flags x r e z ok = none ok refuted
-  where
-    refuted : (qs : List Bool) (rest : List ℕ) → 1 ≤ at + length qs → at + length qs ≤ 4 → drop at t ≡ map letter_byte qs ++ 46 ∷ rest → ⊥
-    refuted [] rest l h same = omega (arith, at_dot t at rest same, letter_low x)
-    refuted (y ∷ qs) rest l h same = omega arith
-
-pub letter_none : (t : List ℕ) (at : ℕ) (flags : List Bool) (r : PrefixRead) → (get_or t at 0 ≡ 46 → ⊥)
-    → ((x : Bool) → get_or t at 0 ≡ letter_byte x → ⊥) → r.ok ≡ false → PrefixResult t at flags r
-letter_none t at flags r no-dot no_letter ok = none ok refuted
-  where
-    refuted : (qs : List Bool) (rest : List ℕ) → 1 ≤ at + length qs → at + length qs ≤ 4 → drop at t ≡ map letter_byte qs ++ 46 ∷ rest → ⊥
-    refuted [] rest l h same = no-dot (at_dot t at rest same)
-    refuted (x ∷ qs) rest l h same = no_letter x (at_letter t at x (map letter_byte qs ++ 46 ∷ rest) same)
+-- the byte is no dot after some letter, and none of the letters that still may come
+pub no_letter : {t s : List ℕ} {b : ℕ} (p : Prefix) → t ≡ b ∷ s → (b ≡ 46 → p.letters < 1) → ((x : Bool) → b ≡ letter_byte x → 4 ≤
+    p.letters)
+    → NoPrefix p t
+no_letter {t} {s} {b} p e no-dot no-letter [] rest f =
+    omega (arith, f.some, no-dot (ap first_byte (sym e ∙ f.text)))
+no_letter {t} {s} {b} p e no-dot no-letter (y ∷ qs) rest f =
+    omega (arith, f.few, no-letter y (ap first_byte (sym e ∙ f.text)))

@@ -1,71 +1,58 @@
 -- What read sentence answers, from what its parts found; and that its contract leaves one answer. Assumes nothing.
-use Prim.Native.Nat.{ℕ, zero, suc, ◌+◌, ◌-◌, ◌≤◌, ◌<◌}
+use Prim.Native.Nat.{ℕ, ◌+◌, ◌-◌, ◌≤◌, ◌<◌}
 use mathlib.Core.Bool.{Bool, true, false, ◌||◌, true≢false, or_assoc}
-use mathlib.Core.List.{List, [], ◌∷◌, ◌++◌, map, append_assoc, append-nil}
+use mathlib.Core.List.{List, [], ◌∷◌, ◌++◌, map, append-nil}
 use mathlib.Core.Path.{◌≡◌, refl, sym, ap, ap₂, ◌∙◌}
+use native.Mathlib.Numerals.{add-one}
 use native.Mathlib.Omega.{arith}
-use borrow.Author.Tests.{ltb-true, ltb-false}
-use lib.Dec.{ltb}
-use lib.ListN.{length, drop, replicate, length-replicate, length-drop}
-use lib.Seq.{sets, sets-eq, drop-length}
-use Rattle.counting.proofs.Laws.{Tested, tested}
-use Rattle.sentence.specs.Grammar.{letter_byte, body_text, Spells, Nests, some_out_of_range, out_of_range}
-use Rattle.refusal.specs.declared.Outcome.{Outcome}
-use Rattle.refusal.specs.declared.Outcome.TheVariants.{Done}
+use lib.ListN.{length, drop, replicate, set, length-replicate}
+use Rattle.std.proofs.Common.{Result, Ok, Err}
+use Rattle.std.proofs.lemmas.List.{drop-replicate}
+use Rattle.std.proofs.lemmas.List.Edits.{sets, sets-eq}
 use Rattle.refusal.specs.Answers.{refused, answered}
-use Rattle.refusal.proofs.Ensuring.{one_result, outcome_told}
+use Rattle.refusal.specs.declared.Refusal.{Refusal}
+use Rattle.refusal.specs.declared.Refusal.TheVariants as refusals
+use Rattle.refusal.proofs.Ensuring.{one_reading}
+use Rattle.sentence.specs.Grammar.{letter_byte, body_text, Spells, some_out_of_range, out_of_range}
 use Rattle.sentence.specs.Record.{record_of}
-use Rattle.sentence_reader.specs.Contract.{ReadRow, Spelled, ReadSentenceEnsures}
-use Rattle.sentence_reader.specs.Contract.ReadRow.{outside, long, range, many}
-use Rattle.sentence_scan.specs.Working.{keep, keep_all, begun_at, InText, Stuck, Result, ReadsKinds}
-use Rattle.sentence_reader.specs.Working.{refusal, finished_as, Finished, Body, places_of, PrefixResult}
-use Rattle.sentence_reader.specs.Working.PrefixResult.{prefix}
-use Rattle.sentence_scan.specs.Working.Result.{stopped, read, stuck}
-use Rattle.sentence_reader.specs.declared.PrefixRead.{PrefixRead}
-use Rattle.sentence_scan.specs.declared.Progress.{Progress}
 use Rattle.sentence.specs.declared.Kind.TheVariants.{State}
 use Rattle.sentence.specs.declared.Node.{Node}
-use Rattle.sentence_scan.specs.declared.Tally.{Tally}
+use Rattle.sentence.specs.declared.Node.TheVariants.{True}
 use Rattle.sentence.specs.declared.Sentence.{Sentence}
-use Rattle.sentence_reader.specs.declared.SentenceRead.{SentenceRead}
-use Rattle.counting.proofs.Laws.Tested.{holds, fails}
-use Rattle.sentence.proofs.Unique.{all_writable, Peeled, peel}
+use Rattle.sentence.proofs.Unique.{Peeled, peel}
 use Rattle.sentence.proofs.Letters.{one_prefix}
-use Rattle.sentence.proofs.Once.{no_nodes, spelled_text, spelled_once}
+use Rattle.sentence.proofs.Once.{no_nodes as none_left, spelled_text, spelled_once}
+use Rattle.sentence_scan.specs.Working.{no_nodes, keep, keep_all, Stuck, Reads}
+use Rattle.sentence_scan.specs.declared.Body.{Body}
+use Rattle.sentence_reader.specs.Contract.{ReadRow, Spelled, ReadSentenceEnsures}
+use Rattle.sentence_reader.specs.Contract.ReadRow.{outside, long, range, many}
+use Rattle.sentence_reader.specs.Working.{IsPrefix, IsSentence, NoSentence}
+use Rattle.sentence_reader.specs.declared.Prefix.{Prefix}
 
--- what is kept are the count and the fault of the list
-pub kept_count : (letters : ℕ) (k : Tally) (ns : List Node) → (keep_all letters k ns).count ≡ k.count + length ns
-kept_count letters k [] = omega arith
-kept_count letters k (n ∷ ns) = kept_count letters (keep letters k n) ns ∙ regroup k.count (length ns)
-  where
-    regroup : (a b : ℕ) → a + 1 + b ≡ a + suc b
-    regroup a b = omega arith
+-- what is kept of the nodes of a body: how many they are, whether one is out of its range, and the nodes themselves
+kept_count : (letters : ℕ) (b : Body) (ns : List Node) → (keep_all letters b ns).count ≡ b.count + length ns
+kept_count letters b [] = omega arith
+kept_count letters b (n ∷ ns) = omega (arith, kept_count letters (keep letters b n) ns)
 
-pub kept_fault : (letters : ℕ) (k : Tally) (ns : List Node) → (keep_all letters k ns).fault ≡ (k.fault || some_out_of_range letters ns)
-kept_fault letters k [] = last k.fault
+kept_fault : (letters : ℕ) (b : Body) (ns : List Node) → (keep_all letters b ns).fault ≡ (b.fault || some_out_of_range letters ns)
+kept_fault letters b [] = last b.fault
   where
-    last : (b : Bool) → b ≡ (b || false)
+    last : (x : Bool) → x ≡ (x || false)
     last true = refl
     last false = refl
-kept_fault letters k (n ∷ ns) =
-    kept_fault letters (keep letters k n) ns ∙ or_assoc k.fault (out_of_range letters n) (some_out_of_range letters ns)
+kept_fault letters b (n ∷ ns) =
+    kept_fault letters (keep letters b n) ns ∙ or_assoc b.fault (out_of_range letters n) (some_out_of_range letters ns)
+
+kept_nodes : (letters : ℕ) (b : Body) (ns : List Node) → (keep_all letters b ns).nodes ≡ sets b.nodes b.count ns
+kept_nodes letters b [] = refl
+kept_nodes letters b (n ∷ ns) =
+    kept_nodes letters (keep letters b n) ns ∙ ap (λ (i : ℕ). sets (set b.nodes b.count n) i ns) (add-one b.count)
 
 -- a list stored at the front of equal places
-drop_replicate : {A : Type 0} (n m : ℕ) (x : A) → drop n (replicate m x) ≡ replicate (m - n) x
-drop_replicate zero m x =
-    let e : m ≡ m - 0 = omega arith in
-    ap (λ (k : ℕ). replicate k x) e
-drop_replicate (suc n) zero x =
-    let e : 0 ≡ 0 - suc n = omega arith in
-    ap (λ (k : ℕ). replicate k x) e
-drop_replicate (suc n) (suc m) x =
-    let e : m - n ≡ suc m - suc n = omega arith in
-    drop_replicate n m x ∙ ap (λ (k : ℕ). replicate k x) e
-
-pub stored : {A : Type 0} (m : ℕ) (x : A) (vs : List A) → length vs ≤ m → sets (replicate m x) 0 vs ≡ vs ++ replicate (m - length vs) x
+stored : {A : Type 0} (m : ℕ) (x : A) (vs : List A) → length vs ≤ m → sets (replicate m x) 0 vs ≡ vs ++ replicate (m - length vs) x
 stored m x vs h =
     sets-eq vs (replicate m x) 0 (rw (length-replicate m x) (omega arith))
-    ∙ ap (λ l. vs ++ l) (ap (λ (i : ℕ). drop i (replicate m x)) none_before ∙ drop_replicate (length vs) m x)
+    ∙ ap (λ l. vs ++ l) (ap (λ (i : ℕ). drop i (replicate m x)) none_before ∙ drop-replicate (length vs) m x)
   where
     none_before : 0 + length vs ≡ length vs
     none_before = omega arith
@@ -77,10 +64,10 @@ row_low (long h) = omega arith
 row_low (range s e) = omega arith
 row_low (many s h) = omega arith
 
-pub answer_outside : {t : List ℕ} → ((ps : List Bool) (ns : List Node) → Spells ps ns t → ⊥) → ReadSentenceEnsures t (refusal 6)
+pub answer_outside : {t : List ℕ} → NoSentence t → ReadSentenceEnsures t (Err refusals.Grammar)
 answer_outside f = record { ensured = refused refl refl (outside f) (λ m r. row_low r) }
 
-pub answer_long : {t : List ℕ} → 400 < length t → ReadSentenceEnsures t (refusal 6)
+pub answer_long : {t : List ℕ} → 400 < length t → ReadSentenceEnsures t (Err refusals.Grammar)
 answer_long h = record { ensured = refused refl refl (long h) (λ m r. row_low r) }
 
 -- a spelled text that is not too long leaves 7 and 8
@@ -100,165 +87,72 @@ row_ranged s h f (range s' e) =
     absurd (true≢false (sym e ∙ sym (ap₂ (λ (p : List Bool) (n : List Node). some_out_of_range (length p) n) one.0 one.1) ∙ f))
 row_ranged s h f (many s' g) = (refl, rw (spelled_once s s').1 g)
 
-pub answer_range : {t : List ℕ} {ps : List Bool} {ns : List Node} → Spells ps ns t → length t ≤ 400
-    → some_out_of_range (length ps) ns ≡ true → ReadSentenceEnsures t (refusal 7)
-answer_range s h e = record { ensured = refused refl refl (range s e) (λ m r. row_spelled s h r) }
+-- what was read of a sentence: its fault and its count are those of its nodes
+fault_of : {t : List ℕ} {p : Prefix} {b : Body} (is : IsSentence t p b) → some_out_of_range (length is.prefix) is.nodes ≡ b.fault
+fault_of is = sym (ap (λ (x : Body). x.fault) is.body ∙ kept_fault (length is.prefix) no_nodes is.nodes)
 
-pub answer_many : {t : List ℕ} {ps : List Bool} {ns : List Node} → Spells ps ns t → length t ≤ 400
-    → some_out_of_range (length ps) ns ≡ false → 64 < length ns → ReadSentenceEnsures t (refusal 8)
-answer_many s h e g = record { ensured = refused refl refl (many s g) (λ m r. omega (arith, (row_ranged s h e r).0)) }
+count_of : {t : List ℕ} {p : Prefix} {b : Body} (is : IsSentence t p b) → length is.nodes ≡ b.count
+count_of is = omega (arith, ap (λ (x : Body). x.count) is.body, kept_count (length is.prefix) no_nodes is.nodes)
 
-pub answer_done : {t : List ℕ} {ps : List Bool} {ns : List Node} → Spells ps ns t → length t ≤ 400
-    → some_out_of_range (length ps) ns ≡ false → length ns ≤ 64
-    → ReadSentenceEnsures t (record { outcome = Done; sentence = record_of ps ns })
-answer_done {ps = ps} {ns} s h e g =
+pub answer_range : {t : List ℕ} {p : Prefix} {b : Body} → IsSentence t p b → length t ≤ 400 → b.fault ≡ true
+    → ReadSentenceEnsures t (Err refusals.Range)
+answer_range is h e = record { ensured = refused refl refl (range is.spells (fault_of is ∙ e)) (λ m r. row_spelled is.spells h r) }
+
+pub answer_many : {t : List ℕ} {p : Prefix} {b : Body} → IsSentence t p b → length t ≤ 400 → b.fault ≡ false → 64 < b.count
+    → ReadSentenceEnsures t (Err refusals.Nodes)
+answer_many is h e g =
     record {
-      ensured = answered refl (record { prefix = ps; nodes = ns; spells = s; fields = refl })
-          (λ m r. omega (arith, (row_ranged s h e r).1));
+      ensured = refused refl refl (many is.spells (omega (arith, count_of is)))
+          (λ m r. omega (arith, (row_ranged is.spells h (fault_of is ∙ e) r).0));
+    }
+
+-- the record of what was read is that of the sentence
+record_read : {t : List ℕ} {p : Prefix} {b : Body} (is : IsSentence t p b) → length is.nodes ≤ 64
+    → ◌≡◌ {A = Sentence} (record { letters = p.letters; exists = p.exists; count = b.count; nodes = b.nodes }) (record_of is.prefix
+    is.nodes)
+unfolding record_of
+record_read {t} {p} {b} is few =
+    let letters : p.letters ≡ length is.prefix = omega (arith, ap (λ (x : Prefix). x.letters) is.letters) in
+    let exists : p.exists ≡ is.prefix ++ replicate (4 - length is.prefix) false =
+    ap (λ (x : Prefix). x.exists) is.letters ∙ stored 4 false is.prefix is.spells.few in
+    let count : b.count ≡ length is.nodes = sym (count_of is) in
+    let nodes : b.nodes ≡ is.nodes ++ replicate (64 - length is.nodes) True =
+    ap (λ (x : Body). x.nodes) is.body ∙ kept_nodes (length is.prefix) no_nodes is.nodes ∙ stored 64 True is.nodes few in
+    cc
+
+pub answer_done : {t : List ℕ} {p : Prefix} {b : Body} → IsSentence t p b → length t ≤ 400 → b.fault ≡ false → b.count ≤ 64
+    → ReadSentenceEnsures t (Ok (record { letters = p.letters; exists = p.exists; count = b.count; nodes = b.nodes }))
+answer_done is h e g =
+    let few : length is.nodes ≤ 64 = omega (arith, count_of is) in
+    record {
+      ensured = answered refl (record { prefix = is.prefix; nodes = is.nodes; spells = is.spells; fields = record_read is few })
+          (λ m r. omega (arith, (row_ranged is.spells h (fault_of is ∙ e) r).1));
     }
 
 -- the contract leaves one answer
-pub one_answer : {t : List ℕ} {a b : SentenceRead} → ReadSentenceEnsures t a → ReadSentenceEnsures t b → a ≡ b
-one_answer {t} {a} {b} x y =
-    let same = one_result one x.ensured y.ensured in
-    ap₂ (λ (o : Outcome) (s : Sentence). record { outcome = o; sentence = s }) (outcome_told a.outcome b.outcome same.0) same.1
+pub one_answer : {t : List ℕ} {a b : Result Sentence Refusal} → ReadSentenceEnsures t a → ReadSentenceEnsures t b → a ≡ b
+one_answer {t} x y = one_reading one x y
   where
-    one : (v v' : Unit {0}) (s s' : Sentence) → Spelled t s → Spelled t s' → (v ≡ v') × (s ≡ s')
-    one v v' s s' p q =
+    one : (s s' : Sentence) → Spelled t s → Spelled t s' → s ≡ s'
+    one s s' p q =
         let same = spelled_once p.spells q.spells in
-        (refl, p.fields ∙ ap₂ record_of same.0 same.1 ∙ sym q.fields)
+        p.fields ∙ ap₂ record_of same.0 same.1 ∙ sym q.fields
 
 -- the body follows the prefix that was read
-body_after : {t : List ℕ} (ps qs : List Bool) (r : List ℕ) {ms : List Node} → t ≡ map letter_byte ps ++ 46 ∷ r → Spells qs ms t
+body_after : {t r : List ℕ} (ps qs : List Bool) {ms : List Node} → t ≡ map letter_byte ps ++ 46 ∷ r → Spells qs ms t
     → (ps ≡ qs) × (r ≡ body_text ms)
-body_after ps qs r {ms} same s = one_prefix ps qs r (body_text ms) (sym same ∙ spelled_text s)
-
--- no prefix
-pub outside_prefix : (t : List ℕ) (flags : List Bool) (r : PrefixRead) → PrefixResult t 0 flags r → r.ok ≡ false
-    → (qs : List Bool) (ms : List Node) → Spells qs ms t → ⊥
-outside_prefix t flags r (prefix ps ok l h same n e x) bad qs ms s = true≢false (sym ok ∙ bad)
-outside_prefix t flags r (PrefixResult.none ok not) bad qs ms s =
-    not qs (body_text ms) (omega (arith, s.some)) (omega (arith, s.few)) (spelled_text s)
+body_after {t} {r} ps qs {ms} same s = one_prefix ps qs r (body_text ms) (sym same ∙ spelled_text s)
 
 -- a prefix, and no state formula after it
-outside_stuck : (t : List ℕ) (ps : List Bool) (r : List ℕ) → t ≡ map letter_byte ps ++ 46 ∷ r → Stuck (State ∷ []) r
-    → (qs : List Bool) (ms : List Node) → Spells qs ms t → ⊥
-outside_stuck t ps r same none-fits qs ms s = none-fits [] ms [] s.nests ((body_after ps qs r same s).1 ∙ sym (append-nil (body_text ms)))
+pub outside_stuck : {t r : List ℕ} {o p : Prefix} → IsPrefix o t p r → Stuck (State ∷ []) r → NoSentence t
+outside_stuck is none-fits qs ms s =
+    none-fits [] ms [] s.nests ((body_after is.letters qs is.follows.text s).1 ∙ sym (append-nil (body_text ms)))
 
 -- a prefix and a state formula, and something after it
-outside_more : (t : List ℕ) (ps : List Bool) (ns : List Node) (r : List ℕ) → t ≡ map letter_byte ps ++ 46 ∷ (body_text ns ++ r)
-    → Nests (State ∷ []) ns → 1 ≤ length r
-    → (qs : List Bool) (ms : List Node) → Spells qs ms t → ⊥
-outside_more t ps ns r same nests more qs ms s =
-    let p : Peeled [] ns ms r [] =
-    peel [] ms r [] nests s.nests ((body_after ps qs (body_text ns ++ r) same s).1 ∙ sym (append-nil (body_text ms))) in
-    omega (arith, ap length (p.text ∙ ap (λ (l : List Node). body_text l ++ []) (no_nodes p.nests)))
-
--- the whole text is a sentence
-pub record Read (t : List ℕ) (at letters : ℕ) (flags : List Bool) (k : Tally) : Type 0 where
-  pub ps : List Bool
-  pub ns : List Node
-  pub spells : Spells ps ns t
-  pub lettered : letters ≡ length ps
-  pub flagged : flags ≡ sets (replicate 4 false) 0 ps
-  pub kept : k ≡ keep_all (length ps) (begun_at 0).kept ns
-  pub body : Body t at ns
-
--- the text after its prefix is no state formula
-pub outside_body : (t : List ℕ) (flags : List Bool) (p : PrefixRead) (r : Progress) → PrefixResult t 0 flags p → p.ok ≡ true
-    → ReadsKinds (State ∷ []) t p.letters (begun_at p.next) r → r.ok ≡ false
-    → (qs : List Bool) (ms : List Node) → Spells qs ms t → ⊥
-outside_body t flags p r (PrefixResult.none ok not) good body bad = absurd (true≢false (sym good ∙ ok))
-outside_body t flags p r (prefix ps ok l h same n e x) good body bad = by body.result
-  where
-    by : Result (State ∷ []) t p.letters (begun_at p.next) r → (qs : List Bool) (ms : List Node) → Spells qs ms t → ⊥
-    by (stopped a b) = absurd (true≢false a)
-    by (read ns a b nests text kept) = absurd (true≢false (sym b ∙ bad))
-    by (stuck a b none-fits) = outside_stuck t ps (drop p.next t) same none-fits
-
--- something follows the state formula
-pub outside_rest : (t : List ℕ) (flags : List Bool) (p : PrefixRead) (r : Progress) → PrefixResult t 0 flags p → p.ok ≡ true
-    → ReadsKinds (State ∷ []) t p.letters (begun_at p.next) r → r.ok ≡ true
-    → (r.at ≡ length t → ⊥) → (qs : List Bool) (ms : List Node) → Spells qs ms t → ⊥
-outside_rest t flags p r (PrefixResult.none ok not) good body fine over = absurd (true≢false (sym good ∙ ok))
-outside_rest t flags p r (prefix ps ok l h same n e x) good body fine over = by body.result
-  where
-    by : Result (State ∷ []) t p.letters (begun_at p.next) r → (qs : List Bool) (ms : List Node) → Spells qs ms t → ⊥
-    by (stopped a b) = absurd (true≢false a)
-    by (stuck a b none-fits) = absurd (true≢false (sym fine ∙ b))
-    by (read ns a b nests text kept) =
-        outside_more t ps ns (drop r.at t) (same ∙ ap (λ (s : List ℕ). map letter_byte ps ++ 46 ∷ s) text) nests
-        (rw (length-drop r.at t) (omega (arith, over, body.inside.within)))
-
--- the whole text was read
-pub whole : (t : List ℕ) (p : PrefixRead) (r : Progress) → PrefixResult t 0 (replicate 4 false) p → p.ok ≡ true
-    → ReadsKinds (State ∷ []) t p.letters (begun_at p.next) r → r.ok ≡ true
-    → r.at ≡ length t → Read t p.next p.letters p.exists r.kept
-whole t p r (PrefixResult.none ok not) good body fine over = absurd (true≢false (sym good ∙ ok))
-whole t p r (prefix ps ok l h same n e x) good body fine over = by body.result
-  where
-    count : p.letters ≡ length ps
-    count = omega arith
-
-    to_end : (ns : List Node) → drop p.next t ≡ body_text ns ++ drop r.at t → drop p.next t ≡ body_text ns
-    to_end ns text =
-        text ∙ ap (λ (s : List ℕ). body_text ns ++ s) (ap (λ (i : ℕ). drop i t) over ∙ drop-length t) ∙ append-nil (body_text ns)
-
-    by : Result (State ∷ []) t p.letters (begun_at p.next) r → Read t p.next p.letters p.exists r.kept
-    by (stopped a b) = absurd (true≢false a)
-    by (stuck a b none-fits) = absurd (true≢false (sym fine ∙ b))
-    by (read ns a b nests text kept) =
-        record {
-          ps = ps;
-          ns = ns;
-          spells =
-              record {
-                some = omega arith;
-                few = omega arith;
-                nests = nests;
-                text =
-                    same ∙ ap (λ (s : List ℕ). map letter_byte ps ++ 46 ∷ s) (to_end ns text)
-                    ∙ sym (append_assoc (map letter_byte ps) (46 ∷ []) (body_text ns));
-              };
-          lettered = count;
-          flagged = x;
-          kept = kept ∙ ap (λ (i : ℕ). keep_all i (begun_at 0).kept ns) count;
-          body = record { writable = all_writable nests; text = to_end ns text };
-        }
-
--- what is kept of a list of nodes, from nothing on
-module _ (letters : ℕ) (ns : List Node) where
-  all_fault : (keep_all letters (begun_at 0).kept ns).fault ≡ some_out_of_range letters ns
-  all_fault = kept_fault letters (begun_at 0).kept ns
-
-  all_count : (keep_all letters (begun_at 0).kept ns).count ≡ length ns
-  all_count = omega (arith, kept_count letters (begun_at 0).kept ns)
-
--- the answer for a text in the grammar
-finish_kept : (t : List ℕ) (ps : List Bool) (ns : List Node) → Spells ps ns t → length t ≤ 400
-    → ReadSentenceEnsures t
-    (finished_as (length ps) (sets (replicate 4 false) 0 ps) (keep_all (length ps) (begun_at 0).kept ns) (places_of ns))
-unfolding record_of
-finish_kept t ps ns s short = by (tested (some_out_of_range (length ps) ns)) (tested (ltb 64 (length ns)))
-  where
-    by : Tested (some_out_of_range (length ps) ns) → Tested (ltb 64 (length ns))
-        → ReadSentenceEnsures t
-        (finished_as (length ps) (sets (replicate 4 false) 0 ps) (keep_all (length ps) (begun_at 0).kept ns) (places_of ns))
-    by (holds e) m = rw (all_fault (length ps) ns, e) (answer_range s short e)
-    by (fails e) (holds m) =
-        rw (all_fault (length ps) ns, e, all_count (length ps) ns, m) (answer_many s short e (ltb-true 64 (length ns) m))
-    by (fails e) (fails m) =
-        let h : length ns ≤ 64 = ltb-false 64 (length ns) m in
-        rw (all_fault (length ps) ns, e, all_count (length ps) ns, m, stored 4 false ps s.few) (answer_done s short e h)
-
-pub finish : (t : List ℕ) (at letters : ℕ) (flags : List Bool) (k : Tally) (a : SentenceRead) → Read t at letters flags k
-    → length t ≤ 400 → Finished t at letters flags k a → ReadSentenceEnsures t a
-finish t at letters flags k a r short finished =
-    let count : length r.ns ≡ k.count = sym (ap (λ (x : Tally). x.count) r.kept ∙ all_count (length r.ps) r.ns) in
-    rw (finished r.ns count r.body, r.lettered, r.flagged, r.kept) (finish_kept t r.ps r.ns r.spells short)
-
--- the state in which the body is read lies inside the text
-pub begun_inside : (t : List ℕ) (flags : List Bool) (p : PrefixRead) → PrefixResult t 0 flags p → p.ok ≡ true
-    → InText t (begun_at p.next)
-begun_inside t flags p (PrefixResult.none ok not) good = absurd (true≢false (sym good ∙ ok))
-begun_inside t flags p (prefix ps ok l h same n e x) good = record { within = n; counted = omega arith }
+pub outside_more : {t r s : List ℕ} {o p : Prefix} {letters : ℕ} {b a : Body} → IsPrefix o t p r → Reads (State ∷ []) r letters b a s
+    → (length s ≡ 0 → ⊥) → NoSentence t
+outside_more {t} {r} {s} is read more qs ms spells =
+    let p : Peeled [] read.nodes ms s [] =
+    peel [] ms s [] read.nests spells.nests
+    (sym read.text ∙ (body_after is.letters qs is.follows.text spells).1 ∙ sym (append-nil (body_text ms))) in
+    more (ap length (p.text ∙ ap (λ (l : List Node). body_text l ++ []) (none_left p.nests)))

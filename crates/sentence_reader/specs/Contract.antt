@@ -1,11 +1,11 @@
 -- Document 01, 'Calls and refusal numbers', for read sentence: its rows, and what the call ensures.
-use Rattle.std.specs.Prelude.{ℕ, ◌<◌, Bool, true, List, [], ◌≡◌, length}
-use Rattle.refusal.specs.Answers.{reply_of, Ensured}
+use Rattle.std.specs.Prelude.{ℕ, ◌<◌, Bool, true, List, ◌≡◌, length, Result}
+use Rattle.refusal.specs.Answers.{Reads}
+use Rattle.refusal.specs.declared.Refusal.{Refusal}
 use Rattle.sentence.specs.Grammar.{Spells, some_out_of_range}
 use Rattle.sentence.specs.Record.{record_of}
 use Rattle.sentence.specs.declared.Node.{Node}
 use Rattle.sentence.specs.declared.Sentence.{Sentence}
-use Rattle.sentence_reader.specs.declared.SentenceRead.{SentenceRead}
 
 -- the rows of read sentence: `ReadRow t n` says that the row with the number n applies to the text t
 pub data ReadRow (t : List ℕ) : ℕ → Type 0 where
@@ -21,7 +21,6 @@ pub record Spelled (t : List ℕ) (s : Sentence) : Type 0 where
   pub spells : Spells prefix nodes t
   pub fields : s ≡ record_of prefix nodes
 
--- what read sentence ensures of the text t and of what it returns: on a refusal, which carries only its number, the record is
--- empty
-pub record ReadSentenceEnsures (t : List ℕ) (r : SentenceRead) : Type 0 where
-  pub ensured : Ensured (ReadRow t) (λ done. Spelled t) (record_of [] []) (reply_of r.outcome) r.sentence
+-- what read sentence ensures of the text t and what it answers: the record of the prefix and the nodes that spell it
+abbrev pub ReadSentenceEnsures : List ℕ → Result Sentence Refusal → Type 0
+ReadSentenceEnsures t = Reads (ReadRow t) (Spelled t)

@@ -1,60 +1,49 @@
 -- Working: what the functions of this crate promise one another. Nothing here has to be believed.
 -- The parts of the reader, said over the grammar.
-use Rattle.std.specs.Prelude.{ℕ, ◌+◌, ◌-◌, ◌≤◌, Bool, true, false, cond, List, [], ◌∷◌, ◌++◌, map, ◌≡◌, ltb, length, drop, replicate}
+use Rattle.std.specs.Prelude.{ℕ, ◌+◌, ◌≤◌, Bool, false, List, ◌∷◌, ◌++◌, map, ◌≡◌, length, replicate, set}
 use Rattle.std.proofs.lemmas.List.Edits.{sets}
-use Rattle.sentence.specs.Grammar.{node_text, Writable, body_text, letter_byte}
-use Rattle.refusal.specs.declared.Outcome.TheVariants.{Done, Refused}
-use Rattle.sentence.specs.Record.{slot, record_of}
-use Rattle.sentence.specs.Working.{AllWritable}
+use Rattle.sentence.specs.Grammar.{letter_byte, Spells}
 use Rattle.sentence.specs.declared.Node.{Node}
-use Rattle.sentence.specs.declared.Node.TheVariants.{True}
-use Rattle.sentence.specs.declared.Slot.{Slot}
-use Rattle.sentence_scan.specs.declared.Tally.{Tally}
-use Rattle.sentence_reader.specs.declared.SentenceRead.{SentenceRead}
-use Rattle.sentence_reader.specs.declared.NodeRead.{NodeRead}
-use Rattle.sentence_reader.specs.declared.PrefixRead.{PrefixRead}
+use Rattle.sentence_scan.specs.Working.{no_nodes, keep_all}
+use Rattle.sentence_scan.specs.declared.Body.{Body}
+use Rattle.sentence_reader.specs.declared.Prefix.{Prefix}
 
--- the letters of the prefix from the place `at` on, and the dot; `flags` has the letters before
-pub data PrefixResult (t : List ℕ) (at : ℕ) (flags : List Bool) (r : PrefixRead) : Type 0 where
-  prefix : (qs : List Bool) → r.ok ≡ true → 1 ≤ at + length qs → at + length qs ≤ 4
-      → drop at t ≡ map letter_byte qs ++ 46 ∷ drop r.next t → r.next ≤ length t → r.letters ≡ at + length qs
-      → r.exists ≡ sets flags at qs → PrefixResult t at flags r
-  none : r.ok ≡ false
-      → ((qs : List Bool) (rest : List ℕ) → 1 ≤ at + length qs → at + length qs ≤ 4 → drop at t ≡ map letter_byte qs ++ 46 ∷ rest → ⊥)
-      → PrefixResult t at flags r
+-- no letter is read yet
+abbrev pub no_letters : Prefix
+no_letters = record { letters = 0; exists = replicate 4 false }
 
--- a node that was read up to the place `next`
-abbrev pub node_to : Node → ℕ → NodeRead
-node_to n next = record { node = n; next = next }
+-- one letter more
+abbrev pub one_letter : Prefix → Bool → Prefix
+one_letter p x = record { letters = p.letters + 1; exists = set p.exists p.letters x }
 
--- where a node's own text stands at the place `at`, the node is read and the place past its text
-abbrev pub NodeHere : List ℕ → ℕ → NodeRead → Type 0
-NodeHere t at r = (n : Node) (rest : List ℕ) → Writable n → drop at t ≡ node_text n ++ rest → (r.node ≡ n) × (drop r.next t ≡ rest)
+-- and the letters qs more
+abbrev pub with_letters : Prefix → List Bool → Prefix
+with_letters p qs = record { letters = p.letters + length qs; exists = sets p.exists p.letters qs }
 
--- the text from the place `at` on is that of the nodes ns
-pub record Body (t : List ℕ) (at : ℕ) (ns : List Node) : Type 0 where
-  pub writable : AllWritable ns
-  pub text : drop at t ≡ body_text ns
+-- at the front of the text t stand the letters qs, which make a whole prefix with those of p, and the dot, and then the rest
+pub record Follows (p : Prefix) (t : List ℕ) (qs : List Bool) (rest : List ℕ) : Type 0 where
+  pub some : 1 ≤ p.letters + length qs
+  pub few : p.letters + length qs ≤ 4
+  pub text : t ≡ map letter_byte qs ++ 46 ∷ rest
 
--- the record's places of a list of nodes: places past the list are empty
-abbrev pub places_of : List Node → List Slot
-places_of ns = map slot ns ++ replicate (64 - length ns) (slot True)
+-- the prefix q is p and such letters
+pub record IsPrefix (p : Prefix) (t : List ℕ) (q : Prefix) (rest : List ℕ) : Type 0 where
+  pub letters : List Bool
+  pub follows : Follows p t letters rest
+  pub same : q ≡ with_letters p letters
 
--- where the text from the place `at` on is that of so many nodes, these are their places
-abbrev pub NodesHere : List ℕ → ℕ → ℕ → List Slot → Type 0
-NodesHere t at count places = (ns : List Node) → length ns ≡ count → Body t at ns → places ≡ places_of ns
+-- no such letters stand at the front of the text t
+abbrev pub NoPrefix : Prefix → List ℕ → Type 0
+NoPrefix p t = (qs : List Bool) (rest : List ℕ) → Follows p t qs rest → ⊥
 
--- a refusal: the record is empty
-abbrev pub refusal : ℕ → SentenceRead
-refusal n = record { outcome = Refused n; sentence = record_of [] [] }
+-- the text t is the sentence of a prefix and a list of nodes, and this is what was read of it
+pub record IsSentence (t : List ℕ) (p : Prefix) (b : Body) : Type 0 where
+  pub prefix : List Bool
+  pub nodes : List Node
+  pub spells : Spells prefix nodes t
+  pub letters : p ≡ with_letters no_letters prefix
+  pub body : b ≡ keep_all (length prefix) no_nodes nodes
 
--- the answer for a text in the grammar, from what was kept of it and the places of its nodes: 7 before 8
-abbrev pub finished_as : ℕ → List Bool → Tally → List Slot → SentenceRead
-finished_as letters flags k places =
-    cond k.fault (refusal 7)
-    (cond (ltb 64 k.count) (refusal 8)
-    (record { outcome = Done; sentence = record { letters = letters; exists = flags; count = k.count; nodes = places } }))
-
--- the same, where the text from the place `at` on is that of the nodes that were kept
-abbrev pub Finished : List ℕ → ℕ → ℕ → List Bool → Tally → SentenceRead → Type 0
-Finished t at letters flags k r = (ns : List Node) → length ns ≡ k.count → Body t at ns → r ≡ finished_as letters flags k (places_of ns)
+-- the text t is no sentence
+abbrev pub NoSentence : List ℕ → Type 0
+NoSentence t = (ps : List Bool) (ns : List Node) → Spells ps ns t → ⊥

@@ -1,2 +1,2 @@
--- What the first pass over a body promises.
+-- What reading a body promises.
 pub mod Working

@@ -1,3 +1,3 @@
 -- The laws that the proofs share.
 pub mod Fitting
-pub mod Sizes
+pub mod Faults

@@ -1,160 +1,45 @@
-// A record's list of nodes: whether it is a thing of the grammar, how long its text is, and whether a node is out of its range.
+// A list of nodes that is to be written: whether it is a thing of the grammar, how long its text is, and whether a node of it is out
+// of its range.
 #![tactic(auto)]
 
-ghost use Rattle.std.specs.Prelude.{◌+◌, ◌≤◌, ◌<◌, [], ◌∷◌, ◌≡◌, length, drop};
-ghost use Rattle.sentence.specs.Grammar.{node_text, writable, kind_of};
-ghost use Rattle.sentence.specs.Record.{listed};
-ghost use Rattle.sentence.specs.Working.{same_kind};
-ghost use Rattle.sentence_survey.specs.Surveys.{Fits, Surveyed};
+ghost use Rattle.std.specs.Prelude.{◌≤◌, ◌*◌, [], ◌∷◌, ◌≡◌, length, MatchOption};
+ghost use Rattle.sentence.specs.Grammar.{body_text, some_out_of_range};
+ghost use Rattle.sentence_survey.specs.Surveys.{Fits, Unfit};
 
-use numerals::{BEYOND, number_size};
-use sentence::{Kind, Node, Slot, Wants, is_fault, wants_of};
+use sentence::{Kind, Node, Wants};
 
-// A place in a node list, and whether the list nests so far.
-#[derive(Clone, Copy)]
-pub struct Place {
-    pub ok: bool,
-    pub at: usize,
-}
-
-// The length of a list's text, and whether a node of it is out of its range.
-#[derive(Clone, Copy)]
-pub struct Survey {
-    pub size: usize,
-    pub fault: bool,
-}
-
-// The kind of a node.
-fn kind_of(node: Node) -> Kind
-    ensures { result ≡ kind_of node }
+// What follows the thing of this kind that stands at the front of a list of nodes. Each call has a smaller rest of the list.
+// (`Body::read` goes the same way over a text: a trait for both, with its laws, would be longer than the lines that they share.)
+pub fn nest(nodes: &[Node], kind: Kind) -> Option<&[Node]>
+    ensures { MatchOption result (Unfit (kind ∷ []) nodes.now) (λ rest. Fits (kind ∷ []) nodes.now rest.now) }
 {
-    match node {
-        Node::True => Kind::State,
-        Node::Label {
-            label: _,
-            variable: _,
-        } => Kind::State,
-        Node::Not => Kind::State,
-        Node::And => Kind::State,
-        Node::Compare(_) => Kind::State,
-        Node::Probability => Kind::Expression,
-        Node::Constant { top: _, bottom: _ } => Kind::Expression,
-        Node::Sum => Kind::Expression,
-        Node::Difference => Kind::Expression,
-        Node::Product => Kind::Expression,
-        Node::Next => Kind::Path,
-        Node::Until { from: _, to: _ } => Kind::Path,
+    let (node, rest) = nodes.split_first()?;
+    if node.kind() != kind || !node.has_text() {
+        return None;
+    }
+    match node.wants() {
+        Wants::Nothing => Some(rest),
+        Wants::One(wanted) => nest(rest, wanted),
+        Wants::Two(wanted) => nest(nest(rest, wanted)?, wanted),
     }
 }
 
-// Whether two kinds are the same.
-fn same_kind(a: Kind, b: Kind) -> bool
-    ensures { result ≡ same_kind a b }
+// The length of the text of a list of nodes.
+pub fn text_size(nodes: &[Node]) -> usize
+    requires { length nodes.now ≤ 64 }
+    ensures size { result ≡ length (body_text nodes.now) }
+    ensures small { result ≤ 14 * length nodes.now }
 {
-    match a {
-        Kind::State => match b {
-            Kind::State => true,
-            Kind::Expression => false,
-            Kind::Path => false,
-        },
-        Kind::Expression => match b {
-            Kind::State => false,
-            Kind::Expression => true,
-            Kind::Path => false,
-        },
-        Kind::Path => match b {
-            Kind::State => false,
-            Kind::Expression => false,
-            Kind::Path => true,
-        },
+    let mut size = 0;
+    for node in nodes {
+        size += node.size();
     }
+    size
 }
 
-// Whether the grammar has a text for the node: its letter, its digit, its numbers. A node without them always has one.
-fn has_text(node: Node) -> bool
-    ensures { result ≡ writable node }
+// Whether a node of the list is out of its range, in a sentence with this many letters.
+pub fn has_fault(nodes: &[Node], letters: usize) -> bool
+    ensures { result ≡ some_out_of_range letters nodes.now }
 {
-    match node {
-        Node::Label { label, variable } => (label < 16) & (1 <= variable) & (variable <= 4),
-        Node::Constant { top, bottom } => (top < BEYOND) & (bottom < BEYOND),
-        Node::Until { from, to } => (from < BEYOND) & (to < BEYOND),
-        _ => true,
-    }
-}
-
-// The number of bytes of a node's own text.
-fn node_size(node: Node) -> usize
-    ensures { (result ≡ length (node_text node)) × (result ≤ 14) }
-{
-    match node {
-        Node::True => 1,
-        Node::Label {
-            label: _,
-            variable: _,
-        } => 2,
-        Node::Not => 1,
-        Node::And => 1,
-        Node::Compare(_) => 1,
-        Node::Probability => 1,
-        Node::Constant { top, bottom } => number_size(top) + number_size(bottom) + 3,
-        Node::Sum => 1,
-        Node::Difference => 1,
-        Node::Product => 1,
-        Node::Next => 1,
-        Node::Until { from, to } => number_size(from) + number_size(to) + 3,
-    }
-}
-
-// Whether a thing of the kind stands in the first `count` nodes from a place on, and where it ends. Each call starts at a later place.
-pub fn nest(nodes: [Slot; 64], count: usize, kind: Kind, p: Place) -> Place
-    requires { (count ≤ 64) × (p.at ≤ count) × (length nodes ≡ 64) }
-    ensures { Fits (kind ∷ []) (listed nodes count) p result }
-{
-    let ok = p.ok;
-    let at = p.at;
-    if !ok {
-        return p;
-    }
-    if count <= at {
-        return Place { ok: false, at };
-    }
-    let slot = nodes[at];
-    let node = slot.node;
-    let suits = same_kind(kind_of(node), kind) & has_text(node);
-    if !suits {
-        return Place { ok: false, at };
-    }
-    let next = Place {
-        ok: true,
-        at: at + 1,
-    };
-    let w = wants_of(node);
-    match w {
-        Wants::Nothing => next,
-        Wants::One(k) => nest(nodes, count, k, next),
-        Wants::Two(k) => {
-            let one = nest(nodes, count, k, next);
-            nest(nodes, count, k, one)
-        }
-    }
-}
-
-// The length of the text of the nodes from a place on, and whether one of them is out of its range.
-pub fn survey_from(nodes: [Slot; 64], letters: usize, count: usize, at: usize) -> Survey
-    requires { (count ≤ 64) × (at ≤ count) × (length nodes ≡ 64) }
-    ensures { Surveyed letters (drop at (listed nodes count)) result }
-{
-    if at == count {
-        return Survey {
-            size: 0,
-            fault: false,
-        };
-    }
-    let slot = nodes[at];
-    let node = slot.node;
-    let rest = survey_from(nodes, letters, count, at + 1);
-    Survey {
-        size: node_size(node) + rest.size,
-        fault: is_fault(letters, node) | rest.fault,
-    }
+    nodes.iter().any(|node| node.is_fault(letters))
 }

@@ -1,3 +1,2 @@
 -- The laws that the proofs of the writer share.
-pub mod Puts
 pub mod WriteAll

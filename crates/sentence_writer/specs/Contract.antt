@@ -1,7 +1,7 @@
 -- Document 01, 'Calls and refusal numbers', for write sentence: its rows, and what the call ensures.
-use Rattle.std.specs.Prelude.{ℕ, ◌≤◌, ◌<◌, true, List, ◌≡◌, length}
-use Rattle.refusal.specs.declared.Written.{Written}
-use Rattle.refusal.specs.Answers.{reply_of_written, TextAtFront, Ensured}
+use Rattle.std.specs.Prelude.{ℕ, ◌≤◌, ◌<◌, true, List, ◌≡◌, length, Result}
+use Rattle.refusal.specs.declared.Refusal.{Refusal}
+use Rattle.refusal.specs.Answers.{reply_of, TextAtFront, Ensured}
 use Rattle.sentence.specs.Grammar.{Spells, some_out_of_range}
 use Rattle.sentence.specs.Record.{prefix_of, nodes_of}
 use Rattle.sentence.specs.declared.Sentence.{Sentence}
@@ -14,8 +14,8 @@ pub data WriteRow (s : Sentence) (room : ℕ) : ℕ → Type 0 where
   range : some_out_of_range s.letters (nodes_of s) ≡ true → WriteRow s room 7
   short : {t : List ℕ} → Spells (prefix_of s) (nodes_of s) t → room < length t → WriteRow s room 14
 
--- what write sentence ensures of the record, the output before and after, and of what it returns: the text that the record's
+-- what write sentence ensures of the record, the output before and after, and what it answers: the text that the record's
 -- prefix and nodes spell stands at the front
-pub record WriteSentenceEnsures (s : Sentence) (before : List ℕ) (w : Written) (after : List ℕ) : Type 0 where
+pub record WriteSentenceEnsures (s : Sentence) (before : List ℕ) (answer : Result ℕ Refusal) (after : List ℕ) : Type 0 where
   pub ensured : Ensured (WriteRow s (length before)) (TextAtFront (Spells (prefix_of s) (nodes_of s)) before)
-      before (reply_of_written w) after
+      before (reply_of answer) after

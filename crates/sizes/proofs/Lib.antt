@@ -1,2 +1,2 @@
 -- Laws of capped numbers, and of what the walk finds node by node.
-pub mod Walk
+pub mod Walking

@@ -1,5 +1,6 @@
 // The size rule, refusal 10, over the places of a sentence's record. No number here grows past 2^62 + 1: of a number above 2^62
 // only that matters.
+// A tree is a place in the record's array: memory is fixed, so no node owns another.
 #![tactic(auto)]
 
 ghost use Rattle.std.specs.Prelude.{ℕ, ◌+◌, ◌*◌, ◌^◌, ◌≤◌, ◌<◌, false, ◌≡◌};
@@ -8,14 +9,15 @@ ghost use Rattle.meaning.specs.Tree.{Formula};
 ghost use Rattle.trees.specs.Standing.{FormulaAt};
 ghost use Rattle.sizes.specs.Sizing.{unmeasured, measured, of_path, of_sum, of_product, of_comparison, of_probability};
 ghost use Rattle.capped.specs.Capping.{capped};
-ghost use Rattle.sizes.specs.Sizing.{Sizes, SizesTwo, OfNone, OfOne, OfTwo};
+ghost use Rattle.sizes.specs.Sizing.{of_none, of_one, of_two, Sizes};
 
 use capped::{plus, power, times, too_large};
 use names::{how_many, names};
-use sentence::{Node, Sentence, Slot, Wants, wants_of};
+use sentence::{Node, Wants};
 
 // What is found of a tree: where its nodes end; an expression's d and m, capped; a path's steps; and whether some number of the size
-// rule is above 2^62. What a tree of its kind does not have is 0.
+// rule is above 2^62. What a tree of its kind does not have is 0: an enum of the three kinds is no plainer, since each operation on
+// two measures would have arms for kinds that its operands cannot have.
 #[derive(Clone, Copy)]
 struct Measure {
     next: usize,
@@ -25,69 +27,54 @@ struct Measure {
     over: bool,
 }
 
-// What is found of two trees, one after another.
-#[derive(Clone, Copy)]
-struct MeasureTwo {
-    next: usize,
-    d1: u64,
-    m1: u64,
-    d2: u64,
-    m2: u64,
-    over: bool,
-}
-
 // A formula, which has no d, no m and no steps.
 fn plain(next: usize, over: bool) -> Measure
     ensures { result ≡ unmeasured next over }
 {
-    Measure {
-        next,
-        d: 0,
-        m: 0,
-        steps: 0,
-        over,
-    }
+    stepped(next, 0, over)
 }
 
 // An expression of d and m; `over` is what was found of its parts.
 fn judged(next: usize, d: u64, m: u64, over: bool) -> Measure
     ensures { result ≡ measured next d m over }
 {
-    let over = over | too_large(d) | too_large(m);
     Measure {
         next,
         d,
         m,
         steps: 0,
-        over,
+        over: over | too_large(d) | too_large(m),
     }
 }
 
 // A sum or a difference: d1 × d2 and m1 × d2 + m2 × d1.
-fn added(t: MeasureTwo) -> Measure
-    ensures { result ≡ of_sum t }
+fn added(a: Measure, b: Measure) -> Measure
+    ensures { result ≡ of_sum a b }
 {
-    let d = times(t.d1, t.d2);
-    let m = plus(times(t.m1, t.d2), times(t.m2, t.d1));
-    judged(t.next, d, m, t.over)
+    let d = times(a.d, b.d);
+    let m = plus(times(a.m, b.d), times(b.m, a.d));
+    judged(b.next, d, m, a.over | b.over)
 }
 
 // A product: d1 × d2 and m1 × m2.
-fn multiplied(t: MeasureTwo) -> Measure
-    ensures { result ≡ of_product t }
+fn multiplied(a: Measure, b: Measure) -> Measure
+    ensures { result ≡ of_product a b }
 {
-    let d = times(t.d1, t.d2);
-    let m = times(t.m1, t.m2);
-    judged(t.next, d, m, t.over)
+    let d = times(a.d, b.d);
+    let m = times(a.m, b.m);
+    judged(b.next, d, m, a.over | b.over)
 }
 
 // A comparison: its m1 × d2 and m2 × d1.
-fn crossed(t: MeasureTwo) -> Measure
-    ensures { result ≡ of_comparison t }
+fn crossed(a: Measure, b: Measure) -> Measure
+    ensures { result ≡ of_comparison a b }
 {
-    let first = times(t.m1, t.d2);
-    let second = times(t.m2, t.d1);
-    plain(t.next, t.over | too_large(first) | too_large(second))
+    let first = times(a.m, b.d);
+    let second = times(b.m, a.d);
+    plain(
+        b.next,
+        a.over | b.over | too_large(first) | too_large(second),
+    )
 }
 
 // A path of so many steps; `over` is what was found of its formulas.
@@ -101,13 +88,6 @@ fn stepped(next: usize, steps: u32, over: bool) -> Measure
         steps,
         over,
     }
-}
-
-// A conjunction of two formulas.
-fn joined(t: MeasureTwo) -> Measure
-    ensures { result ≡ unmeasured t.next t.over }
-{
-    plain(t.next, t.over)
 }
 
 // A constant: d is its bottom, m its top.
@@ -125,108 +105,89 @@ fn denominator(base: u64, v: usize, steps: u32) -> u64
     power(base, (v as u64) * (steps as u64))
 }
 
-// The probability of the path at a place: its d and m are the path's denominator, for the variables that its nodes name.
-fn probable(nodes: [Slot; 64], at: usize, w: Measure, base: u64, n: usize) -> Measure
-    requires { (at ≤ w.next) × (w.next ≤ 64) × (n ≤ 4) }
-    ensures { result ≡ of_probability nodes at w base n }
-{
-    let v = how_many(names(nodes, at, w.next), n);
-    let d = denominator(base, v, w.steps);
-    judged(w.next, d, d, w.over)
-}
-
-// What is found of two trees, one after another.
-#[cycle(operands_size_at)]
-fn operands(nodes: [Slot; 64], at: usize, base: u64, n: usize) -> MeasureTwo
-    requires { (at ≤ 64) × (n ≤ 4) }
-    ensures { SizesTwo nodes at base n result }
-{
-    let first = size_at(nodes, at, base, n);
-    let second = size_at(nodes, first.next, base, n);
-    MeasureTwo {
-        next: second.next,
-        d1: first.d,
-        m1: first.m,
-        d2: second.d,
-        m2: second.m,
-        over: first.over | second.over,
-    }
-}
-
-// What is found of a node that wants nothing. Unspecified for other nodes.
+// What is found of a node that wants nothing. Of other nodes the result means nothing.
 fn of_none(node: Node, at: usize) -> Measure
     requires { at < 64 }
-    ensures { OfNone node at result }
+    ensures { result ≡ of_none node at }
 {
     match node {
-        Node::True => plain(at + 1, false),
-        Node::Label {
-            label: _,
-            variable: _,
-        } => plain(at + 1, false),
         Node::Constant { top, bottom } => constant(at + 1, top, bottom),
-        _ => plain(at, false),
+        _ => plain(at + 1, false),
     }
 }
 
-// What is found of the node at a place that wants one thing, from what is found of that. Unspecified for other nodes.
-fn of_one(nodes: [Slot; 64], at: usize, node: Node, t: Measure, base: u64, n: usize) -> Measure
-    requires { (at + 1 ≤ t.next) × (t.next ≤ 64) × (n ≤ 4) }
-    ensures { OfOne nodes at node t base n result }
+// What is found of a node that wants two things, from what is found of both. Of other nodes the result means nothing.
+fn of_two(node: Node, a: Measure, b: Measure) -> Measure
+    ensures { result ≡ of_two node a b }
 {
     match node {
-        Node::Not => t,
-        Node::Probability => probable(nodes, at + 1, t, base, n),
-        Node::Next => stepped(t.next, 1, t.over),
-        _ => t,
+        Node::Compare(_) => crossed(a, b),
+        Node::Sum | Node::Difference => added(a, b),
+        Node::Product => multiplied(a, b),
+        Node::Until { to, .. } => stepped(b.next, to, a.over | b.over),
+        _ => plain(b.next, a.over | b.over),
     }
 }
 
-// What is found of a node that wants two things, from what is found of both. Unspecified for other nodes.
-fn of_two(node: Node, t: MeasureTwo) -> Measure
-    ensures { OfTwo node t result }
-{
-    match node {
-        Node::And => joined(t),
-        Node::Compare(_) => crossed(t),
-        Node::Sum => added(t),
-        Node::Difference => added(t),
-        Node::Product => multiplied(t),
-        Node::Until { from: _, to } => stepped(t.next, to, t.over),
-        _ => joined(t),
-    }
+// The walk over the places of a record, for D = `base` and n variables.
+#[derive(Clone, Copy)]
+struct Walk<'a> {
+    nodes: &'a [Node; 64],
+    base: u64,
+    n: usize,
+    ghost few: { n ≤ 4 },
 }
 
-// What is found of the tree at a place, for D = `base` and n variables, by what its node wants. Where no tree stands only the
-// bounds of `next` hold.
-#[cycle(operands_size_at)]
-fn size_at(nodes: [Slot; 64], at: usize, base: u64, n: usize) -> Measure
-    requires { (at ≤ 64) × (n ≤ 4) }
-    ensures { Sizes nodes at base n result }
-{
-    if 64 <= at {
-        return plain(at, false);
+impl Walk<'_> {
+    // The probability of the path at a place: its d and m are the path's denominator, for the variables that its nodes name.
+    fn probable(&self, at: usize, w: Measure) -> Measure
+        requires { (at ≤ w.next) × (w.next ≤ 64) }
+        ensures { result ≡ of_probability self.now.nodes.now at w self.now.base self.now.n }
+    {
+        let v = how_many(names(self.nodes, at, w.next), self.n);
+        let d = denominator(self.base, v, w.steps);
+        judged(w.next, d, d, w.over)
     }
-    let slot = nodes[at];
-    let node = slot.node;
-    let wants = wants_of(node);
-    match wants {
-        Wants::Nothing => of_none(node, at),
-        Wants::One(_) => {
-            let t = size_at(nodes, at + 1, base, n);
-            of_one(nodes, at, node, t, base, n)
+
+    // What is found of the node at a place that wants one thing, from what is found of that. Of other nodes the result means nothing.
+    fn of_one(&self, at: usize, node: Node, t: Measure) -> Measure
+        requires { (at + 1 ≤ t.next) × (t.next ≤ 64) }
+        ensures { result ≡ of_one self.now.nodes.now at node t self.now.base self.now.n }
+    {
+        match node {
+            Node::Probability => self.probable(at + 1, t),
+            Node::Next => stepped(t.next, 1, t.over),
+            _ => t,
         }
-        Wants::Two(_) => of_two(node, operands(nodes, at + 1, base, n)),
+    }
+
+    // What is found of the tree at a place, by what its node wants. Where no tree stands only the bounds of `next` hold.
+    fn size_at(&self, at: usize) -> Measure
+        requires { at ≤ 64 }
+        ensures { Sizes self.now.nodes.now at self.now.base self.now.n result }
+    {
+        if 64 <= at {
+            return plain(at, false);
+        }
+        let node = self.nodes[at];
+        match node.wants() {
+            Wants::Nothing => of_none(node, at),
+            Wants::One(_) => self.of_one(at, node, self.size_at(at + 1)),
+            Wants::Two(_) => {
+                let first = self.size_at(at + 1);
+                let second = self.size_at(first.next);
+                of_two(node, first, second)
+            }
+        }
     }
 }
 
 // Whether some number of the size rule is above 2^62, in a sentence of n letters whose record holds a formula from place 0
 // on. Unspecified for a record that holds none.
-pub fn exceeds(s: Sentence, d: u64, n: usize) -> bool
+pub fn exceeds(nodes: &[Node; 64], d: u64, n: usize) -> bool
     requires { n ≤ 4 }
-    ensures { (f : Formula) (q : ℕ) → FormulaAt s.nodes 0 f q → result ≡ exceeds_rule f d n }
+    ensures { (f : Formula) (q : ℕ) → FormulaAt nodes.now 0 f q → result ≡ exceeds_rule f d n }
 {
-    let nodes = s.nodes;
-    let found = size_at(nodes, 0, d, n);
-    found.over
+    let walk = Walk { nodes, base: d, n };
+    walk.size_at(0).over
 }

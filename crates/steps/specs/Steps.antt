@@ -1,17 +1,13 @@
 -- Working: what the functions of this crate promise one another. Nothing here has to be believed.
 --
 -- A joint step of some variables, over a whole layer: what it asks, and what it makes of any function that the layer held.
-use Rattle.std.specs.Prelude.{ℕ, ◌-◌, ◌*◌, ◌^◌, ◌≤◌, ◌<◌, List, ◌≡◌, length, get_or, take, drop}
+use Rattle.std.specs.Prelude.{ℕ, ◌*◌, ◌^◌, ◌≤◌, ◌<◌, List, ◌≡◌, length, get_or}
 use Rattle.meaning.specs.Chain.{Chain, Tuple}
 use Rattle.meaning.specs.Named.{Some, count}
 use Rattle.meaning.proofs.Steps.{steps}
 use Rattle.meaning.specs.Size.{size_limit}
 use Rattle.layers.specs.Layers.{Layer, RestKept}
 use Rattle.layers.specs.Held.{most_variables, Holds, LayerSizes}
-
--- of the last l of n variables, those that move
-abbrev pub last_of : (n l : ℕ) → Some → Some
-last_of n l moving = drop (n - l) (take n moving)
 
 -- the matrix holds a chain, those that move are some of n variables, the layer lies in the list, and its numbers, none above `bound`,
 -- times D^v are at most 2^62

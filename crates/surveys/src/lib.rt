@@ -1,12 +1,13 @@
 // How many layers a node's evaluation needs at once, and where its nodes end. Of two operands the one that needs more is
 // evaluated first, so that no sentence of 64 nodes needs more than seven layers.
+// A tree is a place in the record's array: memory is fixed, so no node owns another.
 #![tactic(auto)]
 
-ghost use Rattle.std.specs.Prelude.{◌≡◌, ◌+◌, ◌≤◌, ◌<◌, max};
+ghost use Rattle.std.specs.Prelude.{◌≡◌, ◌+◌, ◌≤◌, ◌<◌};
 ghost use Rattle.trees.specs.Need.{paired};
-ghost use Rattle.surveys.specs.Surveys.{TreeSurveyed, TreesSurveyed, layers_of_two, Ordered};
+ghost use Rattle.surveys.specs.Surveys.{TreeSurveyed, layers_of_two, Ordered};
 
-use sentence::{Node, Slot, Wants, wants_of};
+use sentence::{Node, Wants};
 
 // Where a node's own nodes end, and the layers that its evaluation needs.
 #[derive(Clone, Copy)]
@@ -16,6 +17,7 @@ pub struct Extent {
 }
 
 // Where two operands begin, in the order in which they are evaluated, and whether that is not the order in which they stand.
+// An enum of the two orders is no plainer: evaluation reads both places whichever it is.
 #[derive(Clone, Copy)]
 pub struct Order {
     pub first: usize,
@@ -28,45 +30,23 @@ fn need_of(a: usize, b: usize) -> usize
     requires { a < 1000 }
     ensures { result ≡ paired a b }
 {
-    if a == b {
-        a + 1
-    } else if a < b {
-        b
-    } else {
-        a
-    }
+    if a == b { a + 1 } else { a.max(b) }
 }
 
-// A node with no operand.
-fn leaf(at: usize) -> Extent
-    requires { at < 64 }
-    ensures { (result.next ≡ at + 1) × (result.layers ≡ 1) }
+// What a node with two operands needs, where these need so many layers: an until computes in a third.
+fn of_two(node: Node, layers: usize) -> usize
+    ensures { result ≡ layers_of_two node layers }
 {
-    Extent {
-        next: at + 1,
-        layers: 1,
-    }
-}
-
-// Two operands, one after another.
-#[cycle(operands_survey)]
-fn operands(nodes: [Slot; 64], at: usize) -> Extent
-    requires { at ≤ 64 }
-    ensures { TreesSurveyed nodes at result }
-{
-    let first = survey(nodes, at);
-    let second = survey(nodes, first.next);
-    Extent {
-        next: second.next,
-        layers: need_of(first.layers, second.layers),
+    match node {
+        Node::Until { .. } => layers.max(3),
+        _ => layers,
     }
 }
 
 // The survey of the node at a place.
-#[cycle(operands_survey)]
-fn survey(nodes: [Slot; 64], at: usize) -> Extent
+fn survey(nodes: &[Node; 64], at: usize) -> Extent
     requires { at ≤ 64 }
-    ensures { TreeSurveyed nodes at result }
+    ensures { TreeSurveyed nodes.now at result }
 {
     if 64 <= at {
         return Extent {
@@ -74,44 +54,29 @@ fn survey(nodes: [Slot; 64], at: usize) -> Extent
             layers: 1,
         };
     }
-    let slot = nodes[at];
-    let node = slot.node;
-    let wants = wants_of(node);
-    match wants {
-        Wants::Nothing => leaf(at),
+    let node = nodes[at];
+    match node.wants() {
+        Wants::Nothing => Extent {
+            next: at + 1,
+            layers: 1,
+        },
         Wants::One(_) => survey(nodes, at + 1),
-        Wants::Two(_) => of_two(node, operands(nodes, at + 1)),
-    }
-}
-
-// A node with two operands: an until needs three layers at least.
-fn of_two(node: Node, two: Extent) -> Extent
-    ensures { (result.next ≡ two.next) × (result.layers ≡ layers_of_two node two.layers) }
-{
-    match node {
-        Node::Until { from: _, to: _ } => at_least_three(two),
-        _ => two,
-    }
-}
-
-// An until computes in a third layer.
-fn at_least_three(s: Extent) -> Extent
-    ensures { (result.next ≡ s.next) × (result.layers ≡ max 3 s.layers) }
-{
-    if s.layers < 3 {
-        Extent {
-            next: s.next,
-            layers: 3,
+        Wants::Two(_) => {
+            let first = survey(nodes, at + 1);
+            let second = survey(nodes, first.next);
+            let both = need_of(first.layers, second.layers);
+            Extent {
+                next: second.next,
+                layers: of_two(node, both),
+            }
         }
-    } else {
-        s
     }
 }
 
 // The order of the two operands at a place: the one that needs more layers first, of equal ones the one that stands first.
-pub fn order_of(nodes: [Slot; 64], at: usize) -> Order
+pub fn order_of(nodes: &[Node; 64], at: usize) -> Order
     requires { at ≤ 64 }
-    ensures { Ordered nodes at result }
+    ensures { Ordered nodes.now at result }
 {
     let one = survey(nodes, at);
     let two = survey(nodes, one.next);

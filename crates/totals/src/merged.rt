@@ -6,38 +6,27 @@ ghost use Rattle.groups.specs.Groups.{is_used};
 ghost use Rattle.groups.specs.Working.{masks_of_groups, rows_of_groups};
 
 use groups::grouping::first_of;
-use model::{Model, matrix};
+use model::Model;
 
-// The model of the groups, from the masks and the totals of the states: from the count of groups on masks and rows are zero.
-pub fn model_of_groups(
-    a: u32,
-    d: u32,
-    version: u32,
-    masks: &[u16; 32],
-    totals: [[u16; 32]; 32],
-    grouping: &[u8],
-    count: usize,
-) -> Model
+// The model of the groups, from the model of the states and their totals: from the count of groups on masks and rows are zero.
+pub fn model_of_groups(m: &Model, totals: &[[u16; 32]; 32], grouping: &[u8], count: usize) -> Model
     requires { (length grouping.now ≤ 32) × (count ≤ 32) × (every_below count (is_used grouping.now) ≡ true) }
-    ensures { result ≡ model_of count a d version (masks_of_groups masks.now grouping.now count)
-        (rows_of_groups totals grouping.now count) }
+    ensures { result ≡ model_of count m.now.a m.now.d m.now.version (masks_of_groups m.now.masks grouping.now count)
+        (rows_of_groups totals.now grouping.now count) }
 {
-    let mut merged = [0u16; 32];
+    let mut masks = [0u16; 32];
     let mut rows = [[0u16; 32]; 32];
-    let mut g: usize = 0;
-    while g < count {
-        let s = first_of(grouping, g);
-        merged[g] = masks[s];
+    for g in 0..count {
+        let s = first_of(grouping, g).unwrap();
+        masks[g] = m.masks[s];
         rows[g] = totals[s];
-        g += 1;
     }
-    let weights = matrix::holding(rows);
     Model {
         n: count as u32,
-        a: a,
-        d: d,
-        version: version,
-        masks: merged,
-        weights: weights,
+        a: m.a,
+        d: m.d,
+        version: m.version,
+        masks,
+        weights: rows,
     }
 }

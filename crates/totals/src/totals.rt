@@ -1,27 +1,20 @@
-// The total weight of each state into each group, as an array of arrays by value.
+// The total weight of each state into each group: the rows are lent, and what is returned is an array of arrays by value.
 ghost use Rattle.std.specs.Prelude.{◌≡◌, cond, [], ℕ, ◌<◌, ◌≤◌, eqb, get_or};
 ghost use Rattle.counting.specs.Below.{sum_below, table};
 ghost use Rattle.groups.specs.Groups.{group_of};
 
 use groups::grouping::group_of;
 
-// A weight where it counts, and 0 where it does not.
-fn counted(counts: bool, weight: u16) -> u32
-    ensures { (result ≡ cond counts weight 0) × (result < 65536) }
-{
-    if counts { weight as u32 } else { 0 }
-}
-
 // The total weight of a row into group h, over the n states.
 fn total_into(row: &[u16; 32], grouping: &[u8], n: usize, h: usize) -> u32
     requires { n ≤ 32 }
     ensures { result ≡ sum_below n (λ t. cond (eqb (group_of grouping.now t) h) (get_or row.now t 0) 0) }
 {
-    let mut total: u32 = 0;
-    let mut t: usize = 0;
-    while t < n {
-        total += counted(group_of(grouping, t) == h, row[t]);
-        t += 1;
+    let mut total = 0;
+    for t in 0..n {
+        if group_of(grouping, t) == h {
+            total += u32::from(row[t]);
+        }
     }
     total
 }
@@ -33,26 +26,21 @@ fn totals_row(row: &[u16; 32], grouping: &[u8], n: usize) -> [u16; 32]
         (λ h. sum_below n (λ t. cond (eqb (group_of grouping.now t) h) (get_or row.now t 0) 0)) }
 {
     let mut totals = [0u16; 32];
-    let mut h: usize = 0;
-    while h < 32 {
+    for h in 0..32 {
         totals[h] = total_into(row, grouping, n, h) as u16;
-        h += 1;
     }
     totals
 }
 
 // The total weight of each state into each group.
-pub fn totals_of(rows: [[u16; 32]; 32], grouping: &[u8], n: usize) -> [[u16; 32]; 32]
-    requires { (n ≤ 32) × ((s : ℕ) → s < 32 → sum_below n (λ t. get_or (get_or rows s []) t 0) ≤ 65535) }
+pub fn totals_of(rows: &[[u16; 32]; 32], grouping: &[u8], n: usize) -> [[u16; 32]; 32]
+    requires { (n ≤ 32) × ((s : ℕ) → s < 32 → sum_below n (λ t. get_or (get_or rows.now s []) t 0) ≤ 65535) }
     ensures { result ≡ table 32 (λ s. table 32 (λ h. sum_below n (λ t. cond (eqb (group_of grouping.now t) h)
-        (get_or (get_or rows s []) t 0) 0))) }
+        (get_or (get_or rows.now s []) t 0) 0))) }
 {
     let mut totals = [[0u16; 32]; 32];
-    let mut s: usize = 0;
-    while s < 32 {
-        let row = rows[s];
-        totals[s] = totals_row(&row, grouping, n);
-        s += 1;
+    for s in 0..32 {
+        totals[s] = totals_row(&rows[s], grouping, n);
     }
     totals
 }

@@ -43,8 +43,10 @@ pair a b x y p q = by (eqb a b) refl
         (omega arith, omega (arith, twice a, p.1, q'))
     by false e = larger a b (suc (x + y)) (more a x (suc (x + y)) (omega arith) p) (more b y (suc (x + y)) (omega arith) q)
 
-joined : (k : ℕ) (ms ns : List Node) → Allowed k (suc (length ms + length ns)) → Allowed k (suc (length (ms ++ ns)))
-joined k ms ns h = subst (λ (l : ℕ). Allowed k (suc l)) (sym (length-append ms ns)) h
+-- the same, by the nodes of both
+pair_nodes : (a b : ℕ) (ms ns : List Node) → Allowed a (length ms) → Allowed b (length ns) → Allowed (paired a b) (suc (length (ms ++ ns)))
+pair_nodes a b ms ns p q =
+    subst (λ (l : ℕ). Allowed (paired a b) (suc l)) (sym (length-append ms ns)) (pair a b (length ms) (length ns) p q)
 
 -- a tree has a node
 pub formula_nodes_some : (f : Formula) → 1 ≤ length (formula_nodes f)
@@ -64,11 +66,9 @@ mutual
   need_allowed (labelled l i) = (omega arith, omega arith)
   need_allowed (negation f) = more (need f) (length (formula_nodes f)) (suc (length (formula_nodes f))) (omega arith) (need_allowed f)
   need_allowed (both f g) =
-      joined (paired (need f) (need g)) (formula_nodes f) (formula_nodes g)
-      (pair (need f) (need g) (length (formula_nodes f)) (length (formula_nodes g)) (need_allowed f) (need_allowed g))
+      pair_nodes (need f) (need g) (formula_nodes f) (formula_nodes g) (need_allowed f) (need_allowed g)
   need_allowed (compare r a b) =
-      joined (paired (need_in a) (need_in b)) (expression_nodes a) (expression_nodes b)
-      (pair (need_in a) (need_in b) (length (expression_nodes a)) (length (expression_nodes b)) (need_in_allowed a) (need_in_allowed b))
+      pair_nodes (need_in a) (need_in b) (expression_nodes a) (expression_nodes b) (need_in_allowed a) (need_in_allowed b)
 
   -- an expression
   pub need_in_allowed : (a : Expression) → Allowed (need_in a) (length (expression_nodes a))
@@ -76,23 +76,20 @@ mutual
       more (need_from w) (length (path_nodes w)) (suc (length (path_nodes w))) (omega arith) (need_from_allowed w)
   need_in_allowed (constant a b) = (omega arith, omega arith)
   need_in_allowed (sum a b) =
-      joined (paired (need_in a) (need_in b)) (expression_nodes a) (expression_nodes b)
-      (pair (need_in a) (need_in b) (length (expression_nodes a)) (length (expression_nodes b)) (need_in_allowed a) (need_in_allowed b))
+      pair_nodes (need_in a) (need_in b) (expression_nodes a) (expression_nodes b) (need_in_allowed a) (need_in_allowed b)
   need_in_allowed (difference a b) =
-      joined (paired (need_in a) (need_in b)) (expression_nodes a) (expression_nodes b)
-      (pair (need_in a) (need_in b) (length (expression_nodes a)) (length (expression_nodes b)) (need_in_allowed a) (need_in_allowed b))
+      pair_nodes (need_in a) (need_in b) (expression_nodes a) (expression_nodes b) (need_in_allowed a) (need_in_allowed b)
   need_in_allowed (product a b) =
-      joined (paired (need_in a) (need_in b)) (expression_nodes a) (expression_nodes b)
-      (pair (need_in a) (need_in b) (length (expression_nodes a)) (length (expression_nodes b)) (need_in_allowed a) (need_in_allowed b))
+      pair_nodes (need_in a) (need_in b) (expression_nodes a) (expression_nodes b) (need_in_allowed a) (need_in_allowed b)
 
   -- a path
   pub need_from_allowed : (w : PathFormula) → Allowed (need_from w) (length (path_nodes w))
   need_from_allowed (next f) = more (need f) (length (formula_nodes f)) (suc (length (formula_nodes f))) (omega arith) (need_allowed f)
   need_from_allowed (until k1 k2 f g) =
-      joined (max 3 (paired (need f) (need g))) (formula_nodes f) (formula_nodes g)
-      (larger 3 (paired (need f) (need g)) (suc (length (formula_nodes f) + length (formula_nodes g)))
-      (omega arith, omega (arith, formula_nodes_some f, formula_nodes_some g))
-      (pair (need f) (need g) (length (formula_nodes f)) (length (formula_nodes g)) (need_allowed f) (need_allowed g)))
+      let long = length-append (formula_nodes f) (formula_nodes g) in
+      larger 3 (paired (need f) (need g)) (suc (length (formula_nodes f ++ formula_nodes g)))
+      (omega arith, omega (arith, long, formula_nodes_some f, formula_nodes_some g))
+      (pair_nodes (need f) (need g) (formula_nodes f) (formula_nodes g) (need_allowed f) (need_allowed g))
 
 -- of at most 64 nodes none needs more than 7 layers
 pub seven : (k l : ℕ) → Allowed k l → l ≤ 64 → k ≤ 7

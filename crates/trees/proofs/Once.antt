@@ -28,20 +28,9 @@ FormulaBegins Not l f s = (g : Formula) × (f ≡ negation g) × (l ≡ formula_
 FormulaBegins And l f s = (g : Formula) × (h : Formula) × (f ≡ both g h) × (l ≡ formula_nodes g ++ (formula_nodes h ++ s))
 FormulaBegins (Compare r) l f s =
     (a : Expression) × (b : Expression) × (f ≡ compare (relation_read r) a b) × (l ≡ expression_nodes a ++ (expression_nodes b ++ s))
-FormulaBegins Probability l f s = ⊥
-FormulaBegins (Constant a b) l f s = ⊥
-FormulaBegins Sum l f s = ⊥
-FormulaBegins Difference l f s = ⊥
-FormulaBegins Product l f s = ⊥
-FormulaBegins Next l f s = ⊥
-FormulaBegins (Until k1 k2) l f s = ⊥
+FormulaBegins _ l f s = ⊥
 
 abbrev ExpressionBegins : Node → List Node → Expression → List Node → Type 0
-ExpressionBegins True l e s = ⊥
-ExpressionBegins (Label a i) l e s = ⊥
-ExpressionBegins Not l e s = ⊥
-ExpressionBegins And l e s = ⊥
-ExpressionBegins (Compare r) l e s = ⊥
 ExpressionBegins Probability l e s = (w : PathFormula) × (e ≡ probability w) × (l ≡ path_nodes w ++ s)
 ExpressionBegins (Constant a b) l e s = (e ≡ constant a b) × (l ≡ s)
 ExpressionBegins Sum l e s = (a : Expression) × (b : Expression) × (e ≡ sum a b) × (l ≡ expression_nodes a ++ (expression_nodes b ++ s))
@@ -49,22 +38,12 @@ ExpressionBegins Difference l e s =
     (a : Expression) × (b : Expression) × (e ≡ difference a b) × (l ≡ expression_nodes a ++ (expression_nodes b ++ s))
 ExpressionBegins Product l e s =
     (a : Expression) × (b : Expression) × (e ≡ product a b) × (l ≡ expression_nodes a ++ (expression_nodes b ++ s))
-ExpressionBegins Next l e s = ⊥
-ExpressionBegins (Until k1 k2) l e s = ⊥
+ExpressionBegins _ l e s = ⊥
 
 abbrev pub PathBegins : Node → List Node → PathFormula → List Node → Type 0
-PathBegins True l w s = ⊥
-PathBegins (Label a i) l w s = ⊥
-PathBegins Not l w s = ⊥
-PathBegins And l w s = ⊥
-PathBegins (Compare r) l w s = ⊥
-PathBegins Probability l w s = ⊥
-PathBegins (Constant a b) l w s = ⊥
-PathBegins Sum l w s = ⊥
-PathBegins Difference l w s = ⊥
-PathBegins Product l w s = ⊥
 PathBegins Next l w s = (f : Formula) × (w ≡ next f) × (l ≡ formula_nodes f ++ s)
 PathBegins (Until k1 k2) l w s = (f : Formula) × (g : Formula) × (w ≡ until k1 k2 f g) × (l ≡ formula_nodes f ++ (formula_nodes g ++ s))
+PathBegins _ l w s = ⊥
 
 -- a list of nodes, read as its first node and what follows
 abbrev Begun : (Node → List Node → Type 0) → List Node → Type 0
@@ -102,6 +81,15 @@ expression_begins n l a s e = subst (Begun (λ n l. ExpressionBegins n l a s)) (
 pub path_begins : (n : Node) (l : List Node) (w : PathFormula) (s : List Node) → n ∷ l ≡ path_nodes w ++ s → PathBegins n l w s
 path_begins n l w s e = subst (Begun (λ n l. PathBegins n l w s)) (sym e) (path_begun w s)
 
+-- where trees of one kind are each told from others by their nodes, two of them, one after another, are too
+two_once : {A : Type 0} (nodes : A → List Node) (t u : A) → ((x : A) (r s : List Node) → nodes t ++ r ≡ nodes x ++ s → (t ≡ x) × (r ≡ s)) →
+    ((x : A) (r s : List Node) → nodes u ++ r ≡ nodes x ++ s → (u ≡ x) × (r ≡ s)) → (x y : A) (r s : List Node) →
+    (nodes t ++ nodes u) ++ r ≡ nodes x ++ (nodes y ++ s) → (t ≡ x) × (u ≡ y) × (r ≡ s)
+two_once nodes t u first second x y r s e =
+    let i = first x (nodes u ++ r) (nodes y ++ s) (sym (append_assoc (nodes t) (nodes u) r) ∙ e) in
+    let j = second y r s i.1 in
+    (i.0, j.0, j.1)
+
 mutual
   unfolding formula_nodes expression_nodes path_nodes
 
@@ -115,20 +103,15 @@ mutual
       (ap negation i.0 ∙ sym b.1, i.1)
   formula_once (both f h) g r s e =
       let b = formula_begins And ((formula_nodes f ++ formula_nodes h) ++ r) g s e in
-      let i : (f ≡ b.0) × (formula_nodes h ++ r ≡ formula_nodes b.1 ++ s) =
-      formula_once f b.0 (formula_nodes h ++ r) (formula_nodes b.1 ++ s)
-      (sym (append_assoc (formula_nodes f) (formula_nodes h) r) ∙ b.3) in
-      let j : (h ≡ b.1) × (r ≡ s) = formula_once h b.1 r s i.1 in
-      (ap₂ both i.0 j.0 ∙ sym b.2, j.1)
+      let i = two_once formula_nodes f h (λ x t u e. formula_once f x t u e) (λ x t u e. formula_once h x t u e) b.0 b.1 r s b.3 in
+      (ap₂ both i.0 i.1 ∙ sym b.2, i.2)
   formula_once (compare c a d) g r s e =
       let b = formula_begins (Compare (relation_spelled c)) ((expression_nodes a ++ expression_nodes d) ++ r) g s e in
-      let i : (a ≡ b.0) × (expression_nodes d ++ r ≡ expression_nodes b.1 ++ s) =
-      expression_once a b.0 (expression_nodes d ++ r) (expression_nodes b.1 ++ s)
-      (sym (append_assoc (expression_nodes a) (expression_nodes d) r) ∙ b.3) in
-      let j : (d ≡ b.1) × (r ≡ s) = expression_once d b.1 r s i.1 in (
-        ap (λ (x : Relation). compare x a d) (sym (spelled_relation c)) ∙ ap₂ (compare (relation_read (relation_spelled c))) i.0 j.0
+      let i = two_once expression_nodes a d
+      (λ x t u e. expression_once a x t u e) (λ x t u e. expression_once d x t u e) b.0 b.1 r s b.3 in (
+        ap (λ (x : Relation). compare x a d) (sym (spelled_relation c)) ∙ ap₂ (compare (relation_read (relation_spelled c))) i.0 i.1
             ∙ sym b.2,
-        j.1,
+        i.2,
       )
 
   -- with equal expressions
@@ -140,25 +123,16 @@ mutual
   expression_once (constant x y) g r s e = let b = expression_begins (Constant x y) r g s e in (sym b.0, b.1)
   expression_once (sum a d) g r s e =
       let b = expression_begins Sum ((expression_nodes a ++ expression_nodes d) ++ r) g s e in
-      let i : (a ≡ b.0) × (expression_nodes d ++ r ≡ expression_nodes b.1 ++ s) =
-      expression_once a b.0 (expression_nodes d ++ r) (expression_nodes b.1 ++ s)
-      (sym (append_assoc (expression_nodes a) (expression_nodes d) r) ∙ b.3) in
-      let j : (d ≡ b.1) × (r ≡ s) = expression_once d b.1 r s i.1 in
-      (ap₂ sum i.0 j.0 ∙ sym b.2, j.1)
+      let i = two_once expression_nodes a d (λ x t u e. expression_once a x t u e) (λ x t u e. expression_once d x t u e) b.0 b.1 r s b.3 in
+      (ap₂ sum i.0 i.1 ∙ sym b.2, i.2)
   expression_once (difference a d) g r s e =
       let b = expression_begins Difference ((expression_nodes a ++ expression_nodes d) ++ r) g s e in
-      let i : (a ≡ b.0) × (expression_nodes d ++ r ≡ expression_nodes b.1 ++ s) =
-      expression_once a b.0 (expression_nodes d ++ r) (expression_nodes b.1 ++ s)
-      (sym (append_assoc (expression_nodes a) (expression_nodes d) r) ∙ b.3) in
-      let j : (d ≡ b.1) × (r ≡ s) = expression_once d b.1 r s i.1 in
-      (ap₂ difference i.0 j.0 ∙ sym b.2, j.1)
+      let i = two_once expression_nodes a d (λ x t u e. expression_once a x t u e) (λ x t u e. expression_once d x t u e) b.0 b.1 r s b.3 in
+      (ap₂ difference i.0 i.1 ∙ sym b.2, i.2)
   expression_once (product a d) g r s e =
       let b = expression_begins Product ((expression_nodes a ++ expression_nodes d) ++ r) g s e in
-      let i : (a ≡ b.0) × (expression_nodes d ++ r ≡ expression_nodes b.1 ++ s) =
-      expression_once a b.0 (expression_nodes d ++ r) (expression_nodes b.1 ++ s)
-      (sym (append_assoc (expression_nodes a) (expression_nodes d) r) ∙ b.3) in
-      let j : (d ≡ b.1) × (r ≡ s) = expression_once d b.1 r s i.1 in
-      (ap₂ product i.0 j.0 ∙ sym b.2, j.1)
+      let i = two_once expression_nodes a d (λ x t u e. expression_once a x t u e) (λ x t u e. expression_once d x t u e) b.0 b.1 r s b.3 in
+      (ap₂ product i.0 i.1 ∙ sym b.2, i.2)
 
   -- with equal paths
   pub path_once : (w g : PathFormula) (r s : List Node) → path_nodes w ++ r ≡ path_nodes g ++ s → (w ≡ g) × (r ≡ s)
@@ -168,11 +142,8 @@ mutual
       (ap next i.0 ∙ sym b.1, i.1)
   path_once (until k1 k2 f h) g r s e =
       let b = path_begins (Until k1 k2) ((formula_nodes f ++ formula_nodes h) ++ r) g s e in
-      let i : (f ≡ b.0) × (formula_nodes h ++ r ≡ formula_nodes b.1 ++ s) =
-      formula_once f b.0 (formula_nodes h ++ r) (formula_nodes b.1 ++ s)
-      (sym (append_assoc (formula_nodes f) (formula_nodes h) r) ∙ b.3) in
-      let j : (h ≡ b.1) × (r ≡ s) = formula_once h b.1 r s i.1 in
-      (ap₂ (until k1 k2) i.0 j.0 ∙ sym b.2, j.1)
+      let i = two_once formula_nodes f h (λ x t u e. formula_once f x t u e) (λ x t u e. formula_once h x t u e) b.0 b.1 r s b.3 in
+      (ap₂ (until k1 k2) i.0 i.1 ∙ sym b.2, i.2)
 
 -- a text is spelled by one prefix and one body
 pub sentence_once : {text : List ℕ} {ps qs : List Bool} (f g : Formula) → Spells ps (formula_nodes f) text

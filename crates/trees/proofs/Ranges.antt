@@ -37,6 +37,10 @@ behind : (n : ℕ) (ms ns : List Node) → InRange n (ms ++ ns) → InRange n ns
 behind n [] ns h = h
 behind n (m ∷ ms) ns h = behind n ms ns h.2
 
+-- two trees, one after another
+two_ranged : {A B : Type 0} (n : ℕ) (ms ns : List Node) → (InRange n ms → A) → (InRange n ns → B) → InRange n (ms ++ ns) → A × B
+two_ranged n ms ns first second h = (first (in_front n ms ns h), second (behind n ms ns h))
+
 constant_range : (a b : ℕ) → (ltb 65535 a || eqb b 0 || ltb 65535 b) ≡ false → (a ≤ 65535) × (1 ≤ b) × (b ≤ 65535)
 constant_range a b e =
     let x : (ltb 65535 a || eqb b 0) ≡ false = or_left (ltb 65535 a || eqb b 0) (ltb 65535 b) e in
@@ -59,31 +63,21 @@ mutual
       let written = label_written l i h.0 in
       (written.0, written.1, ltb-false n i h.1)
   formula_ranged (negation f) n h = formula_ranged f n h.2
-  formula_ranged (both f g) n h = (
-    formula_ranged f n (in_front n (formula_nodes f) (formula_nodes g) h.2),
-    formula_ranged g n (behind n (formula_nodes f) (formula_nodes g) h.2),
-  )
-  formula_ranged (compare r a b) n h = (
-    expression_ranged a n (in_front n (expression_nodes a) (expression_nodes b) h.2),
-    expression_ranged b n (behind n (expression_nodes a) (expression_nodes b) h.2),
-  )
+  formula_ranged (both f g) n h =
+      two_ranged n (formula_nodes f) (formula_nodes g) (λ h. formula_ranged f n h) (λ h. formula_ranged g n h) h.2
+  formula_ranged (compare r a b) n h =
+      two_ranged n (expression_nodes a) (expression_nodes b) (λ h. expression_ranged a n h) (λ h. expression_ranged b n h) h.2
 
   -- those of an expression
   pub expression_ranged : (a : Expression) (n : ℕ) → InRange n (expression_nodes a) → RangedIn n a
   expression_ranged (probability w) n h = path_ranged w n h.2
   expression_ranged (constant a b) n h = constant_range a b h.1
-  expression_ranged (sum a b) n h = (
-    expression_ranged a n (in_front n (expression_nodes a) (expression_nodes b) h.2),
-    expression_ranged b n (behind n (expression_nodes a) (expression_nodes b) h.2),
-  )
-  expression_ranged (difference a b) n h = (
-    expression_ranged a n (in_front n (expression_nodes a) (expression_nodes b) h.2),
-    expression_ranged b n (behind n (expression_nodes a) (expression_nodes b) h.2),
-  )
-  expression_ranged (product a b) n h = (
-    expression_ranged a n (in_front n (expression_nodes a) (expression_nodes b) h.2),
-    expression_ranged b n (behind n (expression_nodes a) (expression_nodes b) h.2),
-  )
+  expression_ranged (sum a b) n h =
+      two_ranged n (expression_nodes a) (expression_nodes b) (λ h. expression_ranged a n h) (λ h. expression_ranged b n h) h.2
+  expression_ranged (difference a b) n h =
+      two_ranged n (expression_nodes a) (expression_nodes b) (λ h. expression_ranged a n h) (λ h. expression_ranged b n h) h.2
+  expression_ranged (product a b) n h =
+      two_ranged n (expression_nodes a) (expression_nodes b) (λ h. expression_ranged a n h) (λ h. expression_ranged b n h) h.2
 
   -- those of a path
   pub path_ranged : (w : PathFormula) (n : ℕ) → InRange n (path_nodes w) → RangedFrom n w
@@ -91,8 +85,5 @@ mutual
   path_ranged (until k1 k2 f g) n h = (
     ltb-false k2 k1 (or_left (ltb k2 k1) (ltb 60 k2) h.1),
     ltb-false 60 k2 (or_right (ltb k2 k1) (ltb 60 k2) h.1),
-    (
-      formula_ranged f n (in_front n (formula_nodes f) (formula_nodes g) h.2),
-      formula_ranged g n (behind n (formula_nodes f) (formula_nodes g) h.2),
-    ),
+    two_ranged n (formula_nodes f) (formula_nodes g) (λ h. formula_ranged f n h) (λ h. formula_ranged g n h) h.2,
   )

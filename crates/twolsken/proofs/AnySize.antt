@@ -2,12 +2,17 @@
 use Prim.Native.Nat.{ℕ, zero, suc, ◌%◌, ◌≤◌, ◌<◌}
 use mathlib.Core.Bool.{Bool, true, false, ◌&&◌}
 use mathlib.Core.List.{List}
-use mathlib.Core.Path.{◌≡◌, refl, ap, subst, ◌∙◌}
+use mathlib.Core.Path.{◌≡◌, refl, sym, ap, subst, ◌∙◌}
 use native.Mathlib.Omega.{arith}
 use borrow.Author.Tests.{lt-leb}
 use lib.Dec.{leb, eqb}
 use lib.ListN.{length, take}
+use Rattle.std.specs.Prelude.{Result}
+use Rattle.refusal.specs.declared.Refusal.{Refusal}
+use Rattle.refusal.specs.Answers.{refuses, number_in, Ensured, refused, answered, reply_of}
 use Rattle.refusal.specs.Rows.{Decided, by_row}
+use Rattle.refusal.proofs.Ensuring.{refused_as, others_first, number_decided}
+use Rattle.refusal.proofs.Laws.{one_number}
 use Rattle.model.specs.Rules.{length_right}
 use Rattle.model.specs.Contract.{file_number}
 use Rattle.model.proofs.Answer.{number_2}
@@ -16,11 +21,7 @@ use Rattle.question.specs.Contract.{QuestionRow, model, sentence, labels, size, 
 use Rattle.question.proofs.Numbers.{text_number}
 use Rattle.question.proofs.Stages.{none_of_file}
 use Rattle.question.proofs.Early.{gives_file}
-use Rattle.verdict.specs.declared.Answer.{Answer}
-use Rattle.verdict.specs.declared.Answer.TheVariants.{Refused}
-use Rattle.verdict.specs.Contract.{VerdictEnsures}
-use Rattle.verdict.proofs.Answering.{refused_so}
-use Rattle.verdict.proofs.Single.{one_verdict}
+use Rattle.verdict.specs.Contract.{VerdictRow, Judges, VerdictEnsures}
 use Rattle.lines.specs.Texts.{without_newline}
 use Rattle.twolsken.specs.Contract.{AnswersFiles, AnswersBuffers}
 use Rattle.twolsken.proofs.Enough.{Alike, same, over, model_enough, text_enough}
@@ -61,16 +62,23 @@ both_over file q text g h = by (file_number file) refl
     by (suc k) e = (suc k, omega arith, gives_file e (omega arith), gives_file e (omega arith))
 
 -- two questions that give the same number have the same answer
-alike : {file text file' text' before after : List ℕ} {r : Answer} {n : ℕ} → 0 < n → Decided (QuestionRow file text) n →
+alike : {file text file' text' before after : List ℕ} {r : Result Bool Refusal} {n : ℕ} → 0 < n → Decided (QuestionRow file text) n →
     Decided (QuestionRow file' text') n → VerdictEnsures file text before r after →
     VerdictEnsures file' text' before r after
-alike {file' = file'} {text'} {before} {after} {r} {n} some d d' a =
-    let one = one_verdict (refused_so d some) a in
-    subst (λ (x : Answer). VerdictEnsures file' text' before x after) one.0
-    (subst (λ (l : List ℕ). VerdictEnsures file' text' before (Refused n) l) one.1 (refused_so d' some))
+alike {file} {text} {file'} {text'} {before} {after} {r} {n} some d d' a =
+    by a.ensured (one_number (number_decided a.ensured) (others_first d some))
+  where
+    by : Ensured (VerdictRow file text (length before)) (Judges file text before) before (reply_of r) after → number_in (reply_of r) ≡ n →
+        VerdictEnsures file' text' before r after
+    by (refused e k row least) one =
+        let number = sym (ap number_in e) ∙ one in
+        record { ensured = refused_as (others_first d' some) some (e ∙ ap refuses number) k }
+    by (answered e right none) one =
+        let number = sym (ap number_in e) ∙ one in
+        absurd (omega arith)
 
 -- the answer on the first bytes is the answer on the whole files
-pub any_size : (file said : List ℕ) {before after : List ℕ} {r : Answer} →
+pub any_size : (file said : List ℕ) {before after : List ℕ} {r : Result Bool Refusal} →
     VerdictEnsures (take 3073 file) (without_newline (take 402 said)) before r after →
     VerdictEnsures file (without_newline said) before r after
 any_size file said {before} {after} {r} = by (model_enough file) (text_enough said)
@@ -89,7 +97,7 @@ any_size file said {before} {after} {r} = by (model_enough file) (text_enough sa
         alike n.1 n.2 n.3 b
 
 -- so the answer on what stands in the buffers is the answer on the whole files, where the buffers have that many bytes
-pub buffers_so : {model sentence : List ℕ} {m s : ℕ} {r : Answer} → length model ≡ 3073 → length sentence ≡ 402 →
+pub buffers_so : {model sentence : List ℕ} {m s : ℕ} {r : Result Bool Refusal} → length model ≡ 3073 → length sentence ≡ 402 →
     AnswersFiles (take m model) (take s sentence) r → AnswersBuffers model m sentence s r
 buffers_so {model} {sentence} {m} {s} {r} whole-model whole-text own = record {
   each = λ file said first second.

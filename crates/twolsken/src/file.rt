@@ -5,67 +5,39 @@ use std::fs::File;
 use std::io::{ErrorKind, Read, Write};
 use std::{io, str};
 
-// What a file is: so many bytes, at the front of a buffer; or it cannot be read, and why.
-#[derive(Drop)]
-pub enum Contents {
-    Bytes(usize),
-    Unreadable(io::Error),
-}
-
-// One read. The system may hand over fewer bytes than there is room for; none are the end of the file.
-fn read_once(file: &mut File, buf: &mut [u8]) -> Contents
-    ensures { AtFront result buf.new }
-{
-    match file.read(buf) {
-        Ok(n) => Contents::Bytes(n),
-        Err(error) => Contents::Unreadable(error),
-    }
-}
-
-// Reads until the end of the file or until the buffer is full.
-fn read_all(file: &mut File, buf: &mut [u8]) -> Contents
+// Reads until the end of the file or until the buffer is full. A read may hand over fewer bytes than there is room for; none are
+// the end of the file. It is a `while`, for nothing counts the reads: each adds what it read.
+fn read_all(file: &mut File, buf: &mut [u8]) -> io::Result<usize>
     ensures { AtFront result buf.new }
 {
     let mut done = 0;
     while done < buf.len() {
-        let n = match read_once(file, &mut buf[done..]) {
-            Contents::Bytes(n) => n,
-            Contents::Unreadable(error) => return Contents::Unreadable(error),
-        };
+        let n = file.read(&mut buf[done..])?;
         if n == 0 {
             break;
         }
         done += n;
     }
-    Contents::Bytes(done)
+    Ok(done)
 }
 
 // Opens the named file of the current folder and reads it; a missing file is empty.
-fn read_named(rt: &HostRuntime, name: &str, buf: &mut [u8]) -> Contents
+fn read_named(rt: &HostRuntime, name: &str, buf: &mut [u8]) -> io::Result<usize>
     ensures { AtFront result buf.new }
 {
     match File::open(rt, name) {
         Ok(mut file) => read_all(&mut file, buf),
-        Err(error) => {
-            if error.kind() == ErrorKind::NotFound {
-                Contents::Bytes(0)
-            } else {
-                Contents::Unreadable(error)
-            }
-        }
+        Err(error) if error.kind() == ErrorKind::NotFound => Ok(0),
+        Err(error) => Err(error),
     }
 }
 
-// Reads the named file of the current folder; a missing file is empty. Where it cannot be read, the reason goes to standard
-// error.
-pub(crate) fn read_file(rt: &HostRuntime, name: &str, buf: &mut [u8]) -> Contents
+// How many bytes of the named file of the current folder were read; a missing file is empty. Where it cannot be read, the reason
+// goes to standard error.
+pub(crate) fn read_file(rt: &HostRuntime, name: &str, buf: &mut [u8]) -> io::Result<usize>
     ensures { AtFront result buf.new }
 {
-    let read = read_named(rt, name, buf);
-    if let Contents::Unreadable(error) = &read {
-        report(rt, name, error);
-    }
-    read
+    read_named(rt, name, buf).inspect_err(|error| report(rt, name, error))
 }
 
 // Writes a line to standard error: what failed, a colon and the reason, without the number of the error that `io::Error` adds.

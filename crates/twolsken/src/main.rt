@@ -9,18 +9,18 @@ ghost use Rattle.std.specs.Prelude.{◌≡◌, length};
 ghost use Rattle.std.specs.Counts.{IsPrefixLen};
 ghost use Rattle.twolsken.specs.Contract.{AnswersFiles, AnswersBuffers};
 
-use file::{Contents, read_file, report};
+use file::{read_file, report};
 use lines::line::line;
 use lines::text::without_newline;
+use refusal::Refusal;
 use std::io;
 use std::io::Write;
-use verdict::Answer;
 
 // How many numbers the program's own work area has: 8 for each of 1,024 tuples, so that no question is refused 1.
 const AREA: usize = 8192;
 
 // The verdict on the bytes of the two files, with that work area.
-fn answer(model: &[u8], sentence: &[u8]) -> Answer
+fn answer(model: &[u8], sentence: &[u8]) -> Result<bool, Refusal>
     ensures { AnswersFiles model.now sentence.now result }
 {
     let mut work = [0u64; AREA];
@@ -28,9 +28,9 @@ fn answer(model: &[u8], sentence: &[u8]) -> Answer
 }
 
 // Prints the line of an answer.
-fn print(rt: &HostRuntime, answer: Answer) {
+fn print(rt: &HostRuntime, answer: Result<bool, Refusal>) {
     let mut out = [0u8; 12];
-    let n = line(answer, &mut out);
+    let n = line(answer.map_err(u8::from), &mut out);
     if let Err(error) = io::writer(rt).write_all(&out[..n]) {
         report(rt, "standard output", &error);
     }
@@ -43,7 +43,7 @@ fn print(rt: &HostRuntime, answer: Answer) {
 // - A text of over 400 bytes is 6 unless a number below 6 applies, and those ask the model alone. A file of 402 bytes or
 //   more has such a text with or without its last byte. So 402 bytes of it are as good as all; 401 are not, since the last
 //   of them may be a newline that is not the file's last byte.
-fn judged(model: &[u8], m: usize, sentence: &[u8], s: usize) -> Answer
+fn judged(model: &[u8], m: usize, sentence: &[u8], s: usize) -> Result<bool, Refusal>
     requires { (length model.now ≡ 3073) × IsPrefixLen m model.now × (length sentence.now ≡ 402) × IsPrefixLen s sentence.now }
     ensures { AnswersBuffers model.now m sentence.now s result }
 {
@@ -53,11 +53,11 @@ fn judged(model: &[u8], m: usize, sentence: &[u8], s: usize) -> Answer
 // Reads the two files, each as far as its buffer goes, and prints the verdict's line.
 fn main(rt: HostRuntime) {
     let mut model = [0u8; 3073];
-    let Contents::Bytes(m) = read_file(&rt, "model.blk", &mut model) else {
+    let Ok(m) = read_file(&rt, "model.blk", &mut model) else {
         return;
     };
     let mut sentence = [0u8; 402];
-    let Contents::Bytes(s) = read_file(&rt, "sentence.txt", &mut sentence) else {
+    let Ok(s) = read_file(&rt, "sentence.txt", &mut sentence) else {
         return;
     };
     print(&rt, judged(&model, m, &sentence, s));

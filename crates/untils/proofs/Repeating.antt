@@ -4,14 +4,13 @@ use Prim.Native.Nat.{ℕ, zero, suc, ◌+◌, ◌-◌, ◌*◌, ◌/◌, ◌%◌
 use mathlib.Core.Bool.{Bool, true, false, true≢false}
 use mathlib.Core.List.{List, [], ◌∷◌, ◌++◌}
 use mathlib.Core.Path.{◌≡◌, refl, sym, ap, ap₂, subst, ◌∙◌, fun_ext}
-use native.Mathlib.Decide.{dec_lt}
 use native.Mathlib.Nat.{mod-lt, mod-eq_of_lt, div-eq_of_lt, div-div-eq-div-mul, div-lt_iff_lt-mul}
 use native.Mathlib.Nat.{mul_comm, not-suc-le-zero, pow-le-pow_right, one-le-pow}
 use native.Mathlib.Omega.{arith}
 use lib.Arith.{digits_div, digits_mod, mod-mul}
-use lib.ListN.{length, get_or, take, drop, length-drop}
+use lib.ListN.{length, get_or, drop, length-drop}
 use lib.Pow.{pow-add}
-use lib.Seq.{get_or-drop, get_or-take}
+use lib.Seq.{get_or-drop}
 use Rattle.meaning.specs.Size.{size_limit}
 use Rattle.meaning.specs.Chain.{Chain, Tuple}
 use Rattle.meaning.specs.Named.{Some, count, chosen, placed}
@@ -20,34 +19,7 @@ use Rattle.meaning.proofs.Numbers.{tuple_of, tuple_inside, each_length}
 use Rattle.layers.specs.Layers.{Layer, truth, WrittenAt}
 use Rattle.layers.proofs.Written.{kept_at, kept_from}
 use Rattle.layers.proofs.Repeats.{repeated}
-use Rattle.steps.specs.Steps.{last_of}
 use Rattle.untils.specs.Untils.{UntilFits, UntilTaken, FromFirst, Overlooks, UntilRepeated}
-
--- ---- the first variable that moves
-
--- none of the first i variables moves
-pub record Quiet (moving : Some) (n i : ℕ) : Type 0 where
-  pub up_to : i ≤ n
-  pub quiet : (k : ℕ) → k < i → get_or moving k false ≡ false
-
-module _ {moving : Some} {n : ℕ} where
-  pub quiet_none : Quiet moving n 0
-  quiet_none = record { up_to = omega arith; quiet = λ k l. absurd (omega arith) }
-
-  pub quiet_next : {i : ℕ} → Quiet moving n i → i < n → get_or moving i false ≡ false → Quiet moving n (i + 1)
-  quiet_next {i} h l e = record { up_to = omega arith; quiet = λ k m. by k m (dec_lt k i) }
-    where
-      by : (k : ℕ) → k < i + 1 → Dec (k < i) → get_or moving k false ≡ false
-      by k m (yes y) = h.quiet k y
-      by k m (no x) =
-          let same : k ≡ i = omega arith in
-          ap (λ (j : ℕ). get_or moving j false) same ∙ e
-
-  pub quiet_here : {i : ℕ} → Quiet moving n i → FromFirst moving n (n - i)
-  quiet_here {i} h = record { up_to = omega arith; quiet = λ k l. h.quiet k (omega (arith, h.up_to)) }
-
-  pub quiet_all : {i : ℕ} → Quiet moving n i → n ≤ i → FromFirst moving n 0
-  quiet_all {i} h l = record { up_to = omega arith; quiet = λ k m. h.quiet k (omega arith) }
 
 -- ---- tuples that begin alike
 
@@ -126,47 +98,53 @@ taken_lead c bs first second one two k1 k2 L z a t long-z long-a few q =
 
 -- ---- what is asked and left
 
-module _ {rows : List (List ℕ)} {N n v T d k1 k2 last few : ℕ} {moving : Some} {before : List ℕ}
-    (fits : UntilFits rows N n (take n moving) v T d k1 k2 before) (from : FromFirst moving n last) (whole : few ≡ N ^ last) where
-  -- the variables before the first that moves do not
-  still : Still (take n moving) (n - last)
-  still i l = get_or-take n moving i false (omega (arith, from.up_to)) ∙ from.quiet i l
+-- `lent` are the variables from place L on, before which none moves
+module _ {rows : List (List ℕ)} {N n v T d k1 k2 L states few : ℕ} {moving lent : Some} {before : List ℕ}
+    (fits : UntilFits rows N n moving v T d k1 k2 before) (from : FromFirst moving L) (tail : lent ≡ drop L moving)
+    (same : states ≡ N) (power : few ≡ states ^ length lent) where
+  whole : few ≡ N ^ length lent
+  whole = power ∙ ap (λ (x : ℕ). x ^ length lent) same
 
-  not_more : n - last ≤ length (take n moving)
-  not_more = omega (arith, fits.each)
+  -- they and those before them are all
+  parts : n ≡ L + length lent
+  parts = omega (arith, ap length tail, length-drop L moving, fits.each, from.up_to)
+
+  -- those before them do not count
+  same_count : count moving ≡ count lent
+  same_count = count_lead moving L from.up_to from.quiet ∙ ap count (sym tail)
 
   -- the tuples of the last variables are no more than all
   pub few_tuples : few ≤ T
-  few_tuples = omega (arith, whole, fits.sizes.whole, pow-le-pow_right fits.sizes.some {i = last} {j = n} from.up_to)
+  few_tuples =
+      omega (arith, whole, fits.sizes.whole, pow-le-pow_right fits.sizes.some {i = length lent} {j = n} (omega (arith, parts)))
 
   pub few_some : 1 ≤ few
-  few_some = omega (arith, whole, one-le-pow last N fits.sizes.some)
+  few_some = omega (arith, whole, one-le-pow (length lent) N fits.sizes.some)
 
   -- the tuple with a number: its states before the first that moves, and the rest
-  tuple_parts : (k : ℕ) → k < N ^ n → tuple_of N n k ≡ tuple_of N (n - last) (k / N ^ last) ++ tuple_of N last (k % N ^ last)
+  tuple_parts : (k : ℕ) → k < N ^ n → tuple_of N n k ≡ tuple_of N L (k / N ^ length lent) ++ tuple_of N (length lent) (k % N ^ length lent)
   tuple_parts k l =
-      let e : n ≡ n - last + last = omega (arith, from.up_to) in
-      ap (λ (x : ℕ). tuple_of N x k) e ∙ split_tuple N (n - last) last k fits.sizes.some (subst (λ (x : ℕ). k < N ^ x) e l)
+      ap (λ (x : ℕ). tuple_of N x k) parts ∙
+      split_tuple N L (length lent) k fits.sizes.some (subst (λ (x : ℕ). k < N ^ x) parts l)
 
-  leads : (k : ℕ) → k < N ^ n → k / N ^ last < N ^ (n - last)
+  leads : (k : ℕ) → k < N ^ n → k / N ^ length lent < N ^ L
   leads k l =
-      let e : n ≡ n - last + last = omega (arith, from.up_to) in
-      let whole_n : N ^ n ≡ N ^ (n - last) * N ^ last = ap (λ (x : ℕ). N ^ x) e ∙ pow-add N (n - last) last in
-      (div-lt_iff_lt-mul (one-le-pow last N fits.sizes.some)).1 (omega (arith, whole_n))
+      let whole_n : N ^ n ≡ N ^ L * N ^ length lent = ap (λ (x : ℕ). N ^ x) parts ∙ pow-add N L (length lent) in
+      (div-lt_iff_lt-mul (one-le-pow (length lent) N fits.sizes.some)).1 (omega (arith, whole_n))
 
   -- the first tuples begin with state 0
-  begins : (k : ℕ) → k < few → tuple_of N n k ≡ tuple_of N (n - last) 0 ++ tuple_of N last k
+  begins : (k : ℕ) → k < few → tuple_of N n k ≡ tuple_of N L 0 ++ tuple_of N (length lent) k
   begins k l =
-      let less : k < N ^ last = omega (arith, whole) in
+      let less : k < N ^ length lent = omega (arith, whole) in
       tuple_parts k (omega (arith, few_tuples, fits.sizes.whole)) ∙
-      ap₂ (λ (x y : ℕ). tuple_of N (n - last) x ++ tuple_of N last y) (div-eq_of_lt less) (mod-eq_of_lt less)
+      ap₂ (λ (x y : ℕ). tuple_of N L x ++ tuple_of N (length lent) y) (div-eq_of_lt less) (mod-eq_of_lt less)
 
-  lead_long : (k : ℕ) → k < N ^ (n - last) → length (tuple_of N (n - last) k) ≡ n - last
-  lead_long k l = each_length (tuple_inside N (n - last) k l)
+  lead_long : (k : ℕ) → k < N ^ L → length (tuple_of N L k) ≡ L
+  lead_long k l = each_length (tuple_inside N L k l)
 
   module _ {mid : List ℕ} (copied : WrittenAt few few (λ k. get_or before (T + k) 0) before mid) where
     -- what the until of the last variables asks
-    pub last_fits : UntilFits rows N last (last_of n last moving) v few d k1 k2 mid
+    pub last_fits : UntilFits rows N (length lent) lent v few d k1 k2 mid
     last_fits = record {
       chain = fits.chain;
       holds = fits.holds;
@@ -181,15 +159,15 @@ module _ {rows : List (List ℕ)} {N n v T d k1 k2 last few : ℕ} {moving : Som
       room = omega (arith, few_tuples, fits.room, copied.long);
       ones = λ k l. omega (arith, copied.each k l, fits.ones k (omega (arith, few_tuples)));
       window = fits.window;
-      few = omega (arith, from.up_to, fits.few);
-      each = length-drop (n - last) (take n moving) ∙ omega (arith, fits.each, from.up_to);
-      counted = fits.counted ∙ count_lead (take n moving) (n - last) not_more still;
-      fits = subst (λ (x : ℕ). d ^ (x * k2) ≤ size_limit) (count_lead (take n moving) (n - last) not_more still) fits.fits;
+      few = omega (arith, parts, fits.few);
+      each = refl;
+      counted = fits.counted ∙ same_count;
+      fits = subst (λ (x : ℕ). d ^ (x * k2) ≤ size_limit) same_count fits.fits;
     }
 
     -- the layer of a test in the front, and behind it, by the tuples of the last variables
-    front_layer : (test : Tuple → Bool) → Layer N n (truth test) before → Layer N last
-        (truth (λ x. test (tuple_of N (n - last) 0 ++ x))) mid
+    front_layer : (test : Tuple → Bool) → Layer N n (truth test) before → Layer N (length lent)
+        (truth (λ x. test (tuple_of N L 0 ++ x))) mid
     front_layer test one = record {
       at = λ k l.
           let less : k < few = omega (arith, whole) in
@@ -199,7 +177,7 @@ module _ {rows : List (List ℕ)} {N n v T d k1 k2 last few : ℕ} {moving : Som
     }
 
     next_layer : (test : Tuple → Bool) → Layer N n (truth test) (drop T before) →
-        Layer N last (truth (λ x. test (tuple_of N (n - last) 0 ++ x))) (drop few mid)
+        Layer N (length lent) (truth (λ x. test (tuple_of N L 0 ++ x))) (drop few mid)
     next_layer test two = record {
       at = λ k l.
           let less : k < few = omega (arith, whole) in
@@ -211,26 +189,29 @@ module _ {rows : List (List ℕ)} {N n v T d k1 k2 last few : ℕ} {moving : Som
     }
 
     -- what is left after the until and the repetition
-    pub repeated_taken : {now after : List ℕ} → UntilTaken rows N last (last_of n last moving) few d k1 k2 mid now →
-        WrittenAt few (T - few) (λ k. get_or now (k % few) 0) now after → UntilRepeated rows N n (take n moving) T d k1 k2 before after
+    pub repeated_taken : {now after : List ℕ} → UntilTaken rows N (length lent) lent few d k1 k2 mid now →
+        WrittenAt few (T - few) (λ k. get_or now (k % few) 0) now after → UntilRepeated rows N n moving T d k1 k2 before after
     repeated_taken {now} {after} taken again = record {
       each = λ c held sums first second o1 o2 one two. record {
         at = λ k l.
-            let bs = take n moving in
             let j = k % few in
-            let a = tuple_of N (n - last) (k / N ^ last) in
-            let z = tuple_of N (n - last) 0 in
-            let t = tuple_of N last j in
-            let parts : tuple_of N n k ≡ a ++ t = tuple_parts k l ∙ ap (λ (x : ℕ). a ++ tuple_of N last (k % x)) (sym whole) in
+            let a = tuple_of N L (k / N ^ length lent) in
+            let z = tuple_of N L 0 in
+            let t = tuple_of N (length lent) j in
+            let is : tuple_of N n k ≡ a ++ t = tuple_parts k l ∙ ap (λ (x : ℕ). a ++ tuple_of N (length lent) (k % x)) (sym whole) in
             let small = mod-lt k few_some in
             let less : k < T = omega (arith, fits.sizes.whole) in
             repeated less again ∙
             (taken.each c held sums (λ x. first (z ++ x)) (λ x. second (z ++ x)) (front_layer first one) (next_layer second two)).at j
             (omega (arith, whole)) ∙
-            taken_lead c bs first second o1 o2 k1 k2 (n - last) z a t (lead_long 0 (one-le-pow (n - last) N fits.sizes.some))
-            (lead_long (k / N ^ last) (leads k l)) not_more still ∙
-            ap (λ (s : Tuple). taken_weight c (count bs) k2 (until_takes (beside bs s first) (beside bs s second) k1 k2) (chosen bs s))
-            (sym parts);
+            ap (λ (bs : Some).
+            taken_weight c (count bs) k2
+            (until_takes (beside bs t (λ x. first (z ++ x))) (beside bs t (λ x. second (z ++ x))) k1 k2) (chosen bs t)) tail ∙
+            taken_lead c moving first second o1 o2 k1 k2 L z a t (lead_long 0 (one-le-pow L N fits.sizes.some))
+            (lead_long (k / N ^ length lent) (leads k l)) from.up_to from.quiet ∙
+            ap (λ (s : Tuple).
+            taken_weight c (count moving) k2 (until_takes (beside moving s first) (beside moving s second) k1 k2) (chosen moving s))
+            (sym is);
       };
       kept = kept_from (again.long ∙ taken.kept.long ∙ copied.long)
           (λ k l.

@@ -1,7 +1,7 @@
 -- An until by layers: what one turn makes of the third layer, and what stands there after l turns.
 use Prim.Native.Nat.{ℕ, suc, ◌+◌, ◌*◌, ◌-◌, ◌^◌, ◌≤◌, ◌<◌}
 use mathlib.Core.Bool.{Bool, true, false, cond, not, ◌&&◌}
-use mathlib.Core.List.{List}
+use mathlib.Core.List.{List, [], ◌∷◌}
 use mathlib.Core.Path.{◌≡◌, refl, sym, ap, ap₂, subst, ◌∙◌}
 use native.Mathlib.Nat.{le_trans, le_of_eq, mul-le-mul_left, mul-zero, mul-suc, pow-zero, pow-le-pow_right}
 use native.Mathlib.Numerals.{add-one}
@@ -104,6 +104,13 @@ inside_those {N} {n} {M} {m} states every k l =
 of_n : {N n M m : ℕ} {t : Tuple} → M ≡ N → m ≡ n → Inside M m t → Inside N n t
 of_n {N} {n} {M} {m} {t} states every i = subst (λ (x : ℕ). Inside N x t) every (subst (λ (x : ℕ). Inside x m t) states i)
 
+-- no more variables move than there are
+count_le : (bs : Some) → count bs ≤ length bs
+unfolding count
+count_le [] = omega arith
+count_le (true ∷ bs) = let r = count_le bs in omega arith
+count_le (false ∷ bs) = let r = count_le bs in omega arith
+
 -- one denominator more
 power_more : (d n l : ℕ) → d ^ (n * l) * d ^ n ≡ d ^ (n * suc l)
 power_more d n l = sym (pow-add d (n * l) n) ∙ ap (λ (x : ℕ). d ^ x) (sym (mul-suc n l))
@@ -124,10 +131,10 @@ pub record Untiling (rows : List (List ℕ)) (N n : ℕ) (those : Some) (T d k1 
 module _ {rows : List (List ℕ)} {N n v T d k1 k2 : ℕ} {those : Some} {before : List ℕ}
     (fits : UntilFits rows N n those v T d k1 k2 before) where
   -- with no step left, where the third layer has been copied from the second
-  pub untiling_none : ((k : ℕ) → k < T → get_or before (T + T + k) 0 ≡ get_or before (T + k) 0) →
+  none_left : ((k : ℕ) → k < T → get_or before (T + T + k) 0 ≡ get_or before (T + k) 0) →
       Untiling rows N n those T d k1 k2 before 1 0 before
   unfolding layer
-  untiling_none copied = record {
+  none_left copied = record {
     up_to = omega arith;
     power = sym none;
     long = refl;
@@ -147,6 +154,14 @@ module _ {rows : List (List ℕ)} {N n v T d k1 k2 : ℕ} {those : Some} {before
       none : d ^ (count those * 0) ≡ 1
       none = ap (λ (x : ℕ). d ^ x) (mul-zero (count those)) ∙ pow-zero d
 
+  pub untiling_none : {left : ℕ} → left ≡ 0 → ((k : ℕ) → k < T → get_or before (T + T + k) 0 ≡ get_or before (T + k) 0) →
+      Untiling rows N n those T d k1 k2 before 1 left before
+  untiling_none e copied = subst (λ (l : ℕ). Untiling rows N n those T d k1 k2 before 1 l before) (sym e) (none_left copied)
+
+  -- few variables move
+  pub few_move : v ≤ 4
+  few_move = omega (arith, fits.counted, count_le those, fits.each, fits.few)
+
   module _ {all left : ℕ} {after : List ℕ} (h : Untiling rows N n those T d k1 k2 before all left after)
       (less : left < k2) where
     -- the next denominator
@@ -159,6 +174,11 @@ module _ {rows : List (List ℕ)} {N n v T d k1 k2 : ℕ} {those : Some} {before
     power_fits =
         le_trans (pow-le-pow_right fits.weighed {i = count those * suc left} {j = count those * k2} (mul-le-mul_left (count those) less))
         fits.fits
+
+    -- that of one step too
+    pub step_fits : d ^ v ≤ size_limit
+    step_fits =
+        le_trans (pow-le-pow_right fits.weighed {i = v} {j = count those * suc left} (omega (arith, fits.counted))) power_fits
 
     -- what the next turn asks
     pub turn_fits : TurnFits rows N n those T after
@@ -182,11 +202,11 @@ module _ {rows : List (List ℕ)} {N n v T d k1 k2 : ℕ} {those : Some} {before
     }
 
     -- one turn more
-    pub untiling_next : {more : ℕ} {now : List ℕ} → more ≡ all * d ^ v →
+    one_more : {more : ℕ} {now : List ℕ} → more ≡ all * d ^ v →
         Turned rows N n those T (leb k1 (k2 - (left + 1))) more after now →
         Untiling rows N n those T d k1 k2 before more (left + 1) now
     unfolding layer
-    untiling_next {more} {now} e turned = record {
+    one_more {more} {now} e turned = record {
       up_to = omega arith;
       power = power;
       long = turned.long ∙ h.long;
@@ -241,6 +261,13 @@ module _ {rows : List (List ℕ)} {N n v T d k1 k2 : ℕ} {those : Some} {before
             le_trans (le_of_eq (turned.each c fits.holds f (numbers_layer N n third) k in_layer))
             (choice_le (leb k1 (k2 - (left + 1))) more (get_or after k 0) (get_or after (T + k) 0)
             (steps c those f (tuple_of N n k)) (d ^ (count those * (left + 1))) (le_of_eq power) (omega arith))
+
+    -- the same by the turn's moment
+    pub untiling_next : {more next moment : ℕ} {now : List ℕ} → more ≡ all * d ^ v → next ≡ left + 1 → moment ≡ k2 - (left + 1) →
+        Turned rows N n those T (leb k1 moment) more after now → Untiling rows N n those T d k1 k2 before more next now
+    untiling_next {more} {next} {moment} {now} e one at turned =
+        subst (λ (l : ℕ). Untiling rows N n those T d k1 k2 before more l now) (sym one)
+        (one_more e (subst (λ (m : ℕ). Turned rows N n those T (leb k1 m) more after now) at turned))
 
   -- after the last turn the third layer, copied to the front, is the numerator
   pub untiling_all : {all left : ℕ} {after now : List ℕ} → Untiling rows N n those T d k1 k2 before all left after →

@@ -1,7 +1,7 @@
 -- Working: what the functions of this crate promise one another. Nothing here has to be believed.
 --
 -- An until over three layers: the truth of the first formula, the truth of the second, and one layer to compute in.
-use Rattle.std.specs.Prelude.{ℕ, ◌+◌, ◌-◌, ◌*◌, ◌^◌, ◌≤◌, ◌<◌, Bool, false, cond, not, ◌&&◌, List, ◌++◌, ◌≡◌, eqb, length, get_or, drop}
+use Rattle.std.specs.Prelude.{ℕ, ◌+◌, ◌*◌, ◌^◌, ◌≤◌, ◌<◌, Bool, false, cond, not, ◌&&◌, List, ◌++◌, ◌≡◌, eqb, length, get_or, drop}
 use Rattle.meaning.specs.Chain.{Chain, Tuple}
 use Rattle.meaning.specs.Named.{Some, count, chosen}
 use Rattle.meaning.specs.Meaning.{until_takes, taken_weight, beside}
@@ -60,10 +60,10 @@ pub record UntilTaken (rows : List (List ℕ)) (N n : ℕ) (those : Some) (T d k
       (λ s. taken_weight c (count those) k2 (until_takes (beside those s first) (beside those s second) k1 k2) (chosen those s)) after
   pub kept : RestKept (T + T + T) before after
 
--- r of n variables stand from the first that moves on: none before it moves
-pub record FromFirst (moving : Some) (n r : ℕ) : Type 0 where
-  pub up_to : r ≤ n
-  pub quiet : (i : ℕ) → i < n - r → get_or moving i false ≡ false
+-- the first variables do not move
+pub record FromFirst (moving : Some) (first : ℕ) : Type 0 where
+  pub up_to : first ≤ length moving
+  pub quiet : (i : ℕ) → i < first → get_or moving i false ≡ false
 
 -- a test that does not look at variables before the first that moves
 abbrev pub Overlooks : Some → (Tuple → Bool) → Type 0

@@ -1,18 +1,23 @@
 // The numerator of an until at all tuples: by steps left, one joint step and one choice a layer.
 #![tactic(auto)]
 
-ghost use Rattle.std.specs.Prelude.{◌≡◌, ◌⊎◌, ◌+◌, ◌^◌, ◌≤◌, ◌<◌, length, get_or, take};
+ghost use Rattle.std.specs.Prelude.{◌≡◌, ◌+◌, ◌≤◌, length, get_or};
 ghost use Rattle.layers.specs.Layers.{WrittenAt};
-ghost use Rattle.layers.specs.Held.{most_variables, most_tuples};
-ghost use Rattle.row_sums.specs.Sparse.{RowsNamed};
-ghost use Rattle.steps.specs.Steps.{last_of};
 ghost use Rattle.untils.specs.Untils.{choice, choice_at, TurnFits, Turned, UntilFits, UntilTaken, FromFirst, UntilRepeated};
 
-use layers::STATES;
 use layers::periods::repeat;
-use layers::power::scaled;
-use row_sums::{PLACES, name_rows};
-use steps::joint_named;
+use row_sums::rows::Rows;
+use steps::joint_step;
+
+// What an until takes: the runs whose match is in the window k1..k2. The runs of one step weigh d for each of the `count` variables that
+// move.
+#[derive(Clone, Copy)]
+pub struct Window {
+    pub k1: usize,
+    pub k2: usize,
+    pub d: u64,
+    pub count: usize,
+}
 
 // What an until has at one tuple: all runs where the window is open and the second formula is met; else the number
 // that the step gave, where the first is met.
@@ -20,12 +25,12 @@ fn chosen(opened: bool, all: u64, first: u64, second: u64, number: u64) -> u64
     ensures { result ≡ choice opened all first second number }
 {
     if opened & (second != 0) {
-        return all;
+        all
+    } else if first == 0 {
+        0
+    } else {
+        number
     }
-    if first == 0 {
-        return 0;
-    }
-    number
 }
 
 // The choice at all tuples, in the third layer.
@@ -34,8 +39,7 @@ fn choose(opened: bool, all: u64, tuples: usize, work: &mut [u64])
     ensures { WrittenAt (tuples + tuples) tuples (choice_at opened all tuples work.old)
         work.old work.new }
 {
-    let mut k: usize = 0;
-    while k < tuples {
+    for k in 0..tuples {
         work[tuples + tuples + k] = chosen(
             opened,
             all,
@@ -43,149 +47,67 @@ fn choose(opened: bool, all: u64, tuples: usize, work: &mut [u64])
             work[tuples + k],
             work[tuples + tuples + k],
         );
-        k += 1;
     }
 }
 
-// Copies `count` numbers from one place to another: to an earlier one, or to one past their end.
+// Copies `count` numbers from one place to another.
 fn copy(count: usize, from: usize, to: usize, work: &mut [u64])
-    requires { (from + count ≤ length work.old) × (to + count ≤ length work.old) × ((from + count ≤ to) ⊎ (to ≤ from)) }
+    requires { (from + count ≤ length work.old) × (to + count ≤ length work.old) }
     ensures { WrittenAt to count (λ k. get_or work.old (from + k) 0) work.old work.new }
 {
-    let mut k: usize = 0;
-    while k < count {
-        work[to + k] = work[from + k];
-        k += 1;
-    }
+    work.copy_within(from..from + count, to);
 }
 
-// One layer more: a step of the third layer, then the choice.
-fn turn(
-    rows: &[[u16; STATES]; STATES],
-    places: &[[u8; PLACES]; STATES],
-    most: usize,
-    states: usize,
-    moving: [bool; 4],
-    variables: usize,
-    last: usize,
-    opened: bool,
-    all: u64,
-    tuples: usize,
-    work: &mut [u64],
-)
-    requires { (last ≤ variables) × (variables ≤ most_variables) ×
-        TurnFits rows.now states last (last_of variables last moving) tuples work.old × RowsNamed rows.now states most places.now }
-    ensures { Turned rows.now states last (last_of variables last moving) tuples opened all
-        work.old work.new }
+// One layer more: a step of the third layer, then the choice. Six parameters: a struct of them would be made at each turn of `until` and
+// taken apart here, which is no plainer.
+fn turn(rows: &Rows, moving: &[bool], opened: bool, all: u64, tuples: usize, work: &mut [u64])
+    requires { TurnFits rows.now.weights rows.now.states (length moving.now) moving.now tuples work.old }
+    ensures { Turned rows.now.weights rows.now.states (length moving.now) moving.now tuples opened all work.old work.new }
 {
-    let from = tuples + tuples;
-    joint_named(
-        rows,
-        places,
-        most,
-        states,
-        moving,
-        variables,
-        last,
-        tuples,
-        &mut work[from..],
-    );
+    joint_step(rows, moving, tuples, &mut work[tuples + tuples..]);
     choose(opened, all, tuples, work);
 }
 
-// The numerator of until with window k1..k2 at all tuples of the last variables, by runs of those that move, `count` of them. The front
-// layer holds the truth of the first formula, the second that of the second. The third counts, by steps left, the weight of the runs
-// taken: with none left, where the second formula is met; with one more, by a joint step and the choice. At last it is copied to the front.
-fn until(
-    rows: &[[u16; STATES]; STATES],
-    states: usize,
-    moving: [bool; 4],
-    variables: usize,
-    last: usize,
-    count: usize,
-    d: u64,
-    k1: usize,
-    k2: usize,
-    tuples: usize,
-    work: &mut [u64],
-)
-    requires { (last ≤ variables) × (variables ≤ most_variables) ×
-        UntilFits rows.now states last (last_of variables last moving) count tuples d k1 k2 work.old }
-    ensures { UntilTaken rows.now states last (last_of variables last moving) tuples d k1 k2
+// The numerator of until at all tuples, by runs of the variables that move. The front layer holds the truth of the first formula, the
+// second that of the second. The third counts, by steps left, the weight of the runs taken: with none left, where the second formula is
+// met; with one more, by a joint step and the choice. At last it is copied to the front.
+fn until(rows: &Rows, moving: &[bool], window: Window, tuples: usize, work: &mut [u64])
+    requires { UntilFits rows.now.weights rows.now.states (length moving.now) moving.now window.count tuples
+        window.d window.k1 window.k2 work.old }
+    ensures { UntilTaken rows.now.weights rows.now.states (length moving.now) moving.now tuples window.d window.k1 window.k2
         work.old work.new }
 {
-    let mut places = [[0u8; PLACES]; STATES];
-    let most = name_rows(rows, states, &mut places);
     copy(tuples, tuples, tuples + tuples, work);
     let mut all: u64 = 1;
-    let mut left: usize = 0;
-    while left < k2 {
-        let next = left + 1;
-        all = scaled(all, d, count);
-        turn(
-            rows,
-            &places,
-            most,
-            states,
-            moving,
-            variables,
-            last,
-            k1 <= k2 - next,
-            all,
-            tuples,
-            work,
-        );
-        left = next;
+    for moment in (0..window.k2).rev() {
+        all *= window.d.pow(window.count as u32);
+        turn(rows, moving, window.k1 <= moment, all, tuples, work);
     }
     copy(tuples, tuples + tuples, 0, work);
 }
 
-// How many variables there are from the first that moves on: 0 if none does.
-fn from_first(moving: [bool; 4], variables: usize) -> usize
-    requires { variables ≤ most_variables }
-    ensures { FromFirst moving variables result }
+// How many variables stand before the first that moves: all if none does.
+fn before_first(moving: &[bool]) -> usize
+    ensures { FromFirst moving.now result }
 {
-    let mut i: usize = 0;
-    while i < variables {
-        if moving[i] {
-            return variables - i;
-        }
-        i += 1;
-    }
-    0
-}
-
-// How many tuples there are of the last variables.
-fn tuples_of(states: usize, last: usize) -> usize
-    requires { (1 ≤ states) × (states ^ last ≤ most_tuples) }
-    ensures { result ≡ states ^ last }
-{
-    scaled(1, states as u64, last) as usize
+    moving
+        .iter()
+        .position(|moves| *moves)
+        .unwrap_or(moving.len())
 }
 
 // The numerator of until at all tuples, where no formula looks at the variables before the first that moves: it is found at the tuples in
 // which these are in state 0, which come first, and repeated.
-pub fn until_repeated(
-    rows: &[[u16; STATES]; STATES],
-    states: usize,
-    moving: [bool; 4],
-    variables: usize,
-    count: usize,
-    d: u64,
-    k1: usize,
-    k2: usize,
-    tuples: usize,
-    work: &mut [u64],
-)
-    requires { UntilFits rows.now states variables (take variables moving) count tuples d k1 k2 work.old }
-    ensures { UntilRepeated rows.now states variables (take variables moving) tuples d k1 k2
+pub fn until_repeated(rows: &Rows, moving: &[bool], window: Window, tuples: usize, work: &mut [u64])
+    requires { UntilFits rows.now.weights rows.now.states (length moving.now) moving.now window.count tuples
+        window.d window.k1 window.k2 work.old }
+    ensures { UntilRepeated rows.now.weights rows.now.states (length moving.now) moving.now tuples window.d window.k1 window.k2
         work.old work.new }
 {
-    let last = from_first(moving, variables);
-    let few = tuples_of(states, last);
+    let first = before_first(moving);
+    let last = &moving[first..];
+    let few = rows.states().pow(last.len() as u32);
     copy(few, tuples, few, work);
-    until(
-        rows, states, moving, variables, last, count, d, k1, k2, few, work,
-    );
+    until(rows, last, window, few, work);
     repeat(few, tuples, work);
 }

@@ -1,13 +1,15 @@
 -- The contract of verdict leaves one answer and one work area, and no refusal's number above 11.
 use Prim.Native.Nat.{ℕ, ◌≤◌}
-use mathlib.Core.Bool.{Bool, true≢false}
+use mathlib.Core.Bool.{Bool}
 use mathlib.Core.List.{List, map}
-use mathlib.Core.Path.{◌≡◌, refl, sym, ap, ap₂, ◌∙◌}
+use mathlib.Core.Path.{◌≡◌, sym, ap₂, ◌∙◌}
 use native.Mathlib.Omega.{arith}
 use lib.ListN.{length}
-use Rattle.refusal.specs.Answers.{number_in}
+use Rattle.std.specs.Prelude.{Result}
+use Rattle.refusal.specs.declared.Refusal.{Refusal}
+use Rattle.refusal.specs.Answers.{number_in, reply_of}
 use Rattle.refusal.specs.Rows.{Decided, by_row, by_none, other, no_other}
-use Rattle.refusal.proofs.Ensuring.{one_result, number_decided}
+use Rattle.refusal.proofs.Ensuring.{one_result, number_decided, answer_told}
 use Rattle.model.specs.Layout.{fields_of}
 use Rattle.meaning.specs.Tree.{Formula, letter_of}
 use Rattle.meaning.specs.Meaning.{verdict}
@@ -15,21 +17,7 @@ use Rattle.trees.proofs.Once.{sentence_once}
 use Rattle.chain.specs.Of.{chain_of}
 use Rattle.question.proofs.Numbers.{row_few}
 use Rattle.question.proofs.Cleared.{cleared_once}
-use Rattle.verdict.specs.declared.Answer.{Answer}
-use Rattle.verdict.specs.declared.Answer.TheVariants.{Holds, Fails, Refused}
-use Rattle.verdict.specs.Contract.{verdict_reply, VerdictRow, Judges, VerdictEnsures}
-
--- a reply tells its answer
-pub reply_told : (a b : Answer) → verdict_reply a ≡ verdict_reply b → a ≡ b
-reply_told Holds Holds e = refl
-reply_told Holds Fails e = absurd (true≢false (cc e))
-reply_told Holds (Refused n) e = let z : ◌≡◌ {A = ℕ} 0 1 = cc in absurd (omega arith)
-reply_told Fails Holds e = absurd (true≢false (sym (cc e)))
-reply_told Fails Fails e = refl
-reply_told Fails (Refused n) e = let z : ◌≡◌ {A = ℕ} 0 1 = cc in absurd (omega arith)
-reply_told (Refused n) Holds e = let z : ◌≡◌ {A = ℕ} 0 1 = cc in absurd (omega arith)
-reply_told (Refused n) Fails e = let z : ◌≡◌ {A = ℕ} 0 1 = cc in absurd (omega arith)
-reply_told (Refused n) (Refused m) e = ap Refused (cc e)
+use Rattle.verdict.specs.Contract.{VerdictRow, Judges, VerdictEnsures}
 
 -- the right verdict is one, whatever the area
 pub one_value : {file text before before' : List ℕ} (v v' : Bool) (l l' : List ℕ) → Judges file text before v l →
@@ -46,14 +34,15 @@ one_right {file} {before = before} v v' l l' j j' =
     (one_value v v' l l' j j', cleared_once file before j.sentence j'.sentence j.left ∙ sym j'.left)
 
 -- any two results that the contract allows are equal
-pub one_verdict : {file text before after after' : List ℕ} {a b : Answer} → VerdictEnsures file text before a after →
+pub one_verdict : {file text before after after' : List ℕ} {a b : Result Bool Refusal} → VerdictEnsures file text before a after →
     VerdictEnsures file text before b after' → (a ≡ b) × (after ≡ after')
 one_verdict {a = a} {b} x y =
     let one = one_result one_right x.ensured y.ensured in
-    (reply_told a b one.0, one.1)
+    (answer_told a b one.0, one.1)
 
 -- a refusal's number is 11 or less
-pub number_few : {file text before after : List ℕ} {a : Answer} → VerdictEnsures file text before a after → number_in (verdict_reply a) ≤ 11
+pub number_few : {file text before after : List ℕ} {a : Result Bool Refusal} → VerdictEnsures file text before a after →
+    number_in (reply_of a) ≤ 11
 number_few {file} {text} {before} x = by (number_decided x.ensured)
   where
     by : {n : ℕ} → Decided (VerdictRow file text (length before)) n → n ≤ 11

@@ -1,20 +1,13 @@
 -- Document 01, 'Calls and refusal numbers', for verdict: its rows, and what the call answers and leaves.
-use Rattle.std.specs.Prelude.{ℕ, Bool, true, false, List, map, ◌≡◌, length}
+use Rattle.std.specs.Prelude.{ℕ, Bool, List, map, ◌≡◌, length, Result}
 use Rattle.refusal.specs.Rows.{OneLast}
-use Rattle.refusal.specs.Answers.{Reply, gives, refuses, Ensured}
+use Rattle.refusal.specs.declared.Refusal.{Refusal}
+use Rattle.refusal.specs.Answers.{reply_of, Ensured}
 use Rattle.model.specs.Layout.{fields_of}
 use Rattle.meaning.specs.Tree.{letter_of}
 use Rattle.meaning.specs.Meaning.{verdict}
 use Rattle.chain.specs.Of.{chain_of}
 use Rattle.question.specs.Contract.{QuestionRow, SentenceOf, needed, AreaShort, cleared}
-use Rattle.verdict.specs.declared.Answer.{Answer}
-use Rattle.verdict.specs.declared.Answer.TheVariants.{Holds, Fails, Refused}
-
--- the document's words for an answer: that the sentence holds, or does not, or the number of a refusal
-abbrev pub verdict_reply : Answer → Reply Bool
-verdict_reply Holds = gives true
-verdict_reply Fails = gives false
-verdict_reply (Refused number) = refuses number
 
 -- the rows: those of the question, and row 1 where none of them applies and the area is too short
 abbrev pub VerdictRow : (file text : List ℕ) → ℕ → ℕ → Type 0
@@ -27,5 +20,5 @@ pub record Judges (file text before : List ℕ) (holds : Bool) (after : List ℕ
   pub left : after ≡ cleared (needed file sentence) before
 
 -- what verdict ensures of the model file, the sentence text, the work area before and after, and what it answers
-pub record VerdictEnsures (file text before : List ℕ) (answer : Answer) (after : List ℕ) : Type 0 where
-  pub ensured : Ensured (VerdictRow file text (length before)) (Judges file text before) before (verdict_reply answer) after
+pub record VerdictEnsures (file text before : List ℕ) (answer : Result Bool Refusal) (after : List ℕ) : Type 0 where
+  pub ensured : Ensured (VerdictRow file text (length before)) (Judges file text before) before (reply_of answer) after

@@ -9,6 +9,6 @@ use Rattle.block.proofs.check_right.Goals as goal
 pub returns : goal.returns
 returns c =
     let check = c.check_of-check.ensures in
-    let low = c.wide.ensures.0 ∙ c.block_byte.ensures in
-    let high = c.wide-2.ensures.0 ∙ c.block_byte-2.ensures in
+    let low = c.from.ensures ∙ c.block_byte.ensures in
+    let high = c.from-2.ensures ∙ c.block_byte-2.ensures in
     ap₂ (λ (a b : Bool). a && b) (ap₂ (λ (b k : ℕ). eqb b (low_byte k)) low check) (ap₂ (λ (b k : ℕ). eqb b (high_byte k)) high check)

@@ -7,7 +7,7 @@ pub returns : goal.returns
 returns c =
     let wider = c in
     let t = wider.args.t in
-    let same = wider.wide.ensures.0 in
+    let same = wider.from.ensures in
     record {
       plain = ap (λ (b : ℕ). t.plain + b) same;
       weighed = ap (λ (b : ℕ). t.weighed + (t.plain + b)) same;

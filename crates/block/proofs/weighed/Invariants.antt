@@ -9,6 +9,3 @@ abbrev pub invariant-loop-i : goal.invariant-loop-i
 invariant-loop-i l =
     (l.i ≤ 510) × (l.totals.plain + 255 * l.i ≤ 130050) × (l.totals.weighed + 130050 * l.i ≤ 66325500) ×
     Backwards 510 (λ j. get_or l.bytes j 0) l.i l.totals.plain l.totals.weighed
-
-abbrev pub decreases-loop-i : goal.decreases-loop-i
-decreases-loop-i l = l.i

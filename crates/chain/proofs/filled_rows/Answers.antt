@@ -1,17 +1,14 @@
--- `chain::filled_rows` meets its contract, of the matrix that the model carries.
-use Prim.Native.Nat.{ℕ}
-use mathlib.Core.List.{List, []}
-use mathlib.Core.Path.{ap, ◌∙◌}
-use lib.ListN.{get_or}
-use Rattle.counting.specs.Below.{table}
-use Rattle.chain.specs.Of.{filled_weight}
-use Rattle.chain.specs.Working.{filled_row}
+-- `chain::filled_rows` meets its contract: the matrix is filled row by row.
+use mathlib.Core.Path.{refl}
+use native.Mathlib.Omega.{arith}
+use Rattle.counting.proofs.Laws.{filled_none, filled_next, filled_all}
 use Rattle.chain.proofs.filled_rows.Goals as goal
 
+pub loop-s-init : goal.loop-s-init
+loop-s-init c = filled_none refl
+
+pub loop-s-preserved : goal.loop-s-preserved
+loop-s-preserved c = filled_next c.loop-s.invariant (omega arith) c.filled_row.ensures
+
 pub returns : goal.returns
-unfolding filled_weight
-returns c =
-    let m = c.args.m in
-    c.fill_all.ensures ∙
-    ap (λ (rows : List (List ℕ)). table 32 (λ s. filled_row m.n m.d m.version s (get_or rows s [])))
-    c.rows_of-rows.ensures
+returns c = filled_all c.loop-s.invariant (omega arith)

@@ -63,4 +63,4 @@ unfolding node_of
 returns-in_default c =
     let a = c.args in
     let past : 12 ≤ a.tag = omega arith in
-    c.no_node.ensures ∙ sym (get_or-eq_default (nodes_by_tag a.x a.y) no_node past)
+    sym (get_or-eq_default (nodes_by_tag a.x a.y) no_node past)

@@ -1,20 +1,13 @@
--- `names::how_many` meets its contract. The invariant: so many of the variables passed.
-use mathlib.Core.Bool.{true, false}
-use mathlib.Core.Path.{◌∙◌}
-use native.Mathlib.Omega.{arith}
-use Rattle.names.proofs.Labels.{counted_none, counted_next, counted_few}
+-- `names::how_many` meets its contract: of the first n, where those that are not named are passed over, as many are left as are named.
+use Rattle.std.proofs.Common.{rules, tests, take, ◌∙◌}
+use Rattle.std.proofs.lemmas.Iterator.{YieldsList-from_slice}
+use Rattle.std.proofs.lemmas.Iterator.Consumers.{YieldsList-at, YieldsList-from_filter, count_from_yields_List}
+use Rattle.names.proofs.Labels.{count_kept}
 use Rattle.names.proofs.how_many.Goals as goal
-use Rattle.names.proofs.how_many.Goals.{then-those-i, else-those-i}
 
-pub loop-i-init : goal.loop-i-init
-loop-i-init c = counted_none
-
-pub overflow_add-found : goal.overflow_add-found
-overflow_add-found c = omega (arith, counted_few c.loop-i.invariant, c.requires)
-
-pub loop-i-preserved : goal.loop-i-preserved
-loop-i-preserved c =
-    elim c.if-those-i.branch [
-      | then-those-i w ↦ counted_next true c.loop-i.invariant c.loop-i-test.true w.if-those-i.true w.found-is
-      | else-those-i w ↦ counted_next false c.loop-i.invariant c.loop-i-test.true w.if-those-i.false (w.found-is ∙ omega arith)
-    ]
+pub returns : goal.returns
+returns c =
+    let first = take c.args.n c.args.those in
+    count_from_yields_List c.filter.result _ c.count.ensures.ran
+    (YieldsList-from_filter _ (λ b. b) (YieldsList-at c.filter.ensures.source (YieldsList-from_slice first cc)) c.filter.ensures.closure
+    (λ x r q k. search (rules, tests))) ∙ count_kept first

@@ -1,7 +1,8 @@
 -- `label_right` meets its contract: a label is tested, and of every other node the test says the same.
 use Prim.Native.Nat.{ℕ}
 use mathlib.Core.Bool.{true}
-use mathlib.Core.Path.{◌≡◌, refl, sym, ap}
+use mathlib.Core.Path.{◌≡◌, refl, sym, ap, ◌∙◌}
+use lib.Dec.{ltb}
 use Rattle.sentence.specs.declared.Node.{Node}
 use Rattle.sentence.specs.declared.Node.TheVariants.{True, Label, Not, And, Compare, Probability, Constant}
 use Rattle.sentence.specs.declared.Node.TheVariants.{Sum, Difference, Product, Next, Until}
@@ -24,7 +25,7 @@ no_label a Next other = refl
 no_label a (Until k1 k2) other = refl
 
 pub returns-in-Label : goal.returns-in-Label
-returns-in-Label c = sym (ap (label_right c.args.a) c.in-Label.is)
+returns-in-Label c = ap (λ (l : ℕ). ltb l c.args.a) c.from.ensures ∙ sym (ap (label_right c.args.a) c.in-Label.is)
 
 pub returns-in_default : goal.returns-in_default
 returns-in_default c = no_label c.args.a c.args.node c.in_default.not-Label

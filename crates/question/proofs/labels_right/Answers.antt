@@ -1,28 +1,25 @@
--- `labels_right` meets its contract. The invariant: the nodes that are left decide.
-use mathlib.Core.Path.{sym, ◌∙◌}
-use native.Mathlib.Omega.{arith}
-use Rattle.sentence.specs.declared.Node.TheVariants.{True}
-use Rattle.sentence.specs.Record.{slot}
-use Rattle.question.proofs.Numbers.{left_none, left_next, left_all, left_failed}
+-- `question::labels_right` meets its contract, by what `all` says of the nodes.
+use mathlib.Core.Bool.{Bool, ◌&&◌}
+use mathlib.Core.List.{List, [], ◌∷◌}
+use mathlib.Core.Path.{◌≡◌, refl, ap, ◌∙◌}
+use Rattle.std.specs.List.{list_all}
+use Rattle.std.proofs.Common.{rules, tests}
+use Rattle.std.proofs.lemmas.Iterator.{YieldsList-from_slice}
+use Rattle.std.proofs.lemmas.Iterator.Search.{all_from_yields_List}
+use Rattle.sentence.specs.declared.Node.{Node}
+use Rattle.meaning.specs.Lists.{every}
+use Rattle.question.specs.Contract.{label_right}
 use Rattle.question.proofs.labels_right.Goals as goal
 
-pub loop-i-init : goal.loop-i-init
-loop-i-init c = left_none
-
-pub returns-then-not-label_right : goal.returns-then-not-label_right
-returns-then-not-label_right c =
-    left_failed (slot True) c.loop-i.invariant (omega arith)
-    (let long = c.well_formed.0.1.0.1 in
-    let few = c.requires in omega arith)
-    (sym c.label_right.ensures ∙ c.if-not-label_right.true)
-
-pub loop-i-preserved : goal.loop-i-preserved
-loop-i-preserved c =
-    left_next (slot True) c.loop-i.invariant (omega arith)
-    (let long = c.well_formed.0.1.0.1 in
-    let few = c.requires in omega arith)
-    (sym c.label_right.ensures ∙ c.if-not-label_right.false)
+-- the library's test of every item is the meaning's
+every_is : (test : Node → Bool) (nodes : List Node) → list_all test nodes ≡ every test nodes
+unfolding every
+every_is test [] = refl
+every_is test (n ∷ nodes) = ap (λ (b : Bool). test n && b) (every_is test nodes)
 
 pub returns : goal.returns
-returns c = left_all c.loop-i.invariant (omega arith) (let long = c.well_formed.0.1.0.1 in
-    let few = c.requires in omega arith)
+returns c =
+    let nodes = c.args.nodes.now in
+    all_from_yields_List (label_right c.args.a) _ _ _ c.all.ensures.ran (YieldsList-from_slice nodes cc)
+    (λ x b q k. search (rules, tests)) ∙
+    every_is (label_right c.args.a) nodes

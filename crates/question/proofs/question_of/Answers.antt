@@ -1,43 +1,85 @@
--- `question::question_of` meets its contract: the rows' number, and where none applies what was read and the numbers that it needs.
+-- `question::question_of` meets its contract: the first refusal in the order of the rows, and where there is none what was read and the
+-- numbers that it needs.
 use Prim.Native.Nat.{ℕ}
+use mathlib.Core.List.{List}
+use mathlib.Core.Path.{◌≡◌, sym, ap, subst}
 use native.Mathlib.Omega.{arith}
-use Rattle.refusal.specs.Rows.{by_none}
+use borrow.Author.Rules.{rules}
+use Rattle.std.specs.Prelude.{Result, Ok, Err}
+use Rattle.refusal.specs.declared.Refusal.{Refusal}
+use Rattle.refusal.specs.Answers.{number_in, number_of, reply_of}
+use Rattle.refusal.specs.Rows.{Decided}
+use Rattle.model.specs.declared.Model.{Model}
+use Rattle.sentence.specs.declared.Sentence.{Sentence}
+use Rattle.question.specs.declared.Question.{Question}
 use Rattle.question.specs.Contract.{QuestionRow}
+use Rattle.question.specs.Working.{QuestionOf, FileOfModel, TextOfSentence, Late}
 use Rattle.question.proofs.Numbers.{none_of}
-use Rattle.question.proofs.Settled.{model_of_read, sentence_of_read, ready_of}
-use Rattle.question.proofs.question_of.Goals.{Else-number-gt0}
+use Rattle.question.proofs.Early.{file_refused, file_read, text_refused, text_read}
+use Rattle.question.proofs.Settled.{ready_of}
+use Rattle.question.proofs.question_of.Goals.{In_ok-late_rows}
 use Rattle.question.proofs.question_of.Goals as goal
 
-pub returns-then-number-gt0 : goal.returns-then-number-gt0
-returns-then-number-gt0 c = record {
-  decided = c.first_number-number.ensures.each _ _ c.read_model-read.ensures c.read_sentence-said.ensures;
-  answerable = λ none. let some = c.if-number-gt0.true in absurd (omega (arith, none, some));
+-- a refusal that the rows give
+refused_so : {file text : List ℕ} {r : Result Question Refusal} {x : Refusal} → r ≡ Err x → Decided (QuestionRow file text) (number_of x) →
+    QuestionOf file text r
+refused_so {file} {text} e d = subst (QuestionOf file text) (sym e) d
+
+-- what the late rows say of the file and the text
+module _ {file text : List ℕ} {m : Model} {s : Sentence} {answer : Result Unit Refusal} (late : Late m s answer) (a : FileOfModel file m)
+    (b : TextOfSentence text s) where
+  late_refused : {x : Refusal} → answer ≡ Err x → Decided (QuestionRow file text) (number_of x)
+  late_refused e =
+      subst (Decided (QuestionRow file text)) (ap (λ (r : Result Unit Refusal). number_in (reply_of r)) e) (late.each file text a b)
+
+  none_left : {u : Unit} → answer ≡ Ok u → (k : ℕ) → QuestionRow file text k → ⊥
+  none_left e =
+      let zero = ap (λ (r : Result Unit Refusal). number_in (reply_of r)) e in
+      none_of (late.each file text a b) (omega (arith, zero))
+
+pub returns-in_err-model : goal.returns-in_err-model
+returns-in_err-model c =
+    let x = c.in_err-model.field-0.0 in
+    let same : c.from_residual.result ≡ Err x = search rules in
+    refused_so same (file_refused c.read_model.ensures c.in_err-model.was)
+
+pub returns-in_err-sentence : goal.returns-in_err-sentence
+returns-in_err-sentence c =
+    let x = c.in_err-sentence.field-0.0 in
+    let same : c.from_residual-in_err-sentence.result ≡ Err x = search rules in
+    let a = file_read c.read_model.ensures c.in_ok-model.was in
+    refused_so same (text_refused a.accepted c.read_sentence.ensures c.in_err-sentence.was)
+
+pub late_rows-requires : goal.late_rows-requires
+late_rows-requires c = record {
+  file = c.args.file.now;
+  text = c.args.text.now;
+  model = file_read c.read_model.ensures c.in_ok-model.was;
+  sentence = text_read c.read_sentence.ensures c.in_ok-sentence.was;
 }
 
--- no row applies
-free : (c : Else-number-gt0) →
-    let args = c.args in
-    (k : ℕ) → QuestionRow args.file.now args.text.now k → ⊥
-free c =
-    none_of (c.first_number-number.ensures.each _ _ c.read_model-read.ensures c.read_sentence-said.ensures) c.if-number-gt0.false
+pub returns-in_err-late_rows : goal.returns-in_err-late_rows
+returns-in_err-late_rows c =
+    let x = c.in_err-late_rows.field-0.0 in
+    let same : c.from_residual-in_err-late_rows.result ≡ Err x = search rules in
+    let a = file_read c.read_model.ensures c.in_ok-model.was in
+    let b = text_read c.read_sentence.ensures c.in_ok-sentence.was in
+    refused_so same (late_refused c.late_rows.ensures a b c.in_err-late_rows.was)
 
-pub area_needed-requires : goal.area_needed-requires
-area_needed-requires c =
-    ready_of (free (goal.at.area_needed-requires c).Else-number-gt0) c.read_model-read.ensures c.read_sentence-said.ensures
+-- none of the rows applies
+free : (c : In_ok-late_rows) → (k : ℕ) → QuestionRow c.args.file.now c.args.text.now k → ⊥
+free c =
+    none_left c.late_rows.ensures (file_read c.read_model.ensures c.in_ok-model.was)
+    (text_read c.read_sentence.ensures c.in_ok-sentence.was) c.in_ok-late_rows.was
+
+pub area_needed-area-requires : goal.area_needed-area-requires
+area_needed-area-requires c =
+    ready_of (free (goal.at.area_needed-area-requires c).In_ok-late_rows) (file_read c.read_model.ensures c.in_ok-model.was)
+    (text_read c.read_sentence.ensures c.in_ok-sentence.was)
 
 pub returns : goal.returns
 returns c =
-    let reads = c.read_model-read.ensures in
-    let said = c.read_sentence-said.ensures in
-    let none = free (goal.at.returns c).Else-number-gt0 in
-    record {
-      decided = by_none none;
-      answerable = λ zero.
-          record {
-            none = none;
-            model = model_of_read none reads;
-            sentence = sentence_of_read none said;
-            ready = ready_of none reads said;
-            area = c.area_needed.ensures;
-          };
-    }
+    let none = free (goal.at.returns c).In_ok-late_rows in
+    let a = file_read c.read_model.ensures c.in_ok-model.was in
+    let b = text_read c.read_sentence.ensures c.in_ok-sentence.was in
+    record { none = none; model = a; sentence = b; ready = ready_of none a b; area = c.area_needed-area.ensures }

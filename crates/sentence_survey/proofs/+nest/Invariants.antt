@@ -1,7 +1,6 @@
--- `nest` meets its contract: each node is a case of Fitting. The measure is how many nodes are left.
--- Assumes nothing.
-use Prim.Native.Nat.{◌-◌}
+-- The measure of `nest` is what is left of the list. Assumes nothing.
+use lib.ListN.{length}
 use Rattle.sentence_survey.proofs.+nest.Given as goal
 
 abbrev pub decreases-nest : goal.decreases-nest
-decreases-nest l = l.count - l.p.at
+decreases-nest l = length l.nodes.now

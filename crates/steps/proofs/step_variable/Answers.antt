@@ -1,36 +1,39 @@
 -- `steps::step_variable` meets its contract: one column after another.
+use Prim.Native.Nat.{ℕ, ◌*◌}
+use mathlib.Core.Path.{refl, subst}
+use native.Mathlib.Nat.{mul-le-mul_right}
 use native.Mathlib.Omega.{arith}
-use Rattle.steps.proofs.Columns.{layer_next, layer_all}
-use Rattle.steps.proofs.Columns.{column_at_as, column_at_more, column_at_row}
-use Rattle.steps.proofs.Columns.{column_fits, columns_are}
-use Rattle.steps.proofs.step_variable.Goals.{then-within-stride, else-within-stride}
+use Rattle.steps.proofs.Columns.{LayerStepping, layer_next, layer_all, column_fits, column_less, blocks_are, start_at}
 use Rattle.steps.proofs.step_variable.Goals as goal
 
 pub step_column-requires : goal.step_column-requires
 step_column-requires c =
-    let pre = c.requires.0 in
-    let many = columns_are pre in
-    let inv = c.loop-j.invariant in
-    (rw inv.1.begins (column_fits pre (omega arith) inv.0), c.requires.1, inv.2)
+    let pre = c.requires in
+    let same = c.states-states.ensures in
+    let less = column_less pre refl c.loop-block-test.true c.loop-k-test.true in (
+      rw (start_at c.args.rows.now.states c.args.stride pre.some pre.apart c.loop-block.block c.loop-k.k same c.loop-k-test.true)
+          (column_fits pre less c.loop-k.invariant.0),
+      c.loop-k.invariant.1,
+    )
 
-pub loop-j-preserved : goal.loop-j-preserved
-loop-j-preserved c =
-    let pre = c.requires.0 in
-    let many = columns_are pre in
-    let inv = c.loop-j.invariant in
-    let done = c.step_column.ensures in (
-      layer_next pre (omega arith) inv.0 (rw inv.1.begins at done.0),
-      elim c.if-within-stride.branch [
-        | then-within-stride w ↦ column_at_as pre.some pre.apart (column_at_row pre.some pre.apart inv.1 w.if-within-stride.true)
-            w.at-is w.within-is
-        | else-within-stride w ↦ column_at_as pre.some pre.apart (column_at_more pre.some pre.apart inv.1 w.if-within-stride.false)
-            w.at-is w.within-is
-      ],
-      done.1,
+pub loop-k-preserved : goal.loop-k-preserved
+loop-k-preserved c =
+    let pre = c.requires in
+    let same = c.states-states.ensures in
+    let less = column_less pre refl c.loop-block-test.true c.loop-k-test.true in
+    let start = start_at c.args.rows.now.states c.args.stride pre.some pre.apart c.loop-block.block c.loop-k.k same
+    c.loop-k-test.true in (
+      subst
+          (λ (x : ℕ).
+          LayerStepping c.args.rows.now.weights c.args.rows.now.states c.args.stride
+          (c.args.blocks * c.args.rows.now.states * c.args.stride) c.args.layer.now x c.step_column.new.layer)
+          (omega arith) (layer_next pre less c.loop-k.invariant.0 (rw start at c.step_column.ensures.0)),
+      c.step_column.ensures.1,
     )
 
 pub returns : goal.returns
 returns c =
-    let pre = c.requires.0 in
-    let many = columns_are pre in
-    layer_all pre c.loop-j.invariant.0 (omega arith)
+    let pre = c.requires in
+    let all = blocks_are pre refl in
+    layer_all pre c.loop-block.invariant.0
+    (mul-le-mul_right {m = pre.above} {n = c.loop-block.block} c.args.stride (omega (arith, all, c.loop-block-test.false)))

@@ -1,15 +1,17 @@
 -- `steps::step_variable` meets its contract: one column after another.
-use Prim.Native.Nat.{◌-◌}
+use Prim.Native.Nat.{◌+◌, ◌*◌}
 use mathlib.Core.Path.{◌≡◌}
 use lib.ListN.{length}
 use Rattle.steps.proofs.Columns.{LayerStepping}
-use Rattle.steps.proofs.Columns.{ColumnAt}
 use Rattle.steps.proofs.step_variable.Given as goal
 
-abbrev pub invariant-loop-j : goal.invariant-loop-j
-invariant-loop-j l =
-    LayerStepping l.rows l.states l.stride l.tuples l.initial.layer l.j l.layer × ColumnAt l.states l.stride l.j l.at l.within ×
+abbrev pub invariant-loop-block : goal.invariant-loop-block
+invariant-loop-block l =
+    LayerStepping l.rows.weights l.rows.states l.stride (l.blocks * l.rows.states * l.stride) l.initial.layer (l.block * l.stride) l.layer ×
     (length l.column ≡ 32)
 
-abbrev pub decreases-loop-j : goal.decreases-loop-j
-decreases-loop-j l = l.columns - l.j
+abbrev pub invariant-loop-k : goal.invariant-loop-k
+invariant-loop-k l =
+    LayerStepping l.rows.weights l.rows.states l.stride (l.blocks * l.rows.states * l.stride) l.fn.layer
+    (l.block * l.stride + l.k) l.layer ×
+    (length l.column ≡ 32)

@@ -1,36 +1,37 @@
 -- `untils::until_repeated` meets its contract: an until of the last variables, and its repetition.
-use mathlib.Core.Logic.{inr}
-use mathlib.Core.Path.{refl, ◌∙◌}
+use mathlib.Core.Path.{◌∙◌, refl}
 use native.Mathlib.Omega.{arith}
+use Rattle.layers.proofs.Tails.{lent_tail}
 use Rattle.untils.proofs.Repeating.{few_tuples, few_some, last_fits, repeated_taken}
 use Rattle.untils.proofs.until_repeated.Goals as goal
 
-pub tuples_of-few-requires : goal.tuples_of-few-requires
-tuples_of-few-requires c =
-    let fits = c.requires in
-    (fits.sizes.some, omega (arith, fits.sizes.few, few_tuples fits c.from_first-last.ensures refl))
+pub pow-few-requires : goal.pow-few-requires
+pow-few-requires c =
+    let tail = lent_tail c.before_first-first.result c.args.moving.now in
+    omega (arith, few_tuples c.requires c.before_first-first.ensures tail c.states.ensures refl, c.requires.sizes.few)
 
 pub copy-requires : goal.copy-requires
 copy-requires c =
-    let fits = c.requires in
-    let few = few_tuples fits c.from_first-last.ensures c.tuples_of-few.ensures in
-    (omega (arith, fits.room, few), omega (arith, fits.room, few), inr few)
+    let tail = lent_tail c.before_first-first.result c.args.moving.now in
+    let few = few_tuples c.requires c.before_first-first.ensures tail c.states.ensures c.pow-few.ensures in
+    (omega (arith, c.requires.room), omega (arith, c.requires.room))
 
 pub until-requires : goal.until-requires
 until-requires c =
-    let fits = c.requires in
-    let from = c.from_first-last.ensures in
-    (from.up_to, fits.few, last_fits fits from c.tuples_of-few.ensures c.copy.ensures)
+    let tail = lent_tail c.before_first-first.result c.args.moving.now in
+    last_fits c.requires c.before_first-first.ensures tail c.states.ensures c.pow-few.ensures c.copy.ensures
 
 pub repeat-requires : goal.repeat-requires
 repeat-requires c =
-    let fits = c.requires in
-    let from = c.from_first-last.ensures in
-    let whole = c.tuples_of-few.ensures in
-    let long = c.until.ensures.kept.long ∙ c.copy.ensures.long in
-    (few_some fits from whole, few_tuples fits from whole, omega (arith, fits.room, long))
+    let tail = lent_tail c.before_first-first.result c.args.moving.now in
+    let long = c.until.ensures.kept.long ∙ c.copy.ensures.long in (
+      few_some c.requires c.before_first-first.ensures tail c.states.ensures c.pow-few.ensures,
+      few_tuples c.requires c.before_first-first.ensures tail c.states.ensures c.pow-few.ensures,
+      omega (arith, c.requires.room),
+    )
 
 pub returns : goal.returns
 returns c =
-    repeated_taken c.requires c.from_first-last.ensures c.tuples_of-few.ensures c.copy.ensures
-    c.until.ensures c.repeat.ensures
+    let tail = lent_tail c.before_first-first.result c.args.moving.now in
+    repeated_taken c.requires c.before_first-first.ensures tail c.states.ensures c.pow-few.ensures c.copy.ensures c.until.ensures
+    c.repeat.ensures

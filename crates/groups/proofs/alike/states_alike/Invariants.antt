@@ -1,5 +1,4 @@
 -- `groups::alike::states_alike` meets its contract. The invariant: the states passed agree with the first of their group.
-use Prim.Native.Nat.{◌-◌}
 use Rattle.counting.proofs.Laws.{Passed}
 use Rattle.groups.specs.Groups.{group_of, member_of}
 use Rattle.groups.specs.Working.{pair_alike}
@@ -8,6 +7,3 @@ use Rattle.groups.proofs.alike.states_alike.Given as goal
 abbrev pub invariant-loop-s : goal.invariant-loop-s
 invariant-loop-s l =
     Passed l.n (λ s. pair_alike l.masks l.totals l.count s (member_of l.n l.grouping (group_of l.grouping s))) l.s
-
-abbrev pub decreases-loop-s : goal.decreases-loop-s
-decreases-loop-s l = l.n - l.s

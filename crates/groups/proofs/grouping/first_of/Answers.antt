@@ -1,27 +1,30 @@
--- `groups::grouping::first_of` meets its contract. The invariant: no state passed has the group.
-use borrow.Author.Rules.{rules}
-use mathlib.Core.Path.{sym, ◌∙◌}
+-- `groups::grouping::first_of` meets its contract, by what `position` says of the states' groups.
+use Prim.Native.Nat.{ℕ, ◌<◌}
+use mathlib.Core.List.{List}
+use mathlib.Core.Path.{◌≡◌}
 use native.Mathlib.Omega.{arith}
-use borrow.Author.Count.{below_none, below_more}
+use lib.ListN.{length}
+use Rattle.std.proofs.Common.{rules, tests, Option, Some, None}
+use Rattle.std.specs.List.{AllWithin, HoldsAt}
+use Rattle.std.specs.Option.{MatchOption}
+use Rattle.std.proofs.lemmas.Iterator.{YieldsList-from_slice, IsFirst-from_position}
+use Rattle.groups.specs.Groups.{group_of}
+use Rattle.groups.specs.Working.{FirstIn}
 use Rattle.groups.proofs.grouping.first_of.Goals as goal
 
-pub loop-s-init : goal.loop-s-init
-loop-s-init c = (search rules, below_none _)
-
-pub returns-then-group_of-g : goal.returns-then-group_of-g
-returns-then-group_of-g c =
-    record {
-      within = omega arith;
-      before = c.loop-s.invariant.1;
-      found = λ less. sym c.group_of.ensures.0 ∙ c.if-group_of-g.true;
-    }
-
-pub loop-s-preserved : goal.loop-s-preserved
-loop-s-preserved c = (
-  search rules,
-  below_more _ _ c.loop-s.invariant.1
-      (λ e. c.if-group_of-g.false (c.group_of.ensures.0 ∙ e)),
-)
+-- what `position` answers is the first state of the group
+first_in : (grouping : List ℕ) (g : ℕ) (r : Option ℕ) →
+    MatchOption r (AllWithin (λ x. x ≡ g → ⊥) grouping 0 (length grouping))
+    (λ i. (i < length grouping) × HoldsAt (λ x. x ≡ g) grouping i × AllWithin (λ x. x ≡ g → ⊥) grouping 0 i) →
+    FirstIn (group_of grouping) g (length grouping) r
+first_in grouping g None h = λ k less. h k 0 (omega arith) less
+first_in grouping g (Some i) h =
+    (h.0, record { within = omega arith; before = λ k less. h.2 k 0 (omega arith) less; found = λ less. h.1 0 })
 
 pub returns : goal.returns
-returns c = record { within = c.loop-s.invariant.0; before = c.loop-s.invariant.1; found = λ less. absurd (omega arith) }
+returns c =
+    let grouping = c.args.grouping.now in
+    let g = c.args.g in
+    first_in grouping g c.position.result
+    (IsFirst-from_position _ _ c.position.result (λ x. x ≡ g) (λ x. x ≡ g → ⊥) c.position.ensures.ran
+    (YieldsList-from_slice grouping cc) (λ x q k. search (rules, tests)) (λ x q k. search (rules, tests)))

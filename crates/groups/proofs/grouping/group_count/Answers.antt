@@ -1,26 +1,20 @@
 -- `groups::grouping::group_count` meets its contract. The invariant: the count is one more than the largest number passed.
 use borrow.Author.Rules.{rules}
 use Prim.Native.Nat.{ℕ, suc, max}
-use mathlib.Core.Path.{◌≡◌, sym, ap₂, ◌∙◌}
+use mathlib.Core.Path.{◌≡◌, sym, ap, ◌∙◌}
 use native.Mathlib.Omega.{arith}
-use lib.ListN.{length}
 use Rattle.groups.specs.Groups.{group_of}
 use Rattle.groups.proofs.Counts.{over_none, over_more}
 use Rattle.groups.proofs.grouping.group_count.Goals as goal
 
-pub loop-s-init : goal.loop-s-init
-loop-s-init c = (search rules, sym (over_none _), search rules)
+pub loop-g-init : goal.loop-g-init
+loop-g-init c = (search rules, sym (over_none _), search rules)
 
-pub loop-s-preserved : goal.loop-s-preserved
-loop-s-preserved c = (
-  search rules,
-  c.counting_in-count.ensures.0 ∙
-      ap₂ (λ (a b : ℕ). max a (suc b)) c.loop-s.invariant.1 c.group_of.ensures.0 ∙
-      sym (over_more c.loop-s.s (group_of c.args.grouping.now)),
-  c.counting_in-count.ensures.1,
-)
-
-pub returns : goal.returns
-returns c =
-    let e : c.loop-s.s ≡ length c.args.grouping.now = omega arith in
-    (rw e at c.loop-s.invariant.1, c.loop-s.invariant.2)
+pub loop-g-preserved : goal.loop-g-preserved
+loop-g-preserved c =
+    let l = c.loop-g in
+    let f = group_of c.args.grouping.now in
+    let next = over_more l.g-index f in
+    let same : c.max-count.result ≡ max l.count (suc (f l.g-index)) = grind (arith, c.max-count.ensures, c.from.ensures) in
+    let byte = (c.type_inv.grouping l.g-index).fits in
+    (omega arith, same ∙ ap (λ (a : ℕ). max a (suc (f l.g-index))) l.invariant.1 ∙ sym next, omega (arith, same, byte))

@@ -5,7 +5,4 @@ use Rattle.layers.proofs.Written.{Writing}
 use Rattle.layers.proofs.periods.repeat.Given as goal
 
 abbrev pub invariant-loop-k : goal.invariant-loop-k
-invariant-loop-k l = Writing l.few l.more (λ k. get_or l.initial.work (k % l.few) 0) l.initial.work l.k l.work
-
-abbrev pub decreases-loop-k : goal.decreases-loop-k
-decreases-loop-k l = l.more - l.k
+invariant-loop-k l = Writing l.few (l.all - l.few) (λ k. get_or l.initial.work (k % l.few) 0) l.initial.work l.k l.work

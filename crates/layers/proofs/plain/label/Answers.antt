@@ -25,20 +25,20 @@ once_through {N} {n} k h l =
 pub scaled-stride-requires : goal.scaled-stride-requires
 scaled-stride-requires c =
     let args = c.args in
-    let p = stride_small (args.variables - args.variable) c.requires.sizes (omega arith) in
+    let p = stride_small (args.setting.variables - args.variable) c.requires.sizes (omega arith) in
     (c.requires.sizes.some, omega arith)
 
 pub labelled-requires : goal.labelled-requires
 labelled-requires c =
     let args = c.args in
-    let p = pow_some args.states (args.variables - args.variable) c.requires.sizes.some in
-    let period = once_through (args.variables - args.variable) c.requires.sizes
+    let p = pow_some args.setting.states (args.setting.variables - args.variable) c.requires.sizes.some in
+    let period = once_through (args.setting.variables - args.variable) c.requires.sizes
     (omega (arith, c.requires.some, c.requires.bound)) in (
       c.requires.letter,
       c.requires.sizes.some,
       c.requires.sizes.states,
       omega arith,
-      omega (arith, period, ap (λ (x : ℕ). args.states * x) (c.scaled-stride.ensures ∙ one-mul _)),
+      omega (arith, period, ap (λ (x : ℕ). args.setting.states * x) (c.scaled-stride.ensures ∙ one-mul _)),
       c.requires.sizes.few,
       c.requires.room,
     )
@@ -50,12 +50,12 @@ returns c =
     let one : suc (v - 1) ≡ v = omega (arith, c.requires.some) in
     record {
       each = λ chain labels.
-          subst (λ (i : ℕ). Layer args.states args.variables (truth (has_label chain args.l i))
+          subst (λ (i : ℕ). Layer args.setting.states args.setting.variables (truth (has_label chain args.l i))
           c.labelled.new.work) one
           (labelled_layer c.requires.sizes.whole chain args.masks.now args.l (v - 1)
           c.scaled-stride.result
           c.requires.sizes.some (omega (arith, c.requires.some, c.requires.bound))
           (c.scaled-stride.ensures ∙ one-mul _ ∙
-          ap (λ (i : ℕ). args.states ^ (args.variables - i)) (sym one))
+          ap (λ (i : ℕ). args.setting.states ^ (args.setting.variables - i)) (sym one))
           labels c.labelled.ensures);
     }

@@ -17,4 +17,4 @@ returns-else-a-ge16 c =
     let a = c.args.a in
     let below : 2 ^ a ≤ 2 ^ 16 = pow_mono {j = 16} (omega arith) in
     let shifted : (1 * 2 ^ a) % 4294967296 ≡ 2 ^ a = omega arith in
-    ap₂ ltb c.wide16.ensures.0 shifted
+    ap₂ ltb c.from.ensures shifted

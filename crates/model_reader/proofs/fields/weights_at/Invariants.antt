@@ -1,5 +1,4 @@
 -- `model_reader::fields::weights_at` meets its contract: the matrix is filled row by row.
-use Prim.Native.Nat.{◌-◌}
 use mathlib.Core.List.{[]}
 use Rattle.counting.specs.Below.{table}
 use Rattle.counting.proofs.Laws.{Filled}
@@ -8,6 +7,3 @@ use Rattle.model_reader.proofs.fields.weights_at.Given as goal
 
 abbrev pub invariant-loop-s : goal.invariant-loop-s
 invariant-loop-s l = Filled 32 (λ s. table 32 (weight_at l.file s)) [] l.s l.rows
-
-abbrev pub decreases-loop-s : goal.decreases-loop-s
-decreases-loop-s l = 32 - l.s

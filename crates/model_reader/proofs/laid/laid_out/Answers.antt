@@ -14,15 +14,15 @@ use Rattle.model_reader.proofs.laid.laid_out.Goals.{Else-not-fields_right}
 use Rattle.model_reader.proofs.laid.laid_out.Goals as goal
 
 -- past the first test the fields are right
-right : (c : Else-not-fields_right) → fields_right c.args.m ≡ true
+right : (c : Else-not-fields_right) → fields_right c.args.m.now ≡ true
 right c = sym c.fields_right.ensures ∙ c.if-not-fields_right.false
 
 pub returns-then-not-fields_right : goal.returns-then-not-fields_right
 unfolding laid_out
 returns-then-not-fields_right c =
     let a = c.args in
-    sym (ap (λ (b : Bool). b && eqb (blocks_in a.file.now) (blocks a.m.n) && every_below (blocks_in a.file.now)
-    (λ i. every_below 510 (λ j. eqb (byte_of a.file.now i j) (content_byte a.m i j))))
+    sym (ap (λ (b : Bool). b && eqb (blocks_in a.file.now) (blocks a.m.now.n) && every_below (blocks_in a.file.now)
+    (λ i. every_below 510 (λ j. eqb (byte_of a.file.now i j) (content_byte a.m.now i j))))
     (sym c.fields_right.ensures ∙ c.if-not-fields_right.true))
 
 pub returns-then-blocks-wanted : goal.returns-then-blocks-wanted
@@ -30,7 +30,7 @@ unfolding laid_out
 returns-then-blocks-wanted c =
     let a = c.args in
     sym (ap₂ (λ (b e : Bool). b && e && every_below (blocks_in a.file.now)
-    (λ i. every_below 510 (λ j. eqb (byte_of a.file.now i j) (content_byte a.m i j))))
+    (λ i. every_below 510 (λ j. eqb (byte_of a.file.now i j) (content_byte a.m.now i j))))
     (right (goal.at.returns-then-blocks-wanted c).Else-not-fields_right) (ne_eqb _ _ c.if-blocks-wanted.true))
 
 pub blocks_laid-requires : goal.blocks_laid-requires
@@ -43,5 +43,5 @@ returns c =
     let standing : Model → Bool =
     λ m. every_below (blocks_in a.file.now) (λ i. every_below 510 (λ j. eqb (byte_of a.file.now i j) (content_byte m i j))) in
     c.blocks_laid.ensures ∙ ap standing (sym c.requires) ∙
-    sym (ap₂ (λ (b e : Bool). b && e && standing a.m) (right (goal.at.returns c).Else-not-fields_right)
+    sym (ap₂ (λ (b e : Bool). b && e && standing a.m.now) (right (goal.at.returns c).Else-not-fields_right)
     (eq-eqb _ _ c.if-blocks-wanted.false))

@@ -1,5 +1,4 @@
 -- `totals::totals::totals_of` meets its contract: the matrix is filled row by row.
-use Prim.Native.Nat.{◌-◌}
 use mathlib.Core.Bool.{cond}
 use mathlib.Core.List.{[]}
 use lib.Dec.{eqb}
@@ -13,6 +12,3 @@ abbrev pub invariant-loop-s : goal.invariant-loop-s
 invariant-loop-s l =
     Filled 32 (λ s. table 32 (λ h. sum_below l.n (λ t. cond (eqb (group_of l.grouping t) h) (get_or (get_or l.rows s []) t 0) 0)))
     [] l.s l.totals
-
-abbrev pub decreases-loop-s : goal.decreases-loop-s
-decreases-loop-s l = 32 - l.s

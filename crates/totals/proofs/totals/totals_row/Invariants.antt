@@ -1,5 +1,4 @@
 -- `totals::totals::totals_row` meets its contract: the totals are filled from the front.
-use Prim.Native.Nat.{◌-◌}
 use mathlib.Core.Bool.{cond}
 use lib.Dec.{eqb}
 use lib.ListN.{get_or}
@@ -11,6 +10,3 @@ use Rattle.totals.proofs.totals.totals_row.Given as goal
 abbrev pub invariant-loop-h : goal.invariant-loop-h
 invariant-loop-h l =
     Filled 32 (λ h. sum_below l.n (λ t. cond (eqb (group_of l.grouping t) h) (get_or l.row t 0) 0)) 0 l.h l.totals
-
-abbrev pub decreases-loop-h : goal.decreases-loop-h
-decreases-loop-h l = 32 - l.h

@@ -1,6 +1,0 @@
--- `put_number` meets its contract: the digits of the tenth, and the last digit. The measure is the number.
--- Assumes nothing.
-use Rattle.numerals.proofs.+put_number.Given as goal
-
-abbrev pub decreases-put_number : goal.decreases-put_number
-decreases-put_number l = l.n

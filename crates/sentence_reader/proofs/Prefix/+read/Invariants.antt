@@ -1,0 +1,6 @@
+-- The measure of `read` is what is left of the text. Assumes nothing.
+use lib.ListN.{length}
+use Rattle.sentence_reader.proofs.Prefix.+read.Given as goal
+
+abbrev pub decreases-read : goal.decreases-read
+decreases-read l = length l.text.now
