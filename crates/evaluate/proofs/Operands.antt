@@ -3,7 +3,7 @@
 use Prim.Native.Nat.{ℕ, ◌+◌, ◌-◌, ◌*◌, ◌^◌, ◌≤◌, ◌<◌}
 use mathlib.Core.Bool.{true, false, true≢false}
 use mathlib.Core.List.{List, ◌++◌}
-use mathlib.Core.Path.{◌≡◌, sym, ap, subst, ◌∙◌}
+use mathlib.Core.Path.{◌≡◌, sym, ap, subst, subst₂, ◌∙◌}
 use native.Mathlib.Omega.{arith}
 use lib.ListN.{length, take, drop, length-drop}
 use Rattle.sentence.specs.declared.Kind.{Kind}
@@ -158,9 +158,9 @@ module _ {k : Kind} {nodes : List Node} {g : Setting} {masks : List ℕ} {rows :
         )
 
     -- and then the other past the front layer, since it needs no more layers
-    pub comes_then : {t : ℕ} → 4 * (64 - at) + 2 ≡ t → (mid : List ℕ) → length mid ≡ length w →
+    then_ready : {t : ℕ} → 4 * (64 - at) + 2 ≡ t → (mid : List ℕ) → length mid ≡ length w →
         (4 * (64 - r.then) + 1 < t) × TreeReady k nodes g masks rows r.then (take (length mid - g.tuples) (drop g.tuples mid))
-    comes_then {t} measure mid same =
+    then_ready {t} measure mid same =
         let T = g.tuples in
         let a = tree_need k ready.first in
         let b = tree_need k ready.second in
@@ -172,6 +172,13 @@ module _ {k : Kind} {nodes : List Node} {g : Setting} {masks : List ℕ} {rows :
               (λ h. first_ready _ (past_room T mid same
               (room_past a T (paired_smaller_first a b (omega (arith, of-a, of-b, h))) ready.room))),
         )
+
+    -- whatever its place and the front layer's length are called
+    pub comes_then : {t p s : ℕ} → 4 * (64 - at) + 2 ≡ t → (mid : List ℕ) → length mid ≡ length w → p ≡ r.then → s ≡ g.tuples →
+        (4 * (64 - p) + 1 < t) × TreeReady k nodes g masks rows p (take (length mid - s) (drop s mid))
+    comes_then {t} {p} {s} measure mid same place front =
+        subst₂ (λ (x y : ℕ). (4 * (64 - x) + 1 < t) × TreeReady k nodes g masks rows x (take (length mid - y) (drop y mid)))
+        (sym place) (sym front) (then_ready measure mid same)
 
 -- ---- after both calls
 
@@ -187,12 +194,21 @@ pub record BothRun {k : Kind} {nodes : List Node} {g : Setting} {masks : List �
   pub same : length mid ≡ length w
   pub long : length lent ≡ length (take (length mid - g.tuples) (drop g.tuples mid))
 
+-- what a tree left at the place by whatever name is what it left there
+abbrev left_at : {k : Kind} {nodes : List Node} {g : Setting} {masks : List ℕ} {rows : List (List ℕ)} {p q : ℕ} {after : List ℕ}
+    {next bottom : ℕ} → p ≡ q → TreeDone k nodes g masks rows p after next bottom → TreeDone k nodes g masks rows q after next bottom
+left_at {k} {nodes} {g} {masks} {rows} {after = after} {next = next} {bottom = bottom} e done =
+    subst (λ (x : ℕ). TreeDone k nodes g masks rows x after next bottom) e done
+
 -- so it is known by what the two calls left, and how long
 pub both_run : {k : Kind} {nodes : List Node} {g : Setting} {masks : List ℕ} {rows : List (List ℕ)} {at : ℕ} {w : List ℕ}
-    (ready : TreesReady k nodes g masks rows at w) {r : Order} (o : Ordered nodes at r) {mid lent : List ℕ} {next bottom next' bottom' : ℕ}
-    (one : TreeDone k nodes g masks rows r.first mid next bottom) (other : TreeDone k nodes g masks rows r.then lent next' bottom') →
-    length mid ≡ length w → length lent ≡ length (take (length mid - g.tuples) (drop g.tuples mid)) → BothRun ready o one other
-both_run ready o one other same long = record { same = same; long = long }
+    (ready : TreesReady k nodes g masks rows at w) {r : Order} (o : Ordered nodes at r) {mid lent : List ℕ}
+    {next bottom next' bottom' p s : ℕ} (one : TreeDone k nodes g masks rows r.first mid next bottom)
+    (other : TreeDone k nodes g masks rows p lent next' bottom') → length mid ≡ length w →
+    length lent ≡ length (take (length mid - s) (drop s mid)) → (place : p ≡ r.then) → s ≡ g.tuples →
+    BothRun ready o one (left_at place other)
+both_run ready o {mid = mid} one other same long place front =
+    record { same = same; long = long ∙ ap (λ (x : ℕ). length (take (length mid - x) (drop x mid))) front }
 
 module _ {k : Kind} {nodes : List Node} {g : Setting} {masks : List ℕ} {rows : List (List ℕ)} {at : ℕ} {w : List ℕ}
     {ready : TreesReady k nodes g masks rows at w} {r : Order} {o : Ordered nodes at r} {mid lent : List ℕ} {next bottom next' bottom' : ℕ}

@@ -47,7 +47,7 @@ pub(crate) fn relate(relation: Relation, a: i64, b: i64) -> bool
     match relation {
         Relation::Less => a < b,
         Relation::AtMost => a <= b,
-        Relation::Equal => a == b,
+        Relation::Equal => (a <= b) & (b <= a),
         Relation::AtLeast => a >= b,
         Relation::Greater => a > b,
     }

@@ -20,14 +20,21 @@ use Rattle.groups.specs.Groups.{group_of, is_used, member_of}
 use Rattle.groups.specs.Working.{FirstMember, FirstIn}
 
 module _ (f : ℕ → ℕ) (g : ℕ) where
-  -- the contract of `first_of` leaves one result
-  pub first_once : {n a b : ℕ} → FirstMember f g n a → FirstMember f g n b → a ≡ b
-  first_once {n} {a} {b} h k = here (dec_lt a b) (dec_lt b a)
+  -- only one state, or n, is the first
+  pub member_once : {n a b : ℕ} → FirstMember f g n a → FirstMember f g n b → a ≡ b
+  member_once {n} {a} {b} h k = here (dec_lt a b) (dec_lt b a)
     where
       here : Dec (a < b) → Dec (b < a) → a ≡ b
       here (yes less) other = absurd (k.before a less (h.found (omega (arith, k.within))))
       here (no less) (yes more) = absurd (h.before b more (k.found (omega (arith, h.within))))
       here (no less) (no more) = omega arith
+
+  -- the contract of `first_of` leaves one result
+  pub first_once : (n : ℕ) (a b : Option ℕ) → FirstIn f g n a → FirstIn f g n b → a ≡ b
+  first_once n None None h k = refl
+  first_once n None (Some r) h k = absurd (h r k.0 (k.1.found k.0))
+  first_once n (Some r) None h k = absurd (k r h.0 (h.1.found h.0))
+  first_once n (Some r) (Some s) h k = ap Some (member_once h.1 k.1)
 
   -- some state below n has the group exactly if the first one is below n
   pub used_first : {n r : ℕ} → FirstMember f g n r → ltb r n ≡ there_is (λ s. eqb (f s) g) (below n)

@@ -1,5 +1,5 @@
 // What the layout asks of a model's fields: rows 4 and 5 of document 01's table, of a record.
-ghost use Rattle.std.specs.Prelude.{◌≡◌, ◌||◌, ◌^◌, ◌<◌, get_or, ltb, eqb};
+ghost use Rattle.std.specs.Prelude.{◌≡◌, ◌||◌, ◌&&◌, ◌^◌, ◌<◌, get_or, ltb, eqb};
 ghost use Rattle.counting.specs.Below.{sum_below, every_below};
 ghost use Rattle.model.specs.Rules.{numbers_right, mask_right, weight_right, fields_right, halted, rows_right};
 
@@ -28,6 +28,13 @@ fn zero_from(row: &[u16; 32], from: usize) -> bool
     ensures { result ≡ every_below 32 (λ t. ltb t from || eqb (get_or row.now t 0) 0) }
 {
     row.iter().skip(from).all(|w| *w == 0)
+}
+
+// Whether state s, with this row, is halted: one of the N states, in version 1, with an empty row.
+pub fn is_halted(row: &[u16; 32], s: usize, n: usize, version: u32) -> bool
+    ensures { result ≡ (ltb s n && eqb version 1 && every_below 32 (λ t. eqb (get_or row.now t 0) 0)) }
+{
+    (s < n) & (version == 1) & zero_from(row, 0)
 }
 
 impl Model {
@@ -83,10 +90,10 @@ impl Model {
     pub fn is_halted(&self, s: usize) -> bool
         ensures { result ≡ halted self.now s }
     {
-        let may_halt = (s < self.n as usize) & (self.version == 1);
+        let n = self.n as usize;
         match self.weights.get(s) {
-            Some(row) => may_halt & zero_from(row, 0),
-            None => may_halt,
+            Some(row) => is_halted(row, s, n, self.version),
+            None => (s < n) & (self.version == 1),
         }
     }
 

@@ -2,3 +2,4 @@
 pub mod Numbers
 pub mod NumberAt
 pub mod LastDigit
+pub mod Puts

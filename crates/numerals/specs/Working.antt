@@ -1,6 +1,7 @@
 -- Working: what the functions of this crate promise one another. Nothing here has to be believed.
 -- Reading and writing a number.
-use Rattle.std.specs.Prelude.{ℕ, ◌<◌, List, [], ◌∷◌, ◌++◌, ◌⊎◌, ◌≡◌}
+use Rattle.std.specs.Prelude.{ℕ, ◌+◌, ◌<◌, List, [], ◌∷◌, ◌++◌, ◌⊎◌, ◌≡◌, length}
+use Rattle.std.proofs.lemmas.List.Edits.{sets}
 use Rattle.numerals.specs.Numeral.{number_text}
 
 -- the byte is no digit
@@ -26,6 +27,11 @@ pub record AreNumbers (t : List ℕ) (middle close a b : ℕ) (rest : List ℕ) 
 -- no two such numbers stand at the front of the text t
 abbrev pub NoNumbers : List ℕ → ℕ → ℕ → Type 0
 NoNumbers t middle close = (a b : ℕ) (rest : List ℕ) → AreNumbers t middle close a b rest → ⊥
+
+-- the bytes s are written from the place `at` on: the output then, and the place after them
+pub record Put (out : List ℕ) (at : ℕ) (s : List ℕ) (r : ℕ) (after : List ℕ) : Type 0 where
+  pub next : r ≡ at + length s
+  pub bytes : after ≡ sets out at s
 
 -- the text of a byte and two numbers, with a byte after each
 abbrev pub numbers_text : ℕ → ℕ → ℕ → ℕ → ℕ → List ℕ

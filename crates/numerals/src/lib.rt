@@ -4,7 +4,7 @@
 
 ghost use Rattle.std.specs.Prelude.{take, ℕ, List, ◌+◌, ◌≤◌, ◌<◌, [], ◌∷◌, ◌++◌, ◌≡◌, length, MatchOption};
 ghost use Rattle.numerals.specs.Numeral.{number_text};
-ghost use Rattle.numerals.specs.Working.{IsNumber, NoNumber, AreNumbers, NoNumbers, NoDigit, numbers_text};
+ghost use Rattle.numerals.specs.Working.{IsNumber, NoNumber, AreNumbers, NoNumbers, NoDigit, Put, numbers_text};
 
 use std::marker::Model;
 
@@ -77,6 +77,48 @@ pub fn number_size(n: u32) -> usize
     }
 }
 
+// Writes one byte; returns the place after it.
+pub fn put_byte(out: &mut [u8], at: usize, b: u8) -> usize
+    requires { at < length out.old }
+    ensures { Put out.old at (b ∷ []) result out.new }
+{
+    out[at] = b;
+    at + 1
+}
+
+// Writes a number; returns the place after it.
+fn put_number(out: &mut [u8], at: usize, n: u32) -> usize
+    requires { (n < 100000) × (at + length (number_text n) ≤ length out.old) }
+    ensures { Put out.old at (number_text n) result out.new }
+{
+    let last = if 10 <= n {
+        put_number(out, at, n / 10)
+    } else {
+        at
+    };
+    put_byte(out, last, b'0' + (n % 10) as u8)
+}
+
+// Writes a byte and two numbers with a byte after each: a constant, or an until and its window.
+pub fn put_numbers(
+    out: &mut [u8],
+    at: usize,
+    lead: u8,
+    a: u32,
+    middle: u8,
+    b: u32,
+    close: u8,
+) -> usize
+    requires { (a < 100000) × (b < 100000) × (at + length (numbers_text lead a middle b close) ≤ length out.old) }
+    ensures { Put out.old at (numbers_text lead a middle b close) result out.new }
+{
+    let first = put_byte(out, at, lead);
+    let second = put_number(out, first, a);
+    let third = put_byte(out, second, middle);
+    let fourth = put_number(out, third, b);
+    put_byte(out, fourth, close)
+}
+
 // A text that is written: the bytes so far, at most 400 of them.
 #[derive(Drop)]
 pub struct Text {
@@ -115,31 +157,15 @@ impl Text {
         requires { length self.old < 400 }
         ensures { self.new ≡ self.old ++ byte ∷ [] }
     {
-        self.bytes[self.size] = byte;
-        self.size += 1;
+        self.size = put_byte(&mut self.bytes, self.size, byte);
     }
 
-    // Writes a number.
-    fn number(&mut self, n: u32)
-        requires { (n < 100000) × (length self.old + length (number_text n) ≤ 400) }
-        ensures { self.new ≡ self.old ++ number_text n }
-    {
-        if 10 <= n {
-            self.number(n / 10);
-        }
-        self.byte(b'0' + (n % 10) as u8);
-    }
-
-    // Writes a byte and two numbers with a byte after each: a constant, or an until and its window. Its parameters are the five parts in
-    // the order in which they stand: a struct of them would be made at each call and taken apart here, which is no plainer.
+    // Writes a byte and two numbers with a byte after each, as `put_numbers` does. Its parameters are the five parts in the order in
+    // which they stand: a struct of them would be made at each call and taken apart here, which is no plainer.
     pub fn numbers(&mut self, lead: u8, a: u32, middle: u8, b: u32, close: u8)
         requires { (a < 100000) × (b < 100000) × (length self.old + length (numbers_text lead a middle b close) ≤ 400) }
         ensures { self.new ≡ self.old ++ numbers_text lead a middle b close }
     {
-        self.byte(lead);
-        self.number(a);
-        self.byte(middle);
-        self.number(b);
-        self.byte(close);
+        self.size = put_numbers(&mut self.bytes, self.size, lead, a, middle, b, close);
     }
 }

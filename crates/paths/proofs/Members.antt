@@ -60,6 +60,10 @@ module _ {N : ℕ} {s : List ℕ} where
       let power : place * N ^ suc (length left) ≡ place * (N * N ^ length left) = ap (λ (k : ℕ). place * k) (pow-succ' N (length left)) in
       record { number = omega arith }
 
+  -- the same of a number that is equal to it
+  pub counted_by : {i place next : ℕ} → Counted N s i place → i < length s → next ≡ place * N + get_or s i 0 → Counted N s (i + 1) next
+  counted_by {i} h l e = subst (Counted N s (i + 1)) (sym e) (counted_next h l)
+
   -- after the last turn it is the tuple's number
   pub counted_all : {i place : ℕ} → Counted N s i place → length s ≤ i → place ≡ number_of N s
   unfolding number_of
@@ -90,14 +94,15 @@ module _ {N : ℕ} {s : List ℕ} where
         same = ap (tuple_of N (length s)) number ∙ tuple_number N inside;
       }
 
--- one turn's product fits
-pub product_fits : {x N : ℕ} → x < most_states ^ most_variables → N ≤ most_states → Fits w64 (x * N)
+-- one turn's product fits, whichever of the two stands first
+pub product_fits : {x N : ℕ} → x < most_states ^ most_variables → N ≤ most_states ^ most_variables → Fits w64 (x * N)
 product_fits {x} h few =
     let scaled = mul-le-mul_left x few in
     record { fits = omega arith }
 
 -- with the member
-pub sum_fits : {x N y : ℕ} → x < most_states ^ most_variables → N ≤ most_states → y < most_states ^ most_variables → Fits w64 (x * N + y)
+pub sum_fits : {x N y : ℕ} → x < most_states ^ most_variables → N ≤ most_states ^ most_variables → y < most_states ^ most_variables →
+    Fits w64 (x * N + y)
 sum_fits {x} h few less =
     let scaled = mul-le-mul_left x few in
     record { fits = omega arith }

@@ -7,6 +7,10 @@ use native.Mathlib.Decide.{dec_lt}
 use native.Mathlib.Nat.{mul-le-mul_right}
 use native.Mathlib.Omega.{arith}
 use lib.ListN.{length}
+use Rattle.std.specs.Prelude.{Result, Ok, Err}
+use Rattle.refusal.specs.declared.Refusal.{Refusal}
+use Rattle.refusal.specs.Answers.{number_of}
+use Rattle.refusal.specs.Rows.{Decided}
 use Rattle.model.specs.declared.Model.{Model}
 use Rattle.model.specs.Layout.{fields_of}
 use Rattle.sentence.specs.declared.Sentence.{Sentence}
@@ -27,7 +31,7 @@ use Rattle.chain.proofs.Filling.{filled_cell}
 use Rattle.chain.proofs.Accepted as accepted
 use Rattle.question.specs.declared.Question.{Question}
 use Rattle.question.specs.Contract.{QuestionRow, size, tuples, SentenceOf, area_needed, needed, AreaShort}
-use Rattle.question.specs.Working.{FileOfModel, TextOfSentence, Ready, Answerable, SettingOf}
+use Rattle.question.specs.Working.{FileOfModel, TextOfSentence, Ready, Answerable, QuestionOf, SettingOf}
 use Rattle.question.proofs.Pair.{states_few, letters_few, letters_length, own_sentence}
 use Rattle.question.proofs.Stages.{size_same, tuples_same, one}
 
@@ -53,6 +57,14 @@ ready_of {file} {text} {m} {s} none a b = record {
     fits : (t : Bool) → exceeds b.body (fields_of file).d (length b.prefix) ≡ t → t ≡ false
     fits true e = absurd (none 10 (size (own_sentence b) e))
     fits false e = refl
+
+-- what was asked is told by what the call gave: a refusal that the rows give, or a question to which no row applies
+module _ {file text : List ℕ} {r : Result Question Refusal} where
+  pub decided_so : {x : Refusal} → r ≡ Err x → QuestionOf file text r → Decided (QuestionRow file text) (number_of x)
+  decided_so e h = subst (QuestionOf file text) e h
+
+  pub answerable_so : {q : Question} → r ≡ Ok q → QuestionOf file text r → Answerable file text q
+  answerable_so e h = subst (QuestionOf file text) e h
 
 -- a question to which no row applies
 module _ {file text : List ℕ} {q : Question} (y : Answerable file text q) where

@@ -1,12 +1,12 @@
 -- A call whose rows are a list, in the order of their numbers: its contract from the number of the first that applies, and back.
-use Prim.Native.Nat.{ℕ}
+use Prim.Native.Nat.{ℕ, ◌<◌}
 use mathlib.Core.List.{List}
 use mathlib.Core.Path.{◌≡◌, refl, sym, ap, subst, ◌∙◌}
 use native.Mathlib.Omega.{arith}
 use lib.ListN.{length}
 use Rattle.std.specs.Prelude.{Result, Ok, Err}
 use Rattle.refusal.specs.declared.Refusal.{Refusal}
-use Rattle.refusal.specs.Answers.{Reply, gives, number_in, Ensured, refused, answered, number_of, reply_of, at_front, TextAtFront}
+use Rattle.refusal.specs.Answers.{Reply, gives, refuses, number_in, Ensured, refused, answered, number_of, reply_of, at_front, TextAtFront}
 use Rattle.refusal.specs.Answers.{Writes, Reads}
 use Rattle.refusal.specs.Rows.{Row, first, Ascending, Applies, by_row as smallest-of, by_none, Given}
 use Rattle.refusal.proofs.Ensuring.{one_result, number_decided, refused_as, number_positive, one_front, answer_told}
@@ -28,6 +28,11 @@ module _ {rows : List Row} (up : Ascending 0 rows) where
           omega arith
 
   module _ {A L : Type 0} {Right : A → L → Type 0} {before : L} {reply : Reply A} {after : L} where
+    -- a refusal
+    pub list_refused : (k : ℕ) → 0 < k → first rows ≡ k → reply ≡ refuses k → after ≡ before
+        → Ensured (λ n. Applies n rows) Right before reply after
+    list_refused k some e r l = refused_as (given_first e) some r l
+
     -- an answer
     pub list_answered : {v : A} → first rows ≡ 0 → reply ≡ gives v → Right v after → Ensured (λ n. Applies n rows) Right before reply after
     list_answered e r right = answered r right (none_applies e)
@@ -39,12 +44,12 @@ module _ {rows : List Row} (up : Ascending 0 rows) where
   -- a writer's refusal
   pub writes_refused : (text : List ℕ) {before after : List ℕ} {r : Result ℕ Refusal} (x : Refusal) → first rows ≡ number_of x →
       r ≡ Err x → after ≡ before → Writes rows text before after r
-  writes_refused text x e a l = record { ensured = refused_as (given_first e) (number_positive x) (ap reply_of a) l }
+  writes_refused text x e a l = record { ensured = list_refused (number_of x) (number_positive x) e (ap reply_of a) l }
 
   -- a reader's refusal
   pub reads_refused : {A : Type 0} {Correct : A → Type 0} {r : Result A Refusal} (x : Refusal) → first rows ≡ number_of x → r ≡ Err x →
       Reads (λ n. Applies n rows) Correct r
-  reads_refused x e a = record { ensured = refused_as (given_first e) (number_positive x) (ap reply_of a) refl }
+  reads_refused x e a = record { ensured = list_refused (number_of x) (number_positive x) e (ap reply_of a) refl }
 
   -- and its answer
   pub reads_done : {A : Type 0} {Correct : A → Type 0} {r : Result A Refusal} {v : A} → first rows ≡ 0 → r ≡ Ok v → Correct v →

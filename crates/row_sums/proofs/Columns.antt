@@ -12,7 +12,7 @@ use Rattle.counting.specs.Entries.{cell}
 use Rattle.counting.proofs.Laws.{sum_same}
 use Rattle.std.specs.Prelude.{Option, Some, IfSome}
 use Rattle.meaning.specs.Size.{size_limit}
-use Rattle.row_sums.specs.Sparse.{named_at, RowsNamed}
+use Rattle.row_sums.specs.Sparse.{named_at, RowsPaired}
 use Rattle.row_sums.specs.Columns.{stepped, ColumnRead, ColumnFits, ColumnStepped}
 
 -- two places of a column are those of one state
@@ -20,10 +20,12 @@ same_state : (stride a b : ℕ) → 1 ≤ stride → a * stride ≡ b * stride �
 same_state stride a b h e =
     sym (mul-div_cancel a h) ∙ ap (λ (x : ℕ). x / stride) e ∙ mul-div_cancel b h
 
--- a row's sum over the copied column is that of its step
-pub column_sum : (rows : List (List ℕ)) (s : ℕ) {n N stride at : ℕ} {w column : List ℕ} → n ≡ N → ColumnRead n stride at w column →
-    sum_below N (λ t. cell rows s t * get_or column t 0) ≡ stepped rows N stride w at s
-column_sum rows s e read = sum_same _ (λ t l. ap (λ (x : ℕ). cell rows s t * x) (read.each t (omega (arith, e))))
+-- a row's sum over the copied column is that of its step, by whatever name the row goes
+pub column_sum : (rows : List (List ℕ)) (s : ℕ) {i n N stride at : ℕ} {w column : List ℕ} → i ≡ s → n ≡ N →
+    ColumnRead n stride at w column → sum_below N (λ t. cell rows i t * get_or column t 0) ≡ stepped rows N stride w at s
+column_sum rows s {N = N} {column = column} same e read =
+    ap (λ (x : ℕ). sum_below N (λ t. cell rows x t * get_or column t 0)) same ∙
+    sum_same _ (λ t l. ap (λ (x : ℕ). cell rows s t * x) (read.each t (omega (arith, e))))
 
 -- the first s states of the column are stepped, the other places are as before
 pub record ColumnStepping (rows : List (List ℕ)) (N stride at : ℕ) (before : List ℕ) (s : ℕ)
@@ -79,22 +81,23 @@ module _ {rows : List (List ℕ)} {N stride at : ℕ} {before : List ℕ} where
 
 -- the names of the weights, where the rows have them
 pub named_some : {rows places : List (List ℕ)} {N pairs : ℕ} {o : Option ℕ} → o ≡ Some pairs →
-    IfSome o (λ n. RowsNamed rows N n places) → RowsNamed rows N pairs places
-named_some {rows} {places} {N} e h = subst (λ (o : Option ℕ). IfSome o (λ n. RowsNamed rows N n places)) e h
+    IfSome o (λ n. RowsPaired rows N n places) → RowsPaired rows N pairs places
+named_some {rows} {places} {N} e h = subst (λ (o : Option ℕ). IfSome o (λ n. RowsPaired rows N n places)) e h
 
 -- the sums over the copied column
 module _ {rows : List (List ℕ)} {N stride at : ℕ} {before column : List ℕ} (fits : ColumnFits rows N stride at before)
     (read : ColumnRead N stride at before column) {s : ℕ} (less : s < N) where
-  pub dense_fits : sum_below N (λ t. cell rows s t * get_or column t 0) ≤ size_limit
-  dense_fits = le_trans (le_of_eq (column_sum rows s refl read)) (fits.fits s less)
+  pub dense_fits : {i : ℕ} → i ≡ s → sum_below N (λ t. cell rows i t * get_or column t 0) ≤ size_limit
+  dense_fits same = le_trans (le_of_eq (column_sum rows s same refl read)) (fits.fits s less)
 
-  module _ {places : List (List ℕ)} {pairs : ℕ} (named : RowsNamed rows N pairs places) where
+  module _ {places : List (List ℕ)} {pairs : ℕ} (named : RowsPaired rows N pairs places) where
     pub named_fits : sum_below 8 (named_at (get_or rows s []) (get_or places s []) (λ t. get_or column t 0)) ≤ size_limit
     named_fits =
-        le_trans (le_of_eq ((named.each s less).each (λ t. get_or column t 0) 8 (omega (arith, named.few)) (omega arith))) dense_fits
+        le_trans (le_of_eq ((named.each s less).each (λ t. get_or column t 0) 8 (omega (arith, named.few)) (omega arith)))
+        (dense_fits refl)
 
     pub named_sum : sum_below (2 * pairs) (named_at (get_or rows s []) (get_or places s []) (λ t. get_or column t 0)) ≡
         stepped rows N stride before at s
     named_sum =
         (named.each s less).each (λ t. get_or column t 0) (2 * pairs) (omega arith) (omega (arith, named.few)) ∙
-        column_sum rows s refl read
+        column_sum rows s refl refl read

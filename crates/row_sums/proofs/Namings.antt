@@ -6,6 +6,7 @@ use native.Mathlib.Decide.{dec_lt}
 use native.Mathlib.Omega.{arith}
 use lib.ListN.{length, get_or, set, length-set}
 use lib.Seq.{get_or-set_same, get_or-set_other}
+use Rattle.std.specs.Prelude.{Option, Some, IfSome}
 use Rattle.meaning.specs.Size.{size_limit}
 use Rattle.counting.specs.Below.{sum_below}
 use Rattle.counting.proofs.Laws.{sum_none, sum_more, sum_same}
@@ -131,6 +132,11 @@ naming_none {row} {places} z long small e all = record {
 pub named_more : {row places : List ℕ} {N most more : ℕ} → Named row N most places → most ≤ more → Named row N more places
 named_more h l = record { inside = h.inside; each = λ g m enough room. h.each g m (omega arith) room }
 
+-- a row's names, where it has them
+pub some_named : {row places : List ℕ} {N most : ℕ} {o : Option ℕ} → o ≡ Some most →
+    IfSome o (λ m. (1 ≤ m) × (m ≤ 7) × Named row N m places) → (1 ≤ most) × (most ≤ 7) × Named row N most places
+some_named {row} {places} {N} e h = subst (λ (o : Option ℕ). IfSome o (λ m. (1 ≤ m) × (m ≤ 7) × Named row N m places)) e h
+
 -- the sum so far and the next two products are at most that of all places
 pub pair_fits : (row places column : List ℕ) →
     sum_below 8 (named_at row places (λ t. get_or column t 0)) ≤ size_limit → (i : ℕ) → i ≤ 6 →
@@ -159,12 +165,12 @@ eight z (suc (suc (suc (suc (suc (suc zero)))))) l = refl
 eight z (suc (suc (suc (suc (suc (suc (suc zero))))))) l = refl
 eight z (suc (suc (suc (suc (suc (suc (suc (suc i)))))))) l = absurd (omega arith)
 
--- one row more is named
-pub rows_next : (rows places : List (List ℕ)) {one : List ℕ} {N s most count more : ℕ} → length places ≡ 32 → s < 32 →
-    ((k : ℕ) → k < s → Named (get_or rows k []) N most (get_or places k [])) → Named (get_or rows s []) N count one →
+-- one row more is named, that of place s by whatever name
+pub rows_next : (rows places : List (List ℕ)) {one : List ℕ} {N s i most count more : ℕ} → length places ≡ 32 → s < 32 →
+    ((k : ℕ) → k < s → Named (get_or rows k []) N most (get_or places k [])) → Named (get_or rows i []) N count one → i ≡ s →
     most ≤ more → count ≤ more →
     (k : ℕ) → k < s + 1 → Named (get_or rows k []) N more (get_or (set places s one) k [])
-rows_next rows places {one} {N} {s} {most} {count} {more} long less earlier last a b k l = here (dec_lt k s)
+rows_next rows places {one} {N} {s} {i} {most} {count} {more} long less earlier last same a b k l = here (dec_lt k s)
   where
     here : Dec (k < s) → Named (get_or rows k []) N more (get_or (set places s one) k [])
     here (yes small) =
@@ -172,6 +178,7 @@ rows_next rows places {one} {N} {s} {most} {count} {more} long less earlier last
         (sym (get_or-set_other places s k one [] (omega arith))) (named_more (earlier k small) a)
     here (no large) =
         let e : s ≡ k = omega arith in
+        let own : Named (get_or rows s []) N count one = subst (λ (x : ℕ). Named (get_or rows x []) N count one) same last in
         subst (λ (x : ℕ). Named (get_or rows x []) N more (get_or (set places s one) x [])) e
         (subst (λ (x : List ℕ). Named (get_or rows s []) N more x)
-        (sym (get_or-set_same places s one [] (omega arith))) (named_more last b))
+        (sym (get_or-set_same places s one [] (omega arith))) (named_more own b))

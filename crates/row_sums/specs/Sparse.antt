@@ -41,8 +41,14 @@ pub record Named (row : List ℕ) (N most : ℕ) (places : List ℕ) : Type 0 wh
   pub each : (g : ℕ → ℕ) (m : ℕ) → most ≤ m → m ≤ places_in_row →
       sum_below m (named_at row places g) ≡ sum_below N (λ t. get_or row t 0 * g t)
 
--- the same for each row, by that many pairs of places
-pub record RowsNamed (rows : List (List ℕ)) (N pairs : ℕ) (places : List (List ℕ)) : Type 0 where
+-- the same for each row
+pub record RowsNamed (rows : List (List ℕ)) (N most : ℕ) (places : List (List ℕ)) : Type 0 where
+  pub some : 1 ≤ most
+  pub few : most ≤ most_named
+  pub each : (s : ℕ) → s < N → Named (get_or rows s []) N most (get_or places s [])
+
+-- the same by that many pairs of places
+pub record RowsPaired (rows : List (List ℕ)) (N pairs : ℕ) (places : List (List ℕ)) : Type 0 where
   pub some : 1 ≤ pairs
   pub few : pairs ≤ most_pairs
   pub each : (s : ℕ) → s < N → Named (get_or rows s []) N (2 * pairs) (get_or places s [])

@@ -6,14 +6,14 @@ ghost use Rattle.std.specs.Prelude.{◌≡◌, ℕ, ◌+◌, ◌*◌, ◌≤◌,
 ghost use Rattle.counting.specs.Below.{sum_below};
 ghost use Rattle.meaning.specs.Size.{size_limit};
 ghost use Rattle.layers.specs.Held.{most_states};
-ghost use Rattle.row_sums.specs.Sparse.{places_in_row, products_at, named_at, most_pairs, Naming, RowsNamed};
+ghost use Rattle.row_sums.specs.Sparse.{places_in_row, most_named, products_at, named_at, most_pairs, Naming, Named, RowsNamed, RowsPaired};
 
 use layers::STATES;
 
 pub mod rows;
 
 // The places of a row, which name states to which its weight is not 0.
-const PLACES: usize = 8;
+pub const PLACES: usize = 8;
 
 // The most of them that are used. Products are made two at a time, so one place more is read.
 const MOST: usize = 7;
@@ -66,6 +66,24 @@ fn dot_named(
     total
 }
 
+// The sum over the states: by the places that name the weights, of which `most` are used, or where there are none by all states.
+pub fn row_sum(
+    row: &[u16; STATES],
+    places: &[u8; PLACES],
+    column: &[u64; STATES],
+    states: usize,
+    most: Option<usize>,
+) -> u64
+    requires { (states ≤ most_states) × IfSome most (λ m. (1 ≤ m) × (m ≤ most_named) × Named row.now states m places.now) ×
+        (sum_below states (λ t. get_or row.now t 0 * get_or column.now t 0) ≤ size_limit) }
+    ensures { result ≡ sum_below states (λ t. get_or row.now t 0 * get_or column.now t 0) }
+{
+    match most {
+        Some(most) => dot_named(row, places, column, most.div_ceil(2)),
+        None => dot(row, column, states),
+    }
+}
+
 // A state to which the row has weight 0.
 fn zero_in(row: &[u16; STATES], states: usize) -> Option<usize>
     requires { states ≤ most_states }
@@ -112,20 +130,33 @@ fn name_anew(row: &[u16; STATES], states: usize, places: &mut [u8; PLACES]) -> O
     name_row(row, states, places)
 }
 
-// Names the weights of all rows that are not 0, and returns how many pairs of places are enough for each row: none if some row has too
-// many. No contract says how many exactly.
-pub(crate) fn name_rows(
+// Names the weights of all rows that are not 0, and returns how many a row has at most: none if some row has too many. No contract says
+// how many exactly; any number that is enough does.
+pub fn name_rows(
     rows: &[[u16; STATES]; STATES],
     states: usize,
     places: &mut [[u8; PLACES]; STATES],
 ) -> Option<usize>
     requires { (states ≤ most_states) × (length places.old ≡ most_states) }
-    ensures { IfSome result (λ pairs. RowsNamed rows.now states pairs places.new) }
+    ensures { IfSome result (λ most. RowsNamed rows.now states most places.new) }
 {
     let mut most: usize = 1;
     for s in 0..states {
         let count = name_anew(&rows[s], states, &mut places[s])?;
         most = most.max(count);
     }
+    Some(most)
+}
+
+// The same; it returns how many pairs of places are enough for each row.
+pub(crate) fn pair_rows(
+    rows: &[[u16; STATES]; STATES],
+    states: usize,
+    places: &mut [[u8; PLACES]; STATES],
+) -> Option<usize>
+    requires { (states ≤ most_states) × (length places.old ≡ most_states) }
+    ensures { IfSome result (λ pairs. RowsPaired rows.now states pairs places.new) }
+{
+    let most = name_rows(rows, states, places)?;
     Some(most.div_ceil(2))
 }

@@ -1,10 +1,10 @@
 // The rows of a chain's matrix, with the places of their weights.
 ghost use Rattle.std.specs.Prelude.{◌≡◌, ◌≤◌, length, IfSome};
 ghost use Rattle.layers.specs.Held.{most_states};
-ghost use Rattle.row_sums.specs.Sparse.{Matrix, RowsNamed};
+ghost use Rattle.row_sums.specs.Sparse.{Matrix, RowsPaired};
 ghost use Rattle.row_sums.specs.Columns.{ColumnIn, ColumnRead, ColumnFits, ColumnStepped};
 
-use crate::{PLACES, dot, dot_named, name_rows};
+use crate::{PLACES, dot, dot_named, pair_rows};
 use layers::STATES;
 use std::marker::Model;
 
@@ -23,7 +23,7 @@ impl Model for Rows {
 
     ghost view = { λ r. record { weights = r.weights; states = r.states } };
 
-    ghost invariant = { λ r. (r.states ≤ most_states) × IfSome r.pairs (λ pairs. RowsNamed r.weights r.states pairs r.places) };
+    ghost invariant = { λ r. (r.states ≤ most_states) × IfSome r.pairs (λ pairs. RowsPaired r.weights r.states pairs r.places) };
 }
 
 impl Rows {
@@ -34,7 +34,7 @@ impl Rows {
         ensures states { result.states ≡ states }
     {
         let mut places = [[0; PLACES]; STATES];
-        let pairs = name_rows(weights, states, &mut places);
+        let pairs = pair_rows(weights, states, &mut places);
         Rows {
             weights: *weights,
             states,

@@ -4,6 +4,7 @@
 
 ghost use Rattle.std.specs.Prelude.{◌<◌, ◌≤◌, ◌≡◌, length, MatchOption};
 ghost use Rattle.sentence_reader.specs.Contract.{ReadSentenceEnsures};
+ghost use Rattle.sentence_scan.specs.Working.{no_nodes};
 ghost use Rattle.sentence_reader.specs.Working.{no_letters, one_letter, IsPrefix, NoPrefix, IsSentence, NoSentence};
 
 use refusal::Refusal;
@@ -53,19 +54,14 @@ impl Prefix {
     }
 }
 
-// Reads a whole text: its prefix, and its body, which is a state formula.
-fn parts(text: &[u8]) -> Option<(Prefix, Body)>
-    requires { length text.now ≤ 400 }
-    ensures { MatchOption result (NoSentence text.now) (λ r. IsSentence text.now r.0 r.1) }
+// Reads a whole text: its prefix, and its body, which is a state formula, into the lent body, which has no node.
+fn parts(text: &[u8], body: &mut Body) -> Option<Prefix>
+    requires { (length text.now ≤ 400) × (body.old ≡ no_nodes) }
+    ensures { MatchOption result (NoSentence text.now) (λ p. IsSentence text.now p body.new) }
 {
     let (prefix, rest) = Prefix::new().read(text)?;
-    let mut body = Body::new();
     let rest = body.read(rest, Kind::State, prefix.letters)?;
-    if rest.is_empty() {
-        Some((prefix, body))
-    } else {
-        None
-    }
+    if rest.is_empty() { Some(prefix) } else { None }
 }
 
 // Read sentence. Returns the prefix and the nodes of a text, in written order, or refuses with the smallest number that applies to it.
@@ -75,7 +71,8 @@ pub fn read_sentence(text: &[u8]) -> Result<Sentence, Refusal>
     if TEXT_BYTES < text.len() {
         return Err(Refusal::Grammar);
     }
-    let (prefix, body) = parts(text).ok_or(Refusal::Grammar)?;
+    let mut body = Body::new();
+    let prefix = parts(text, &mut body).ok_or(Refusal::Grammar)?;
     let Prefix { letters, exists } = prefix;
     let Body {
         nodes,

@@ -70,11 +70,12 @@ module _ (N stride : ℕ) (some : 1 ≤ N) (apart : 1 ≤ stride) where
       let q : k / stride / N < above = (div-lt_iff_lt-mul some).1 p in
       digits_lt q (mod-lt k apart)
 
-  -- where column b of block a starts
-  pub start_at : (a b : ℕ) {n : ℕ} → n ≡ N → b < stride → a * (stride * n) + b ≡ start_of N stride (a * stride + b)
-  start_at a b same l =
-      ap (λ (x : ℕ). a * (stride * x) + b) same ∙
-      sym (ap₂ (λ (x y : ℕ). x * (stride * N) + y) (digits_div a l) (digits_mod a l))
+  -- column b of block a starts at place p
+  pub start_at : (a b : ℕ) {n p : ℕ} → n ≡ N → b < stride → p ≡ a * (stride * n) + b → start_of N stride (a * stride + b) ≡ p
+  start_at a b same l e =
+      ap₂ (λ (x y : ℕ). x * (stride * N) + y) (digits_div a l) (digits_mod a l) ∙
+      sym (ap (λ (x : ℕ). a * (stride * x) + b) same) ∙
+      sym e
 
 -- the columns before j are stepped, the others and what lies past the layer are as before
 pub record LayerStepping (rows : List (List ℕ)) (N stride T : ℕ) (before : List ℕ) (j : ℕ)

@@ -135,6 +135,11 @@ module _ {rows : List (List ℕ)} {N n T : ℕ} {those : Some} {before : List �
       none : drop n those ≡ []
       none = drop_of_length-le those {i = n} (omega (arith, every))
 
+  -- a loop begins behind the last variable, and has the whole layer before it
+  pub stepping_first : StepFits rows N n those T before → {i : ℕ} → i ≡ n → (T ≡ N ^ i) × Stepping rows N n those T before i 1 before
+  stepping_first fits e =
+      subst (λ (x : ℕ). (T ≡ N ^ x) × Stepping rows N n those T before x 1 before) (sym e) (fits.sizes.whole, stepping_none fits.each)
+
   -- a loop counts down from `top`, and comes to the variable in place i
   module _ (fits : StepFits rows N n those T before) {i top stride : ℕ} {after : List ℕ}
       (done : Stepping rows N n those T before top stride after) (place : top ≡ suc i) (less : i < n) where

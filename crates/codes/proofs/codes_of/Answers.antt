@@ -1,11 +1,7 @@
--- `codes_of` meets its contract: each place has the code of its node. Assumes nothing.
-use Rattle.std.proofs.Common.{rules, get_or, []}
-use Rattle.counting.proofs.Laws.{table_is}
-use Rattle.sentence.specs.declared.Node.TheVariants.{True}
-use Rattle.codes.specs.Codes.{code_of_node}
+-- `codes::codes_of` meets its contract: the codes are filled from the front.
+use native.Mathlib.Omega.{arith}
+use Rattle.counting.proofs.Laws.{filled_all}
 use Rattle.codes.proofs.codes_of.Goals as goal
 
 pub returns : goal.returns
-returns c =
-    table_is 64 (λ i. code_of_node (get_or c.args.nodes i True)) [] c.map.result c.map.ensures.items.long
-    (λ k less. search (rules, c.map.ensures.items.at k True [] less))
+returns c = filled_all c.loop-i.invariant (omega arith)

@@ -1,11 +1,10 @@
--- `places_of` meets its contract: each place has the node of its code. Assumes nothing.
-use Rattle.std.proofs.Common.{rules, get_or, []}
-use Rattle.counting.proofs.Laws.{table_is}
-use Rattle.sentence.specs.declared.Node.TheVariants.{True}
-use Rattle.codes.specs.Codes.{node_of_code}
+-- `codes::places_of` meets its contract: the places are filled from the front.
+use native.Mathlib.Omega.{arith}
+use Rattle.counting.proofs.Laws.{filled_next, filled_all}
 use Rattle.codes.proofs.places_of.Goals as goal
 
+pub loop-place-preserved : goal.loop-place-preserved
+loop-place-preserved c = filled_next c.loop-place.invariant (omega arith) c.node_of_code.ensures
+
 pub returns : goal.returns
-returns c =
-    table_is 64 (λ i. node_of_code (get_or c.args.codes i [])) True c.map.result c.map.ensures.items.long
-    (λ k less. search (rules, c.map.ensures.items.at k [] True less))
+returns c = filled_all c.loop-place.invariant (omega arith)

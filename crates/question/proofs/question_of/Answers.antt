@@ -17,7 +17,7 @@ use Rattle.question.specs.Working.{QuestionOf, FileOfModel, TextOfSentence, Late
 use Rattle.question.proofs.Numbers.{none_of}
 use Rattle.question.proofs.Early.{file_refused, file_read, text_refused, text_read}
 use Rattle.question.proofs.Settled.{ready_of}
-use Rattle.question.proofs.question_of.Goals.{In_ok-late_rows}
+use Rattle.question.proofs.question_of.Goals.{In_ok-model, In_ok-sentence, In_ok-late_rows}
 use Rattle.question.proofs.question_of.Goals as goal
 
 -- a refusal that the rows give
@@ -37,49 +37,62 @@ module _ {file text : List ℕ} {m : Model} {s : Sentence} {answer : Result Unit
       let zero = ap (λ (r : Result Unit Refusal). number_in (reply_of r)) e in
       none_of (late.each file text a b) (omega (arith, zero))
 
+-- The facts of the readers' results are found without the name of the call that stands between a reader and its `?`.
+read : (c : In_ok-model) → FileOfModel c.args.file.now c.in_ok-model.model
+read c =
+    let was : c.read_model.result ≡ Ok c.in_ok-model.model = search rules in
+    file_read c.read_model.ensures was
+
+said : (c : In_ok-sentence) → TextOfSentence c.args.text.now c.in_ok-sentence.sentence
+said c =
+    let was : c.read_sentence.result ≡ Ok c.in_ok-sentence.sentence = search rules in
+    text_read c.read_sentence.ensures was
+
 pub returns-in_err-model : goal.returns-in_err-model
 returns-in_err-model c =
     let x = c.in_err-model.field-0.0 in
     let same : c.from_residual.result ≡ Err x = search rules in
-    refused_so same (file_refused c.read_model.ensures c.in_err-model.was)
+    let was : c.read_model.result ≡ Err x = search rules in
+    refused_so same (file_refused c.read_model.ensures was)
 
 pub returns-in_err-sentence : goal.returns-in_err-sentence
 returns-in_err-sentence c =
     let x = c.in_err-sentence.field-0.0 in
     let same : c.from_residual-in_err-sentence.result ≡ Err x = search rules in
-    let a = file_read c.read_model.ensures c.in_ok-model.was in
-    refused_so same (text_refused a.accepted c.read_sentence.ensures c.in_err-sentence.was)
+    let was : c.read_sentence.result ≡ Err x = search rules in
+    refused_so same (text_refused (read (goal.at.returns-in_err-sentence c).In_ok-model).accepted c.read_sentence.ensures was)
 
 pub late_rows-requires : goal.late_rows-requires
-late_rows-requires c = record {
-  file = c.args.file.now;
-  text = c.args.text.now;
-  model = file_read c.read_model.ensures c.in_ok-model.was;
-  sentence = text_read c.read_sentence.ensures c.in_ok-sentence.was;
-}
+late_rows-requires c =
+    let at = goal.at.late_rows-requires c in
+    record { file = c.args.file.now; text = c.args.text.now; model = read at.In_ok-model; sentence = said at.In_ok-sentence }
 
 pub returns-in_err-late_rows : goal.returns-in_err-late_rows
 returns-in_err-late_rows c =
+    let at = goal.at.returns-in_err-late_rows c in
     let x = c.in_err-late_rows.field-0.0 in
     let same : c.from_residual-in_err-late_rows.result ≡ Err x = search rules in
-    let a = file_read c.read_model.ensures c.in_ok-model.was in
-    let b = text_read c.read_sentence.ensures c.in_ok-sentence.was in
-    refused_so same (late_refused c.late_rows.ensures a b c.in_err-late_rows.was)
+    let was : c.late_rows.result ≡ Err x = search rules in
+    refused_so same (late_refused c.late_rows.ensures (read at.In_ok-model) (said at.In_ok-sentence) was)
 
 -- none of the rows applies
-free : (c : In_ok-late_rows) → (k : ℕ) → QuestionRow c.args.file.now c.args.text.now k → ⊥
-free c =
-    none_left c.late_rows.ensures (file_read c.read_model.ensures c.in_ok-model.was)
-    (text_read c.read_sentence.ensures c.in_ok-sentence.was) c.in_ok-late_rows.was
+free : (c : In_ok-late_rows) → FileOfModel c.args.file.now c.in_ok-model.model → TextOfSentence c.args.text.now c.in_ok-sentence.sentence →
+    (k : ℕ) → QuestionRow c.args.file.now c.args.text.now k → ⊥
+free c a b =
+    let was : c.late_rows.result ≡ Ok _ = search rules in
+    none_left c.late_rows.ensures a b was
 
 pub area_needed-area-requires : goal.area_needed-area-requires
 area_needed-area-requires c =
-    ready_of (free (goal.at.area_needed-area-requires c).In_ok-late_rows) (file_read c.read_model.ensures c.in_ok-model.was)
-    (text_read c.read_sentence.ensures c.in_ok-sentence.was)
+    let at = goal.at.area_needed-area-requires c in
+    let a = read at.In_ok-model in
+    let b = said at.In_ok-sentence in
+    ready_of (free at.In_ok-late_rows a b) a b
 
 pub returns : goal.returns
 returns c =
-    let none = free (goal.at.returns c).In_ok-late_rows in
-    let a = file_read c.read_model.ensures c.in_ok-model.was in
-    let b = text_read c.read_sentence.ensures c.in_ok-sentence.was in
+    let at = goal.at.returns c in
+    let a = read at.In_ok-model in
+    let b = said at.In_ok-sentence in
+    let none = free at.In_ok-late_rows a b in
     record { none = none; model = a; sentence = b; ready = ready_of none a b; area = c.area_needed-area.ensures }

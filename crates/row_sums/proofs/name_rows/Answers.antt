@@ -14,5 +14,5 @@ loop-s-preserved c =
       omega (arith, larger),
       grind arith,
       search rules,
-      rows_next c.args.rows.now c.loop-s.places h.2 (omega arith) h.3 (naming_named named) larger.0 larger.1,
+      rows_next c.args.rows.now c.loop-s.places h.2 (omega arith) h.3 (naming_named named) (omega arith) larger.0 larger.1,
     )

@@ -16,15 +16,15 @@ returns-in_err-prefix c =
 
 pub returns-then-fault : goal.returns-then-fault
 returns-then-fault c =
-    let is : IsSentence c.args.text.now c.in_ok-prefix.prefix c.in_ok-prefix.body = search rules in
+    let is : IsSentence c.args.text.now c.in_ok-prefix.prefix c.parts.new.body = search rules in
     answer_range is (omega arith) c.if-fault.true
 
 pub returns-then-count-gt-NODES : goal.returns-then-count-gt-NODES
 returns-then-count-gt-NODES c =
-    let is : IsSentence c.args.text.now c.in_ok-prefix.prefix c.in_ok-prefix.body = search rules in
-    answer_many is (omega arith) c.if-fault.false c.if-count-gt-NODES.true
+    let is : IsSentence c.args.text.now c.in_ok-prefix.prefix c.parts.new.body = search rules in
+    answer_many is (omega arith) c.if-fault.false (omega (arith, c.if-count-gt-NODES.true))
 
 pub returns : goal.returns
 returns c =
-    let is : IsSentence c.args.text.now c.in_ok-prefix.prefix c.in_ok-prefix.body = search rules in
-    answer_done is (omega arith) c.if-fault.false c.if-count-gt-NODES.false
+    let is : IsSentence c.args.text.now c.in_ok-prefix.prefix c.parts.new.body = search rules in
+    answer_done is (omega arith) c.if-fault.false (omega (arith, c.if-count-gt-NODES.false))

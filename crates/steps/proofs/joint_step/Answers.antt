@@ -3,13 +3,13 @@ use Prim.Native.Nat.{ℕ, ◌*◌, ◌-◌}
 use mathlib.Core.Path.{ap, sym, subst}
 use native.Mathlib.Omega.{arith}
 use Rattle.steps.specs.Columns.{LayerFits, LayerStepped}
-use Rattle.steps.proofs.Joint.{stepping_none, stepping_moved, stepping_stayed, stepping_all, layer_fits, stride_small}
+use Rattle.steps.proofs.Joint.{stepping_first, stepping_moved, stepping_stayed, stepping_all, layer_fits, stride_small}
 use Rattle.steps.proofs.Joint.{blocks_whole, blocks_left}
 use Rattle.steps.proofs.joint_step.Goals.{then-moves, else-moves}
 use Rattle.steps.proofs.joint_step.Goals as goal
 
 pub loop-i-init : goal.loop-i-init
-loop-i-init c = (c.requires.sizes.whole, stepping_none c.requires.each)
+loop-i-init c = stepping_first c.requires (omega arith)
 
 pub step_variable-requires : goal.step_variable-requires
 step_variable-requires c =

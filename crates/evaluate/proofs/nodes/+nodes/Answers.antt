@@ -1,5 +1,6 @@
 -- Evaluation meets its contracts, node by node: what the operands are evaluated with, and what the call at the node
 -- leaves, are laws about lists and records. The measure is the number of places left, counted four times.
+use native.Mathlib.Omega.{arith}
 use Rattle.fractions.specs.declared.Operation.TheVariants.{Sum, Difference, Product}
 use Rattle.evaluate.proofs.Trees.{next_fits, to_operand, to_operands, to_operation, tree_room}
 use Rattle.evaluate.proofs.Expressions.{probability_ready, operation_ready, combining_ready, bottoms_small, combined_done}
@@ -164,21 +165,24 @@ operands-tree-one-requires t c = comes_first c.requires c.order_of-order.ensures
 
 pub operands-tree-other-requires : goal.operands-tree-other-requires
 operands-tree-other-requires t c =
-    comes_then c.requires c.order_of-order.ensures c.decreases c.tree-one.new.work c.tree-one.auto.work
+    comes_then c.requires c.order_of-order.ensures c.decreases c.tree-one.new.work c.tree-one.auto.work (grind arith) (grind arith)
 
 pub operands-swap-requires : goal.operands-swap-requires
 operands-swap-requires t c =
     both_room
-    (both_run c.requires c.order_of-order.ensures c.tree-one.ensures c.tree-other.ensures c.tree-one.auto.work c.tree-other.auto.work)
+    (both_run c.requires c.order_of-order.ensures c.tree-one.ensures c.tree-other.ensures c.tree-one.auto.work c.tree-other.auto.work
+    (grind arith) (grind arith))
 
 pub operands-returns-then-order : goal.operands-returns-then-order
 operands-returns-then-order t c =
     trees_exchanged
-    (both_run c.requires c.order_of-order.ensures c.tree-one.ensures c.tree-other.ensures c.tree-one.auto.work c.tree-other.auto.work)
+    (both_run c.requires c.order_of-order.ensures c.tree-one.ensures c.tree-other.ensures c.tree-one.auto.work c.tree-other.auto.work
+    (grind arith) (grind arith))
     c.if-order.true c.swap.ensures
 
 pub operands-returns : goal.operands-returns
 operands-returns t c =
     trees_standing
-    (both_run c.requires c.order_of-order.ensures c.tree-one.ensures c.tree-other.ensures c.tree-one.auto.work c.tree-other.auto.work)
+    (both_run c.requires c.order_of-order.ensures c.tree-one.ensures c.tree-other.ensures c.tree-one.auto.work c.tree-other.auto.work
+    (grind arith) (grind arith))
     c.if-order.false

@@ -74,12 +74,13 @@ room a b c (pair t) = refl
 room a b c (triple t) = refl
 
 -- the line with its digits
-written : {n size : ℕ} {s : List ℕ} → Spelled n size → s ≡ take (3 - (3 - size)) (drop (3 - size) (all_digits n)) →
+written : {n size a b c : ℕ} {s : List ℕ} → Spelled n size → s ≡ take (3 - (3 - size)) (drop (3 - size) (a ∷ b ∷ c ∷ [])) →
+    a ≡ 48 + n / 100 → b ≡ 48 + n / 10 % 10 → c ≡ 48 + n % 10 →
     take (9 + size) (put_mid 8 (8 + size - 8) unwritten s) ≡ refused_line n
 unfolding refused_line
-written (single t) d = rw (d, t) refl
-written (pair t) d = rw (d, t) refl
-written (triple t) d = rw (d, t) refl
+written (single t) d first second third = rw (d, t, third) refl
+written (pair t) d first second third = rw (d, t, second, third) refl
+written (triple t) d first second third = rw (d, t, first, second, third) refl
 
 pub slice_bounds-copy_from_slice-end : goal.slice_bounds-copy_from_slice-end
 slice_bounds-copy_from_slice-end c =
@@ -95,3 +96,4 @@ copy_from_slice-requires c = room _ _ _ (spelled c.args.number c.ranges.number.f
 pub returns-clause-out_after : goal.returns-clause-out_after
 returns-clause-out_after c =
     written (spelled c.args.number c.ranges.number.fits c.from.ensures c.number_size-size.ensures.0) c.copy_from_slice.ensures.after
+    (grind arith) (grind arith) (grind arith)

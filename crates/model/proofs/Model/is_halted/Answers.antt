@@ -1,17 +1,15 @@
--- `Model::is_halted` meets its contract: a row that is zero from column 0 on is zero in all its weights, as no row is.
+-- `Model::is_halted` meets its contract: the row that is asked of is the record's, and no row is zero in all its weights.
 use Prim.Native.Nat.{ℕ}
-use mathlib.Core.Bool.{Bool, true, ◌&&◌, ◌||◌}
+use mathlib.Core.Bool.{Bool, true, ◌&&◌}
 use mathlib.Core.List.{List, []}
 use mathlib.Core.Path.{◌≡◌, refl, sym, ap, ◌∙◌}
-use native.Mathlib.Omega.{arith}
 use lib.Dec.{ltb, eqb}
 use lib.ListN.{get_or}
-use borrow.Author.Tests.{le-ltb}
 use Rattle.std.proofs.Math.Bool.{and-true}
 use Rattle.std.proofs.lemmas.Bool.{ltb-false, ltb-true}
 use Rattle.std.proofs.lemmas.List.{get_or_past, get_or_default}
 use Rattle.counting.specs.Below.{every_below}
-use Rattle.counting.proofs.Laws.{every_same, every_all}
+use Rattle.counting.proofs.Laws.{every_all}
 use Rattle.model.proofs.Model.is_halted.Goals as goal
 
 -- no row is zero in all its weights
@@ -32,6 +30,5 @@ returns-in-Some c =
     let s = c.args.s in
     let row = c.in-Some.row.now in
     let here = c.in-Some.ensures.lookup.1 ∙ get_or_default m.weights s row [] (ltb-true s _ (sym c.in-Some.ensures.lookup.0)) in
-    ap (λ (b : Bool). ltb s m.n && eqb m.version 1 && b)
-    (c.zero_from.ensures ∙ every_same 32 (λ t less. ap (λ (b : Bool). b || eqb (get_or row t 0) 0) (le-ltb t 0 (omega arith))) ∙
-    ap (λ (l : List ℕ). every_below 32 (λ t. eqb (get_or l t 0) 0)) here)
+    c.is_halted.ensures ∙
+    ap (λ (l : List ℕ). ltb s m.n && eqb m.version 1 && every_below 32 (λ t. eqb (get_or l t 0) 0)) here

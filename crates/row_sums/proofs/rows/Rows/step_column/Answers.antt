@@ -1,5 +1,6 @@
 -- `step_column` meets its contract: the sums are of the copied column, whatever has been written since.
 use mathlib.Core.Path.{refl, sym, subst, ◌∙◌}
+use native.Mathlib.Omega.{arith}
 use Rattle.row_sums.specs.Columns.{ColumnFits, ColumnStepped}
 use Rattle.row_sums.specs.Sparse.{Matrix}
 use Rattle.row_sums.proofs.Columns.{column_next, column_all, column_sum, named_some, dense_fits, named_fits, named_sum}
@@ -28,14 +29,14 @@ pub dot-requires : goal.dot-requires
 dot-requires c =
     let a = c.args in
     let fits = subst (λ (m : Matrix). ColumnFits m.weights m.states a.stride a.at a.layer.now) (sym c.self.view_is) c.requires.0 in
-    (c.self.invariant.0, dense_fits fits c.read_column.ensures c.loop-t-test.true)
+    (c.self.invariant.0, dense_fits fits c.read_column.ensures c.loop-t-test.true (omega arith))
 
 pub loop-t-preserved : goal.loop-t-preserved
 loop-t-preserved c =
     let a = c.args in
     let fits = subst (λ (m : Matrix). ColumnFits m.weights m.states a.stride a.at a.layer.now) (sym c.self.view_is) c.requires.0 in
     column_next fits c.loop-t.invariant c.loop-t-test.true refl
-    (c.dot.ensures ∙ column_sum c.self.inside.weights c.loop-t.t refl c.read_column.ensures)
+    (c.dot.ensures ∙ column_sum c.self.inside.weights c.loop-t.t (omega arith) refl c.read_column.ensures)
 
 pub returns-after-loop-s : goal.returns-after-loop-s
 returns-after-loop-s c =
