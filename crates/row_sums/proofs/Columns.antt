@@ -10,7 +10,6 @@ use lib.Seq.{get_or-set_same, get_or-set_other}
 use Rattle.counting.specs.Below.{sum_below}
 use Rattle.counting.specs.Entries.{cell}
 use Rattle.counting.proofs.Laws.{sum_same}
-use Rattle.std.specs.Prelude.{Option, Some, IfSome}
 use Rattle.meaning.specs.Size.{size_limit}
 use Rattle.row_sums.specs.Sparse.{named_at, RowsPaired}
 use Rattle.row_sums.specs.Columns.{stepped, ColumnRead, ColumnFits, ColumnStepped}
@@ -78,11 +77,6 @@ module _ {rows : List (List ℕ)} {N stride at : ℕ} {before : List ℕ} where
     each = λ t l. h.each t (omega arith);
     same = λ k out. h.same k (λ t l. out t (omega arith));
   }
-
--- the names of the weights, where the rows have them
-pub named_some : {rows places : List (List ℕ)} {N pairs : ℕ} {o : Option ℕ} → o ≡ Some pairs →
-    IfSome o (λ n. RowsPaired rows N n places) → RowsPaired rows N pairs places
-named_some {rows} {places} {N} e h = subst (λ (o : Option ℕ). IfSome o (λ n. RowsPaired rows N n places)) e h
 
 -- the sums over the copied column
 module _ {rows : List (List ℕ)} {N stride at : ℕ} {before column : List ℕ} (fits : ColumnFits rows N stride at before)

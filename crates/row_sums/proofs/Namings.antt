@@ -132,10 +132,9 @@ naming_none {row} {places} z long small e all = record {
 pub named_more : {row places : List ℕ} {N most more : ℕ} → Named row N most places → most ≤ more → Named row N more places
 named_more h l = record { inside = h.inside; each = λ g m enough room. h.each g m (omega arith) room }
 
--- a row's names, where it has them
-pub some_named : {row places : List ℕ} {N most : ℕ} {o : Option ℕ} → o ≡ Some most →
-    IfSome o (λ m. (1 ≤ m) × (m ≤ 7) × Named row N m places) → (1 ≤ most) × (most ≤ 7) × Named row N most places
-some_named {row} {places} {N} e h = subst (λ (o : Option ℕ). IfSome o (λ m. (1 ≤ m) × (m ≤ 7) × Named row N m places)) e h
+-- what holds of the count, if there is one, holds of the one that is there
+pub of_count : {n : ℕ} {o : Option ℕ} (P : ℕ → Type 0) → o ≡ Some n → IfSome o P → P n
+of_count P e h = subst (λ (o : Option ℕ). IfSome o P) e h
 
 -- the sum so far and the next two products are at most that of all places
 pub pair_fits : (row places column : List ℕ) →

@@ -3,14 +3,15 @@ use mathlib.Core.Path.{refl, sym, subst, ◌∙◌}
 use native.Mathlib.Omega.{arith}
 use Rattle.row_sums.specs.Columns.{ColumnFits, ColumnStepped}
 use Rattle.row_sums.specs.Sparse.{Matrix}
-use Rattle.row_sums.proofs.Columns.{column_next, column_all, column_sum, named_some, dense_fits, named_fits, named_sum}
+use Rattle.row_sums.proofs.Columns.{column_next, column_all, column_sum, dense_fits, named_fits, named_sum}
+use Rattle.row_sums.proofs.Namings.{of_count}
 use Rattle.row_sums.proofs.rows.Rows.step_column.Goals as goal
 
 pub dot_named-requires : goal.dot_named-requires
 dot_named-requires c =
     let a = c.args in
     let fits = subst (λ (m : Matrix). ColumnFits m.weights m.states a.stride a.at a.layer.now) (sym c.self.view_is) c.requires.0 in
-    let named = named_some c.in-Some.is c.self.invariant.1 in (
+    let named = of_count _ c.in-Some.is c.self.invariant.1 in (
       named.some,
       named.few,
       (named.each c.loop-s.s c.loop-s-test.true).inside,
@@ -21,7 +22,7 @@ pub loop-s-preserved : goal.loop-s-preserved
 loop-s-preserved c =
     let a = c.args in
     let fits = subst (λ (m : Matrix). ColumnFits m.weights m.states a.stride a.at a.layer.now) (sym c.self.view_is) c.requires.0 in
-    let named = named_some c.in-Some.is c.self.invariant.1 in
+    let named = of_count _ c.in-Some.is c.self.invariant.1 in
     column_next fits c.loop-s.invariant c.loop-s-test.true refl
     (c.dot_named.ensures ∙ named_sum fits c.read_column.ensures c.loop-s-test.true named)
 
