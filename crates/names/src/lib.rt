@@ -16,11 +16,16 @@ fn is_label_of(node: Node, variable: u8) -> bool
     matches!(node, Node::Label { variable: other, .. } if variable == other)
 }
 
-// Whether a label of the variable is among the nodes.
+// Whether a label of the variable is among the nodes. A `for` and no `any`, since must-fail/nodes_passed_over speaks of its places.
 fn is_named(nodes: &[Node], variable: u8) -> bool
     ensures { result ≡ list_any (mentions variable) nodes.now }
 {
-    nodes.iter().any(|node| is_label_of(*node, variable))
+    for at in 0..nodes.len() {
+        if is_label_of(nodes[at], variable) {
+            return true;
+        }
+    }
+    false
 }
 
 // The variables named at the places `from`..`to`: a yes or no for each of the four that a sentence can have.
